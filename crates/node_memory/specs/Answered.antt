@@ -1,5 +1,6 @@
 -- What a call leaves of a part of memory, and its reply.
-use Rattle.std.specs.Prelude.{ℕ, List, Option, Some, None}
+use Rattle.std.specs.Prelude.{Option, Some, None}
+use Rattle.mote_types.specs.Kinds.{Bytes}
 use Rattle.mote_types.specs.declared.reply.Reply.{Reply}
 use Rattle.mote_types.specs.declared.refusal.Refusal.{Refusal}
 
@@ -17,5 +18,5 @@ module _ {S : Type 0} where
   done s = (s, Reply.Done)
 
   -- the reply is these bytes, and nothing changes
-  abbrev pub bytes_read : List ℕ → S → Asked S
+  abbrev pub bytes_read : Bytes → S → Asked S
   bytes_read bytes s = (s, Reply.Bytes (record { items = bytes }))

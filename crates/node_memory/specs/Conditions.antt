@@ -1,5 +1,7 @@
 -- What a call on memory requires of its caller, and what a refused one leaves.
-use Rattle.std.specs.Prelude.{ℕ, ◌≤◌, List, Option, Bool, is_some}
+use Rattle.std.specs.Prelude.{◌≤◌, Option, Bool, is_some}
+use Rattle.mote_types.specs.Kinds.{ProcessNumber, Handle, Bytes}
+use Rattle.mote_types.specs.Limits.{packet_process, last_application}
 use Rattle.mote_types.specs.declared.call.Call.{Call}
 use Rattle.mote_types.specs.declared.reply.Reply.{Reply}
 use Rattle.mmem_core.specs.ManagedStore.{block_of}
@@ -8,8 +10,8 @@ use Rattle.node_memory.specs.Parts.{part_called}
 use Rattle.node_memory.specs.Frames.{frame_holder}
 
 -- the processes that may make a call: the applications, and process 3
-abbrev pub MayAsk : ℕ → Type 0
-MayAsk p = (3 ≤ p) × (p ≤ 19)
+abbrev pub MayAsk : ProcessNumber → Type 0
+MayAsk p = (packet_process ≤ p) × (p ≤ last_application)
 
 -- where the reply is a refusal
 abbrev pub IfRefused : Reply → Type 0 → Type 0
@@ -17,7 +19,7 @@ IfRefused (Reply.Refused refusal) fact = fact
 IfRefused _ fact = Unit {0}
 
 -- the bytes of the frame in that slot, if it holds one
-abbrev pub frame_in : ℕ → Memory → Option (List ℕ)
+abbrev pub frame_in : Handle → Memory → Option Bytes
 frame_in slot m = block_of frame_holder slot m.managed
 
 abbrev pub is_memory_call : Call → Bool

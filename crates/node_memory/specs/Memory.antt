@@ -5,11 +5,8 @@ use Rattle.heap_core.specs.HeapStore.{HeapStore, empty_heap}
 use Rattle.node_memory.specs.declared.sizes.Sizes.{Sizes}
 use Rattle.node_memory.specs.ListedPools.{PoolWithLists, unused_pool_of}
 
--- all memory that applications may ask for
 pub record Memory : Type 0 where
-  -- the blocks of the processes' handles
   pub managed : ManagedStore
-  -- the blocks of the processes in the heap
   pub heap : HeapStore
   -- pools 0 to 3, which all processes share
   pub pools : List PoolWithLists
@@ -18,14 +15,10 @@ pub record Memory : Type 0 where
 abbrev pub usable_sizes : List ℕ
 usable_sizes = 12 ∷ 28 ∷ 60 ∷ 124 ∷ []
 
--- no block is live
 abbrev pub fresh_memory : Sizes → Memory
 fresh_memory sizes =
-    record {
-      managed = empty_store sizes.mmem sizes.quota;
-      heap = empty_heap sizes.heap sizes.header;
-      pools = map unused_pool_of usable_sizes;
-    }
+    record { managed = empty_store sizes.mmem sizes.quota; heap = empty_heap sizes.heap sizes.header;
+      pools = map unused_pool_of usable_sizes }
 
 abbrev pub with_managed : ManagedStore → Memory → Memory
 with_managed store m = record m { managed = store }
@@ -33,7 +26,6 @@ with_managed store m = record m { managed = store }
 abbrev pub with_heap : HeapStore → Memory → Memory
 with_heap heap m = record m { heap = heap }
 
--- pool k with its lists
 abbrev pub pool_in : ℕ → Memory → PoolWithLists
 pool_in k m = slice_index_or m.pools k (unused_pool_of 0)
 

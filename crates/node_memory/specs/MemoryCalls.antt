@@ -1,5 +1,6 @@
 -- What the calls on its parts make of a node's memory.
 use Rattle.std.specs.Prelude.{ℕ, ◌/◌, if◌then◌else◌, nat_lt}
+use Rattle.mote_types.specs.Limits.{last_pool}
 use Rattle.mote_types.specs.declared.reply.Reply.{Reply}
 use Rattle.mote_types.specs.declared.refusal.Refusal.{Refusal}
 use Rattle.mmem_core.specs.ManagedStore.{ManagedStore}
@@ -15,10 +16,9 @@ on_managed call m = let asked = call m.managed in (with_managed asked.0 m, asked
 abbrev pub on_heap : (HeapStore → Asked HeapStore) → Memory → Asked Memory
 on_heap call m = let asked = call m.heap in (with_heap asked.0 m, asked.1)
 
--- there are pools 0 to 3
 abbrev pub on_pool : ℕ → (PoolWithLists → Asked PoolWithLists) → Memory → Asked Memory
 on_pool k call m =
-    if nat_lt 3 k then (m, Reply.Refused Refusal.BadName)
+    if nat_lt last_pool k then (m, Reply.Refused Refusal.BadName)
     else let asked = call (pool_in k m) in (with_pool k asked.0 m, asked.1)
 
 -- a call on a list is one on its pool
