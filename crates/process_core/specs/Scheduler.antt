@@ -1,6 +1,8 @@
 -- The scheduler: how the agenda is worked off.
 use Rattle.std.specs.Prelude.{ℕ, Bool, true, false, not, ◌&&◌, ◌||◌, List, [], ◌∷◌, ◌++◌, map, drop, length, Option, Some, None, if◌then◌else◌, nat_lt, flat_map, slice_get}
 use Rattle.std.specs.List.{range_with_len}
+use Rattle.mote_types.specs.Kinds.{ProcessNumber, EventCode}
+use Rattle.mote_types.specs.Limits.{first_application, queue_places}
 use Rattle.mote_types.specs.declared.event.Stimulus.{Stimulus}
 use Rattle.mote_types.specs.declared.event.Origin.{Origin}
 use Rattle.mote_types.specs.EventNumbers.{INIT, POLL, EXIT, FIRST_FREE}
@@ -18,30 +20,30 @@ pub record Scheduler (X : Type 0) : Type 0 where
   -- the front first
   pub agenda : List Item
   -- the number that AllocEvent returns next
-  pub next_event : ℕ
+  pub next_event : EventCode
 
 module _ {X : Type 0} where
-  abbrev pub state_in : Scheduler X → ℕ → State
+  abbrev pub state_in : Scheduler X → ProcessNumber → State
   state_in s p = state_of p s.processes
 
   -- these items are put before everything on the agenda
   abbrev pub in_front : List Item → Scheduler X → Scheduler X
   in_front items s = record s { agenda = items ++ s.agenda }
 
-  abbrev pub put_in_state : ℕ → State → Scheduler X → Scheduler X
+  abbrev pub put_in_state : ProcessNumber → State → Scheduler X → Scheduler X
   put_in_state p state s = record s { processes = with_state p state s.processes }
 
-  abbrev pub marked : ℕ → Scheduler X → Scheduler X
+  abbrev pub marked : ProcessNumber → Scheduler X → Scheduler X
   marked p s = record s { processes = with_mark p true s.processes }
 
   abbrev pub has_room : Scheduler X → Bool
-  has_room s = nat_lt (length s.events) 32
+  has_room s = nat_lt (length s.events) queue_places
 
   abbrev pub posted : Queued X → Scheduler X → Scheduler X
   posted event s = record s { events = s.events ++ event ∷ [] }
 
   -- what stands for the delivery of an event. The layer above decides whether an expiry counts
-  abbrev pub delivery : List ℕ → Option (Queued X) → List Item
+  abbrev pub delivery : List ProcessNumber → Option (Queued X) → List Item
   delivery list (Some (Queued.To p event)) = Item.Give p Origin.Event (Stimulus.Event event) ∷ []
   delivery list (Some (Queued.ToAll event)) = flat_map (λ p. Item.Polls ∷ Item.Give p Origin.Event (Stimulus.Event event) ∷ []) list
   delivery list _ = []
@@ -59,15 +61,13 @@ module _ {X : Type 0} where
   after_item (Item.GiveExit p) s =
       in_front (Item.Turn p Origin.Synch (Stimulus.Event (plain_event EXIT)) ∷ []) (put_in_state p State.Ending s)
   after_item (Item.Remove p) s = record s { processes = without p s.processes }
-  after_item Item.Polls s =
-      if is_any_marked s.processes then in_front (map (λ p. Item.PollOne p) (numbers s.processes)) s else s
+  after_item Item.Polls s = if is_any_marked s.processes then in_front (map (λ p. Item.PollOne p) (numbers s.processes)) s else s
   after_item (Item.PollOne p) s =
       if is_marked p s.processes
       then in_front (Item.Give p Origin.Poll (Stimulus.Event (plain_event POLL)) ∷ [])
       (record s { processes = with_mark p false s.processes })
       else s
-  after_item Item.Deliver s =
-      in_front (delivery (numbers s.processes) (slice_get s.events 0)) (record s { events = drop 1 s.events })
+  after_item Item.Deliver s = in_front (delivery (numbers s.processes) (slice_get s.events 0)) (record s { events = drop 1 s.events })
   -- these two are jobs for the layers above
   after_item (Item.Turn p origin stimulus) s = s
   after_item (Item.Show entry) s = s
@@ -112,6 +112,6 @@ at_boot applications =
       applications = applications;
       processes = at_first;
       events = [];
-      agenda = map (λ p. Item.Start p) (range_with_len 4 applications);
+      agenda = map (λ p. Item.Start p) (range_with_len first_application applications);
       next_event = FIRST_FREE;
     }
