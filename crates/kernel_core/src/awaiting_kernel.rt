@@ -27,9 +27,11 @@ use std::alloc::Global;
 use std::marker::Model;
 
 /// A mote's kernel, and the application whose call it awaits, if it awaits one.
+///
+/// The kernel is on the heap: who holds a session moves a few words.
 #[derive(Drop)]
 pub struct AwaitingKernel {
-    fields: KernelFields,
+    fields: Box<KernelFields>,
     turn: Option<Pid>,
 }
 
@@ -38,9 +40,9 @@ impl Model for AwaitingKernel {
 
     ghost Value = { AwaitingMote };
 
-    ghost view = { λ k. awaiting_mote_of k.turn k.fields };
+    ghost view = { λ k. awaiting_mote_of k.turn k.fields.value };
 
-    ghost invariant = { λ k. StandsWell k.turn k.fields };
+    ghost invariant = { λ k. StandsWell k.turn k.fields.value };
 }
 
 impl AwaitingKernel {
@@ -49,15 +51,17 @@ impl AwaitingKernel {
     /// # Errors
     ///
     /// As `Kernel::boot`.
+    // Out of line, so that the room on the stack that a kernel takes while it is made is given back at once.
+    #[inline(never)]
     pub fn boot(alloc: Global, config: Config) -> Result<AwaitingKernel, BootFault>
         ensures booted { IfOk result (λ kernel. (kernel.mote.machine ≡ booted config) × (kernel.mote.inputs ≡ 0) × (kernel.turn ≡ None)) }
         ensures bad_sizes { IsErrOf result BootFault.BadSizes ↔ (is_bootable config ≡ false) }
     {
         match Kernel::boot(alloc, config) {
-            Ok(kernel) => {
-                let Kernel { fields } = kernel;
-                Ok(AwaitingKernel { fields, turn: None })
-            }
+            Ok(Kernel { fields }) => match Box::new(alloc, fields) {
+                Ok(fields) => Ok(AwaitingKernel { fields, turn: None }),
+                Err(_) => Err(BootFault::Memory),
+            },
             Err(fault) => Err(fault),
         }
     }
