@@ -167,6 +167,8 @@ impl Session {
     /// # Errors
     ///
     /// `BadSizes` exactly where no mote boots with this configuration; otherwise `Memory` where memory is refused.
+    // Out of line, so that the room on the stack that a boot takes is given back at once.
+    #[inline(never)]
     pub fn boot(alloc: Global, config: Config) -> Result<Session, BootFault>
         ensures booted { IfOk result (λ session. (session.machine ≡ booted config) × (session.inputs ≡ 0)
             × (session.turn ≡ None) × (session.last ≡ None)) }
