@@ -36,7 +36,7 @@ number-differs : (p h q g : ℕ) → 3 ≤ p → is_name h ≡ true → IsName q
 number-differs p h q g low named other ne same = grind arith
 
 -- a change of one handle's block
-leaves-block : (p h : ℕ) (block : Option (List ℕ)) (old : Memory) → 3 ≤ p → is_name h ≡ true
+pub leaves-block : (p h : ℕ) (block : Option (List ℕ)) (old : Memory) → 3 ≤ p → is_name h ≡ true
     → LeavesOthers (Some (BlockName.Managed p h)) old (with_managed (with_block p h block old.managed) old)
 leaves-block p h block old low few name named differs = grind (arith, number-differs, ap₂, get_or-set_other)
 

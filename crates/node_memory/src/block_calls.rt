@@ -8,7 +8,7 @@ ghost use Rattle.node_memory.specs.Placed.{seen};
 ghost use Rattle.node_memory.specs.PoolCalls as calls;
 
 use crate::listed_pool::ListedPool;
-use crate::ranges::{LONGEST_READ, chunk_of, is_outside};
+use crate::ranges::{LONGEST_READ, chunk_of, is_outside, range_in};
 use arena_core::Arena;
 use mote_types::refusal::Refusal;
 use mote_types::reply::{Chunk, Reply};
@@ -101,6 +101,6 @@ impl ListedPool {
         if len > LONGEST_READ || is_outside(at, len as usize, bytes.len()) {
             return Reply::Refused(Refusal::Range);
         }
-        Reply::Bytes(chunk_of(bytes, at, len))
+        Reply::Bytes(chunk_of(range_in(bytes, at, len)))
     }
 }

@@ -1,22 +1,23 @@
 //! The calls on heap memory, each with its refusals. A call that is refused changes no block.
 
-ghost use Rattle.std.specs.Prelude.{◌≡◌, ◌≤◌};
+ghost use Rattle.std.specs.Prelude.{◌≡◌, ◌≤◌, length, IfOk, IfErr};
 ghost use Rattle.mote_types.specs.Conditions.{IsName};
 ghost use Rattle.mote_types.specs.declared.call.Call.{Call};
 ghost use Rattle.mote_types.specs.declared.reply.Reply.{Reply as Answer};
 ghost use Rattle.heap_core.specs.HeapStore as store;
 ghost use Rattle.heap_core.specs.Conditions as store_conditions;
 ghost use Rattle.node_memory.specs.Ask.{ask};
+ghost use Rattle.node_memory.specs.Code.Outcomes.{reply_to};
 ghost use Rattle.node_memory.specs.Conditions.{IfRefused};
 ghost use Rattle.node_memory.specs.Placed.{last_owner};
 ghost use Rattle.node_memory.specs.Separation.{LeavesAll};
 
 use crate::memory::NodeMemory;
-use crate::ranges::{LONGEST_READ, chunk_of, is_outside};
+use crate::ranges::{LONGEST_READ, chunk_of, is_outside, range_in};
 use mote_types::block_name::Key;
 use mote_types::event::Pid;
 use mote_types::refusal::Refusal;
-use mote_types::reply::{Chunk, Reply};
+use mote_types::reply::{HeapStats, Reply};
 
 /// The last block of each process.
 const LAST_HEAP_BLOCK: u8 = 15;
@@ -32,118 +33,156 @@ impl NodeMemory {
     }
 
     /// Makes a block of `n` zeros.
-    pub(crate) fn heap_alloc(&mut self, pid: Pid, block: u8, n: u32) -> Reply
+    ///
+    /// # Errors
+    /// `BadName`, `InUse`, `Range` where `n` is 0, or `NoRoom`.
+    pub fn heap_alloc(&mut self, pid: Pid, block: u8, n: u32) -> Result<(), Refusal>
         requires least { 3 ≤ pid.0 }
         requires most { pid.0 ≤ 19 }
-        ensures asked { ask (Call.HeapAlloc block n) pid.0 self.old.contents ≡ (self.new.contents, result) }
-        ensures refused { IfRefused result (LeavesAll (Call.HeapAlloc block n) result self.old self.new) }
+        ensures asked { ask (Call.HeapAlloc block n) pid.0 self.old.contents ≡ (self.new.contents, reply_to result) }
+        ensures refused { IfRefused (reply_to result) (LeavesAll (Call.HeapAlloc block n) (reply_to result) self.old self.new) }
         ensures owners { last_owner self.new ≡ last_owner self.old }
     {
         if block > LAST_HEAP_BLOCK {
-            return Reply::Refused(Refusal::BadName);
+            return Err(Refusal::BadName);
         }
         if self.heap_len_of((pid, block)).is_some() {
-            return Reply::Refused(Refusal::InUse);
+            return Err(Refusal::InUse);
         }
         if n == 0 {
-            return Reply::Refused(Refusal::Range);
+            return Err(Refusal::Range);
         }
         if self.heap.alloc(&mut self.arena, (pid, block), n).is_none() {
-            return Reply::Refused(Refusal::NoRoom);
+            return Err(Refusal::NoRoom);
         }
-        Reply::Done
+        Ok(())
     }
 
     /// Resizes a block: its first bytes stay, and further ones are 0.
-    pub(crate) fn heap_realloc(&mut self, pid: Pid, block: u8, n: u32) -> Reply
+    ///
+    /// # Errors
+    /// `BadName`, `NotLive`, `Range` where `n` is 0, or `NoRoom`.
+    pub fn heap_realloc(&mut self, pid: Pid, block: u8, n: u32) -> Result<(), Refusal>
         requires least { 3 ≤ pid.0 }
         requires most { pid.0 ≤ 19 }
-        ensures asked { ask (Call.HeapRealloc block n) pid.0 self.old.contents ≡ (self.new.contents, result) }
-        ensures refused { IfRefused result (LeavesAll (Call.HeapRealloc block n) result self.old self.new) }
+        ensures asked { ask (Call.HeapRealloc block n) pid.0 self.old.contents ≡ (self.new.contents, reply_to result) }
+        ensures refused { IfRefused (reply_to result) (LeavesAll (Call.HeapRealloc block n) (reply_to result) self.old self.new) }
         ensures owners { last_owner self.new ≡ last_owner self.old }
     {
         if block > LAST_HEAP_BLOCK {
-            return Reply::Refused(Refusal::BadName);
+            return Err(Refusal::BadName);
         }
         if self.heap_len_of((pid, block)).is_none() {
-            return Reply::Refused(Refusal::NotLive);
+            return Err(Refusal::NotLive);
         }
         if n == 0 {
-            return Reply::Refused(Refusal::Range);
+            return Err(Refusal::Range);
         }
         if self
             .heap
             .realloc(&mut self.arena, (pid, block), n)
             .is_none()
         {
-            return Reply::Refused(Refusal::NoRoom);
+            return Err(Refusal::NoRoom);
         }
-        Reply::Done
+        Ok(())
     }
 
     /// Frees a block.
-    pub(crate) fn heap_free(&mut self, pid: Pid, block: u8) -> Reply
+    ///
+    /// # Errors
+    /// `BadName` or `NotLive`.
+    pub fn heap_free(&mut self, pid: Pid, block: u8) -> Result<(), Refusal>
         requires least { 3 ≤ pid.0 }
         requires most { pid.0 ≤ 19 }
-        ensures asked { ask (Call.HeapFree block) pid.0 self.old.contents ≡ (self.new.contents, result) }
-        ensures refused { IfRefused result (self.new ≡ self.old) }
+        ensures asked { ask (Call.HeapFree block) pid.0 self.old.contents ≡ (self.new.contents, reply_to result) }
+        ensures refused { IfRefused (reply_to result) (self.new ≡ self.old) }
         ensures owners { last_owner self.new ≡ last_owner self.old }
     {
         if block > LAST_HEAP_BLOCK {
-            return Reply::Refused(Refusal::BadName);
+            return Err(Refusal::BadName);
         }
         if self.heap_len_of((pid, block)).is_none() {
-            return Reply::Refused(Refusal::NotLive);
+            return Err(Refusal::NotLive);
         }
         self.heap.free(&mut self.arena, (pid, block));
-        Reply::Done
+        Ok(())
     }
 
     /// Writes bytes into a block, from offset `at` on.
-    pub(crate) fn heap_write(&mut self, pid: Pid, block: u8, at: u32, chunk: &Chunk) -> Reply
+    ///
+    /// # Errors
+    /// `BadName`, `NotLive` or `Range`.
+    pub fn heap_write(
+        &mut self,
+        pid: Pid,
+        block: u8,
+        at: u32,
+        bytes: &[u8],
+    ) -> Result<(), Refusal>
         requires least { 3 ≤ pid.0 }
         requires most { pid.0 ≤ 19 }
-        ensures asked { ask (Call.HeapWrite block at chunk.now) pid.0 self.old.contents ≡ (self.new.contents, result) }
-        ensures refused { IfRefused result (self.new ≡ self.old) }
+        requires few { length bytes.now ≤ 64 }
+        ensures asked { ask (Call.HeapWrite block at (record { items = bytes.now })) pid.0 self.old.contents
+            ≡ (self.new.contents, reply_to result) }
+        ensures refused { IfRefused (reply_to result) (self.new ≡ self.old) }
         ensures owners { last_owner self.new ≡ last_owner self.old }
     {
         if block > LAST_HEAP_BLOCK {
-            return Reply::Refused(Refusal::BadName);
+            return Err(Refusal::BadName);
         }
         let Some(length) = self.heap_len_of((pid, block)) else {
-            return Reply::Refused(Refusal::NotLive);
+            return Err(Refusal::NotLive);
         };
-        if is_outside(at, chunk.len(), length as usize) {
-            return Reply::Refused(Refusal::Range);
+        if is_outside(at, bytes.len(), length as usize) {
+            return Err(Refusal::Range);
         }
-        self.heap
-            .write(&mut self.arena, (pid, block), at, chunk.as_slice());
-        Reply::Done
+        self.heap.write(&mut self.arena, (pid, block), at, bytes);
+        Ok(())
     }
 
-    /// Reads `len` bytes of a block, from offset `at` on.
+    /// The `len` bytes of a block from offset `at` on.
+    ///
+    /// # Errors
+    /// `BadName`, `NotLive`, or `Range`: also where `len` is above 64.
+    pub fn heap_range(&self, pid: Pid, block: u8, at: u32, len: u8) -> Result<&[u8], Refusal>
+        requires least { 3 ≤ pid.0 }
+        requires most { pid.0 ≤ 19 }
+        ensures read { IfOk result (λ bytes. ask (Call.HeapRead block at len) pid.0 self.now.contents
+            ≡ (self.now.contents, Answer.Bytes (record { items = bytes.now }))) }
+        ensures length { IfOk result (λ bytes. (length bytes.now ≡ len) × (len ≤ 64)) }
+        ensures refused { IfErr result
+            (λ r. ask (Call.HeapRead block at len) pid.0 self.now.contents ≡ (self.now.contents, Answer.Refused r)) }
+    {
+        if block > LAST_HEAP_BLOCK {
+            return Err(Refusal::BadName);
+        }
+        if self.heap_len_of((pid, block)).is_none() {
+            return Err(Refusal::NotLive);
+        }
+        let bytes = self.heap.bytes(&self.arena, (pid, block));
+        if len > LONGEST_READ || is_outside(at, len as usize, bytes.len()) {
+            return Err(Refusal::Range);
+        }
+        Ok(range_in(bytes, at, len))
+    }
+
+    /// The reply to a read.
     pub(crate) fn heap_read(&self, pid: Pid, block: u8, at: u32, len: u8) -> Reply
         requires least { 3 ≤ pid.0 }
         requires most { pid.0 ≤ 19 }
         ensures { ask (Call.HeapRead block at len) pid.0 self.now.contents ≡ (self.now.contents, result) }
     {
-        if block > LAST_HEAP_BLOCK {
-            return Reply::Refused(Refusal::BadName);
+        match self.heap_range(pid, block, at, len) {
+            Ok(bytes) => Reply::Bytes(chunk_of(bytes)),
+            Err(refusal) => Reply::Refused(refusal),
         }
-        if self.heap_len_of((pid, block)).is_none() {
-            return Reply::Refused(Refusal::NotLive);
-        }
-        let bytes = self.heap.bytes(&self.arena, (pid, block));
-        if len > LONGEST_READ || is_outside(at, len as usize, bytes.len()) {
-            return Reply::Refused(Refusal::Range);
-        }
-        Reply::Bytes(chunk_of(bytes, at, len))
     }
 
-    /// Returns the state of the whole heap.
-    pub(crate) fn heap_stats(&self) -> Reply
-        ensures { result ≡ Answer.Stats (store.stats_of self.now.contents.heap) }
+    /// The state of the whole heap.
+    pub fn heap_stats(&self) -> HeapStats
+        ensures { result ≡ store.stats_of self.now.contents.heap }
     {
-        Reply::Stats(self.heap.stats(&self.arena))
+        self.heap.stats(&self.arena)
     }
 }

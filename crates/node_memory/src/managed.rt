@@ -3,6 +3,7 @@
 ghost use Rattle.std.specs.Prelude.{◌≡◌, ◌≤◌, None, Some, length, IfOk, IfErr};
 ghost use Rattle.mmem_core.specs.ManagedStore as store;
 ghost use Rattle.mmem_core.specs.Conditions as store_conditions;
+ghost use Rattle.mote_types.specs.Bytes.{range_of};
 ghost use Rattle.mote_types.specs.Conditions.{IsName};
 ghost use Rattle.mote_types.specs.declared.call.Call.{Call};
 ghost use Rattle.node_memory.specs.Ask.{ask};
@@ -10,9 +11,10 @@ ghost use Rattle.node_memory.specs.BlockRefusals as block;
 ghost use Rattle.node_memory.specs.ManagedCalls as calls;
 ghost use Rattle.node_memory.specs.Memory.{with_managed};
 ghost use Rattle.node_memory.specs.Placed.{last_owner};
+ghost use Rattle.node_memory.specs.Separation.{BlockName, LeavesOthers};
 
 use crate::memory::NodeMemory;
-use crate::ranges::{LONGEST_READ, chunk_of, is_outside};
+use crate::ranges::{LONGEST_READ, chunk_of, is_outside, range_in};
 use mote_types::block_name::Key;
 use mote_types::event::Pid;
 use mote_types::refusal::Refusal;
@@ -32,7 +34,10 @@ impl NodeMemory {
     }
 
     /// Allocates a block of `n` zeros for a handle.
-    pub(crate) fn mmem_alloc(&mut self, pid: Pid, handle: u8, n: u32) -> Result<(), Refusal>
+    ///
+    /// # Errors
+    /// `BadName`, `InUse`, `Range` where `n` is 0; `OverQuota` where there are quotas, otherwise `NoRoom`.
+    pub fn mmem_alloc(&mut self, pid: Pid, handle: u8, n: u32) -> Result<(), Refusal>
         requires least { 3 ≤ pid.0 }
         requires most { pid.0 ≤ 19 }
         requires owner { pid.0 ≤ last_owner self.old }
@@ -40,6 +45,7 @@ impl NodeMemory {
             × (self.new.contents ≡ with_managed (store.allocated pid.0 handle n self.old.contents.managed) self.old.contents)) }
         ensures refused { IfErr result (λ r. (calls.alloc_refusal pid.0 handle n self.old.contents.managed ≡ Some r)
             × (self.new ≡ self.old)) }
+        ensures others { LeavesOthers (Some (BlockName.Managed pid.0 handle)) self.old.contents self.new.contents }
         ensures owners { last_owner self.new ≡ last_owner self.old }
     {
         if handle > LAST_HANDLE {
@@ -58,13 +64,17 @@ impl NodeMemory {
     }
 
     /// Frees a handle's block.
-    pub(crate) fn mmem_free(&mut self, pid: Pid, handle: u8) -> Result<(), Refusal>
+    ///
+    /// # Errors
+    /// `BadName` or `NotLive`.
+    pub fn mmem_free(&mut self, pid: Pid, handle: u8) -> Result<(), Refusal>
         requires least { 3 ≤ pid.0 }
         requires most { pid.0 ≤ 19 }
         ensures accepted { IfOk result (λ _. (block.live_refusal handle (store.block_of pid.0 handle self.old.contents.managed) ≡ None)
             × (self.new.contents ≡ with_managed (store.freed pid.0 handle self.old.contents.managed) self.old.contents)) }
         ensures refused { IfErr result (λ r. (block.live_refusal handle (store.block_of pid.0 handle self.old.contents.managed) ≡ Some r)
             × (self.new ≡ self.old)) }
+        ensures others { LeavesOthers (Some (BlockName.Managed pid.0 handle)) self.old.contents self.new.contents }
         ensures owners { last_owner self.new ≡ last_owner self.old }
     {
         if handle > LAST_HANDLE {
@@ -78,7 +88,10 @@ impl NodeMemory {
     }
 
     /// Writes bytes into a handle's block, from offset `at` on.
-    pub(crate) fn mmem_write(
+    ///
+    /// # Errors
+    /// `BadName`, `NotLive` or `Range`.
+    pub fn mmem_write(
         &mut self,
         pid: Pid,
         handle: u8,
@@ -94,6 +107,7 @@ impl NodeMemory {
         ensures refused { IfErr result
             (λ r. (block.write_refusal handle at (length bytes.now) (store.block_of pid.0 handle self.old.contents.managed) ≡ Some r)
             × (self.new ≡ self.old)) }
+        ensures others { LeavesOthers (Some (BlockName.Managed pid.0 handle)) self.old.contents self.new.contents }
         ensures owners { last_owner self.new ≡ last_owner self.old }
     {
         if handle > LAST_HANDLE {
@@ -109,33 +123,57 @@ impl NodeMemory {
         Ok(())
     }
 
-    /// Reads `len` bytes of a handle's block, from offset `at` on.
+    /// The `len` bytes of a handle's block from offset `at` on.
+    ///
+    /// # Errors
+    /// `BadName`, `NotLive`, or `Range`: also where `len` is above 64.
+    pub fn mmem_range(&self, pid: Pid, handle: u8, at: u32, len: u8) -> Result<&[u8], Refusal>
+        requires least { 3 ≤ pid.0 }
+        requires most { pid.0 ≤ 19 }
+        ensures read { IfOk result
+            (λ bytes. (block.read_refusal handle at len (store.block_of pid.0 handle self.now.contents.managed) ≡ None)
+            × (bytes.now ≡ range_of at len (store.bytes_of pid.0 handle self.now.contents.managed))) }
+        ensures length { IfOk result (λ bytes. (length bytes.now ≡ len) × (len ≤ 64)) }
+        ensures refused { IfErr result
+            (λ r. block.read_refusal handle at len (store.block_of pid.0 handle self.now.contents.managed) ≡ Some r) }
+    {
+        if handle > LAST_HANDLE {
+            return Err(Refusal::BadName);
+        }
+        let Some(block) = self.len_of((pid, handle)) else {
+            return Err(Refusal::NotLive);
+        };
+        if len > LONGEST_READ || is_outside(at, len as usize, block as usize) {
+            return Err(Refusal::Range);
+        }
+        let bytes = self.mmem.bytes(&self.arena, (pid, handle));
+        Ok(range_in(bytes, at, len))
+    }
+
+    /// The reply to a read.
     pub(crate) fn mmem_read(&self, pid: Pid, handle: u8, at: u32, len: u8) -> Reply
         requires least { 3 ≤ pid.0 }
         requires most { pid.0 ≤ 19 }
         ensures { ask (Call.MmemRead handle at len) pid.0 self.now.contents ≡ (self.now.contents, result) }
     {
-        if handle > LAST_HANDLE {
-            return Reply::Refused(Refusal::BadName);
+        match self.mmem_range(pid, handle, at, len) {
+            Ok(bytes) => Reply::Bytes(chunk_of(bytes)),
+            Err(refusal) => Reply::Refused(refusal),
         }
-        let Some(block) = self.len_of((pid, handle)) else {
-            return Reply::Refused(Refusal::NotLive);
-        };
-        if len > LONGEST_READ || is_outside(at, len as usize, block as usize) {
-            return Reply::Refused(Refusal::Range);
-        }
-        let bytes = self.mmem.bytes(&self.arena, (pid, handle));
-        Reply::Bytes(chunk_of(bytes, at, len))
     }
 
     /// Copies all bytes of one handle's block to the front of another one's.
-    pub(crate) fn mmem_copy(&mut self, pid: Pid, source: u8, target: u8) -> Result<(), Refusal>
+    ///
+    /// # Errors
+    /// `BadName`, `NotLive`, or `Range` where the target is shorter.
+    pub fn mmem_copy(&mut self, pid: Pid, source: u8, target: u8) -> Result<(), Refusal>
         requires least { 3 ≤ pid.0 }
         requires most { pid.0 ≤ 19 }
         ensures accepted { IfOk result (λ _. (calls.copy_refusal pid.0 source target self.old.contents.managed ≡ None)
             × (self.new.contents ≡ with_managed (store.copied pid.0 source pid.0 target self.old.contents.managed) self.old.contents)) }
         ensures refused { IfErr result (λ r. (calls.copy_refusal pid.0 source target self.old.contents.managed ≡ Some r)
             × (self.new ≡ self.old)) }
+        ensures others { LeavesOthers (Some (BlockName.Managed pid.0 target)) self.old.contents self.new.contents }
         ensures owners { last_owner self.new ≡ last_owner self.old }
     {
         if let Some(refusal) = self.copy_refusal(pid, source, target) {
@@ -163,7 +201,7 @@ impl NodeMemory {
     }
 
     /// The number of bytes of managed memory that are free for a process.
-    pub(crate) fn mmem_avail(&self, pid: Pid) -> u32
+    pub fn mmem_avail(&self, pid: Pid) -> u32
         requires least { 3 ≤ pid.0 }
         requires most { pid.0 ≤ 19 }
         ensures { result ≡ store.free pid.0 self.now.contents.managed }

@@ -170,12 +170,20 @@ impl NodeMemory {
         ensures owners { last_owner self.new ≡ last_owner self.old }
     {
         match call {
-            Call::HeapAlloc(block, n) => self.heap_alloc(pid, *block, *n),
-            Call::HeapRealloc(block, n) => self.heap_realloc(pid, *block, *n),
-            Call::HeapFree(block) => self.heap_free(pid, *block),
-            Call::HeapWrite(block, at, chunk) => self.heap_write(pid, *block, *at, chunk),
+            Call::HeapAlloc(block, n) => {
+                Reply::done_or_refused(self.heap_alloc(pid, *block, *n))
+            }
+            Call::HeapRealloc(block, n) => {
+                Reply::done_or_refused(self.heap_realloc(pid, *block, *n))
+            }
+            Call::HeapFree(block) => {
+                Reply::done_or_refused(self.heap_free(pid, *block))
+            }
+            Call::HeapWrite(block, at, chunk) => {
+                Reply::done_or_refused(self.heap_write(pid, *block, *at, chunk.as_slice()))
+            }
             Call::HeapRead(block, at, len) => self.heap_read(pid, *block, *at, *len),
-            Call::HeapStats => self.heap_stats(),
+            Call::HeapStats => Reply::Stats(self.heap_stats()),
             _ => unreachable!(),
         }
     }

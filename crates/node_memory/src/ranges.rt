@@ -17,12 +17,20 @@ pub fn is_outside(at: u32, len: usize, block: usize) -> bool
 }
 
 /// The `len` bytes from offset `at` on.
-pub fn chunk_of(bytes: &[u8], at: u32, len: u8) -> Chunk
-    requires short { len ≤ 64 }
-    requires within { at + len ≤ length bytes.now }
-    ensures { result.items ≡ range_of at len bytes.now }
+pub fn range_in(bytes: &[u8], at: u32, len: u8) -> &[u8]
+    requires { at + len ≤ length bytes.now }
+    ensures range { result.now ≡ range_of at len bytes.now }
+    ensures length { length result.now ≡ len }
+{
+    &bytes[at as usize..at as usize + len as usize]
+}
+
+/// These bytes, for a reply.
+pub fn chunk_of(bytes: &[u8]) -> Chunk
+    requires { length bytes.now ≤ 64 }
+    ensures { result.items ≡ bytes.now }
 {
     let mut chunk = Chunk::new();
-    let _ = chunk.try_extend_from_slice(&bytes[at as usize..at as usize + len as usize]);
+    let _ = chunk.try_extend_from_slice(bytes);
     chunk
 }

@@ -1,5 +1,6 @@
 use Rattle.mote_types.specs.Bytes.{zeros}
 use Rattle.node_memory.proofs.LaidOut.{after-managed, managed-shown}
+use Rattle.node_memory.proofs.Others.{leaves-block}
 use Rattle.std.proofs.Common.{rules, arith, Some}
 use Rattle.mote_types.specs.BlockNames.{number_of}
 use Rattle.mmem_core.specs.ManagedStore.{allocated}
@@ -21,3 +22,9 @@ returns-clause-accepted c = (
 
 pub returns-then-is_none-clause-refused : goal.returns-then-is_none-clause-refused
 returns-then-is_none-clause-refused c = let told = c.shortage.ensures c.self.inside.arena.bytes in grind arith
+
+pub returns-clause-others : goal.returns-clause-others
+returns-clause-others c =
+    rw (managed-shown c.self.invariant c.alloc.ensures.rest (allocated c.args.pid.0 c.args.handle c.args.n) (search rules)
+    c.args.self.now c.self.view_is)
+    (leaves-block c.args.pid.0 c.args.handle _ c.args.self.now.contents c.requires.least (grind arith))

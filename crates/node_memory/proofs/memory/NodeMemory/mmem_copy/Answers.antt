@@ -1,5 +1,6 @@
 use Rattle.node_memory.proofs.LaidOut.{after-managed, managed-shown}
-use Rattle.std.proofs.Common.{rules}
+use Rattle.node_memory.proofs.Others.{leaves-block}
+use Rattle.std.proofs.Common.{rules, arith}
 use Rattle.mmem_core.specs.ManagedStore.{copied}
 use Rattle.node_memory.proofs.memory.NodeMemory.mmem_copy.Goals as goal
 
@@ -12,3 +13,10 @@ returns-clause-accepted c = (
   managed-shown c.self.invariant c.copy.ensures.rest (copied c.args.pid.0 c.args.source c.args.pid.0 c.args.target)
       c.copy.ensures.block c.args.self.now c.self.view_is,
 )
+
+pub returns-clause-others : goal.returns-clause-others
+returns-clause-others c =
+    rw (managed-shown c.self.invariant c.copy.ensures.rest (copied c.args.pid.0 c.args.source c.args.pid.0 c.args.target)
+    c.copy.ensures.block
+    c.args.self.now c.self.view_is)
+    (leaves-block c.args.pid.0 c.args.target _ c.args.self.now.contents c.requires.least (grind arith))
