@@ -4,6 +4,9 @@ use Rattle.std.proofs.Common.{◌≡◌, ◌≢◌, ◌∙◌, ℕ, Bool, true, 
 use Rattle.device_core.specs.declared.frame.Frame.{Frame}
 use Rattle.node_memory.specs.Conditions.{frame_in}
 use Rattle.node_memory.specs.declared.sizes.Sizes.{Sizes}
+use Rattle.mote_types.specs.declared.reply.Reply.{Reply}
+use Rattle.node_memory.proofs.Others.{leaves-asked}
+use Rattle.node_memory.specs.Ask.{ask}
 use Rattle.node_memory.specs.Separation.{BlockName, LeavesOthers, changed_block, frame_block}
 
 abbrev has_slot : ℕ → Frame → Bool
@@ -30,6 +33,16 @@ frames_after_ask call p old new frames least leaves holds = record {
   live = λ slot below. ap is_some (same_frame (changed_block call p old) old new slot leaves below (ask_elsewhere call p slot old least))
       ∙ holds.live slot below;
 }
+
+-- a change of one of its managed blocks, as of the call that frees it
+pub frames_after_block : (h p : ℕ) (old new : Memory) (frames : List Frame) → 4 ≤ p
+    → LeavesOthers (Some (BlockName.Managed p h)) old new → HoldsFrames old frames → HoldsFrames new frames
+frames_after_block h p old new frames least leaves holds = frames_after_ask (Call.MmemFree h) p old new frames least leaves holds
+
+pub frames_after_asked : (call : Call) (p : ℕ) (old new : Memory) (reply : Reply) (frames : List Frame) → 4 ≤ p → p ≤ 19
+    → ask call p old ≡ (new, reply) → HoldsFrames old frames → HoldsFrames new frames
+frames_after_asked call p old new reply frames least most asked holds =
+    frames_after_ask call p old new frames least (leaves-asked call p old new reply (omega (arith, least), most) asked) holds
 
 other_slot : (slot s : ℕ) → (slot == s) ≡ false → Some (frame_block slot) ≢ Some (frame_block s)
 other_slot = grind decide

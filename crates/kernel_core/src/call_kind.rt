@@ -17,7 +17,12 @@ pub enum CallKind {
     Timers,
     /// On packets, or the printed text.
     Devices,
-    Memory,
+    /// On managed memory.
+    Managed,
+    /// On heap memory.
+    Heap,
+    /// On a pool, or on one of its lists.
+    Pools,
 }
 
 impl CallKind {
@@ -51,14 +56,14 @@ impl CallKind {
             | Call::MmemWrite(..)
             | Call::MmemRead(..)
             | Call::MmemCopy(..)
-            | Call::MmemAvail
-            | Call::HeapAlloc(..)
+            | Call::MmemAvail => CallKind::Managed,
+            Call::HeapAlloc(..)
             | Call::HeapRealloc(..)
             | Call::HeapFree(_)
             | Call::HeapWrite(..)
             | Call::HeapRead(..)
-            | Call::HeapStats
-            | Call::MembAlloc(_)
+            | Call::HeapStats => CallKind::Heap,
+            Call::MembAlloc(_)
             | Call::MembFree(..)
             | Call::MembWrite(..)
             | Call::MembRead(..)
@@ -71,7 +76,7 @@ impl CallKind {
             | Call::ListRemove(..)
             | Call::ListHead(_)
             | Call::ListNext(..)
-            | Call::ListLength(_) => CallKind::Memory,
+            | Call::ListLength(_) => CallKind::Pools,
         }
     }
 }

@@ -1,6 +1,10 @@
 //! What the kernel does at an application's call.
 
-ghost use Rattle.std.specs.Prelude.{◌≡◌, None, Some};
+ghost use Rattle.std.specs.Prelude.{◌≡◌, ◌≤◌, None, Some, length};
+ghost use Rattle.mote_types.specs.declared.reply.Reply.{Reply as Answered};
+ghost use Rattle.node_memory.specs.Code.Outcomes.{reply_to};
+ghost use Rattle.process_core.specs.Requests as request;
+ghost use Rattle.process_core.specs.Code.SchedulerView.{awaiting_nothing};
 ghost use Rattle.kernel_core.specs.Calls.{after_call};
 ghost use Rattle.kernel_core.specs.Code.CallKinds.{kind_of};
 ghost use Rattle.kernel_core.specs.Code.Draws.{drawn_in_all};
@@ -13,7 +17,21 @@ use crate::fields::KernelFields;
 use mote_types::call::Call;
 use mote_types::event::Pid;
 use mote_types::refusal::Refusal;
-use mote_types::reply::Reply;
+use mote_types::reply::{Chunk, Reply};
+use process_core::scheduler::Scheduler;
+
+/// The application that has the turn gets these bytes in its next turn, as the reply to a read.
+// Of the scheduler alone, since the bytes may be lent by the memory.
+pub fn answer_bytes(scheduler: &mut Scheduler, pid: Pid, bytes: &[u8])
+    requires turn { scheduler.old.turn ≡ Some pid }
+    requires few { length bytes.now ≤ 64 }
+    ensures { scheduler.new ≡ awaiting_nothing
+        (request.answered pid.0 (Answered.Bytes (record { items = bytes.now })) scheduler.old.state) }
+{
+    let mut chunk = Chunk::new();
+    let _ = chunk.try_extend_from_slice(bytes);
+    scheduler.answered(pid, Reply::Bytes(chunk));
+}
 
 impl KernelFields {
     /// The application gets the reply in its next turn.
@@ -42,6 +60,23 @@ impl KernelFields {
         self.answer(pid, Reply::Refused(refusal));
     }
 
+    /// The application gets `Done` in its next turn, or the refusal of its call.
+    #[inline(always)]
+    pub fn tell(&mut self, pid: Pid, outcome: Result<(), Refusal>)
+        requires turn { self.old.scheduler.turn ≡ Some pid }
+        requires nothing_shown { self.old.pending ≡ no_pending_entries }
+        ensures machine { machine_of self.new ≡ machine.answer pid.0 (reply_to outcome) (machine_of self.old) }
+        ensures kept { IsOnlyScheduled self.old self.new }
+        ensures turn { self.new.scheduler.turn ≡ None }
+        ensures events { self.new.scheduler.state.events ≡ self.old.scheduler.state.events }
+        ensures draws { drawn_in_all self.new ≡ drawn_in_all self.old }
+    {
+        match outcome {
+            Ok(()) => self.answer(pid, Reply::Done),
+            Err(refusal) => self.refuse(pid, refusal),
+        }
+    }
+
     /// Executes the call of the application that has the turn.
     pub fn carry_out(&mut self, pid: Pid, call: &Call)
         requires at_turn { IsAtTurn pid self.old }
@@ -54,7 +89,9 @@ impl KernelFields {
             CallKind::Events => self.ask_events(pid, call),
             CallKind::Timers => self.ask_timers(pid, call),
             CallKind::Devices => self.ask_devices(pid, call),
-            CallKind::Memory => self.ask_memory(pid, call),
+            CallKind::Managed => self.ask_managed(pid, call),
+            CallKind::Heap => self.ask_heap(pid, call),
+            CallKind::Pools => self.ask_pools(pid, call),
         }
     }
 
@@ -131,10 +168,52 @@ impl KernelFields {
         }
     }
 
-    /// Executes a call on memory.
-    fn ask_memory(&mut self, pid: Pid, call: &Call)
+    /// Executes a call on managed memory.
+    // A function of its own, as those for other memory are: inlined they would take registers and room from all other calls.
+    #[inline(never)]
+    fn ask_managed(&mut self, pid: Pid, call: &Call)
         requires at_turn { IsAtTurn pid self.old }
-        requires kind { kind_of call.now ≡ kinds.CallKind.Memory }
+        requires kind { kind_of call.now ≡ kinds.CallKind.Managed }
+        ensures machine { machine_of self.new ≡ after_call call.now pid.0 (machine_of self.old) }
+        ensures kept { IsCarriedOut self.old self.new }
+    {
+        match call {
+            Call::MmemAlloc(handle, n) => self.alloc_managed(pid, *handle, *n),
+            Call::MmemFree(handle) => self.free_managed(pid, *handle),
+            Call::MmemWrite(handle, at, chunk) => {
+                self.write_managed(pid, *handle, *at, chunk)
+            }
+            Call::MmemRead(handle, at, len) => self.read_managed(pid, *handle, *at, *len),
+            Call::MmemCopy(source, target) => self.copy_managed(pid, *source, *target),
+            Call::MmemAvail => self.count_managed(pid),
+            _ => unreachable!(),
+        }
+    }
+
+    /// Executes a call on heap memory.
+    #[inline(never)]
+    fn ask_heap(&mut self, pid: Pid, call: &Call)
+        requires at_turn { IsAtTurn pid self.old }
+        requires kind { kind_of call.now ≡ kinds.CallKind.Heap }
+        ensures machine { machine_of self.new ≡ after_call call.now pid.0 (machine_of self.old) }
+        ensures kept { IsCarriedOut self.old self.new }
+    {
+        match call {
+            Call::HeapAlloc(block, n) => self.alloc_in_heap(pid, *block, *n),
+            Call::HeapRealloc(block, n) => self.resize_in_heap(pid, *block, *n),
+            Call::HeapFree(block) => self.free_in_heap(pid, *block),
+            Call::HeapWrite(block, at, chunk) => self.write_in_heap(pid, *block, *at, chunk),
+            Call::HeapRead(block, at, len) => self.read_in_heap(pid, *block, *at, *len),
+            Call::HeapStats => self.tell_heap_stats(pid),
+            _ => unreachable!(),
+        }
+    }
+
+    /// Executes a call on a pool, or on one of its lists.
+    #[inline(never)]
+    fn ask_pools(&mut self, pid: Pid, call: &Call)
+        requires at_turn { IsAtTurn pid self.old }
+        requires kind { kind_of call.now ≡ kinds.CallKind.Pools }
         ensures machine { machine_of self.new ≡ after_call call.now pid.0 (machine_of self.old) }
         ensures kept { IsCarriedOut self.old self.new }
     {

@@ -11,26 +11,17 @@ ghost use Rattle.node_memory.specs.Placed.{last_owner};
 
 use crate::fields::KernelFields;
 use device_core::packet_queue::MOST_FRAMES;
-use mote_types::call::Call;
 use mote_types::entry::{Input, Note};
 use mote_types::event::{ETIMER, PACKET_PROCESS, SERIAL_PROCESS};
 use mote_types::refusal::Refusal;
-use mote_types::reply::Reply;
 use mote_types::rounding::rounded;
 
 impl KernelFields {
     /// The number of bytes of managed memory that are free for frames.
-    fn free_bytes(&mut self) -> u32
-        requires { 3 ≤ last_owner self.old.memory }
-        ensures free { result ≡ free 3 self.old.memory.contents.managed }
-        ensures machine { machine_of self.new ≡ machine_of self.old }
-        ensures same { self.new ≡ record self.old { memory = self.new.memory } }
-        ensures owners { last_owner self.new.memory ≡ last_owner self.old.memory }
+    fn free_bytes(&self) -> u32
+        ensures { result ≡ free 3 self.now.memory.contents.managed }
     {
-        match self.memory.ask(PACKET_PROCESS, &Call::MmemAvail) {
-            Reply::Num(free) => free,
-            _ => 0,
-        }
+        self.memory.mmem_avail(PACKET_PROCESS)
     }
 
     /// Holds a frame, unless 8 are held or managed memory has no room for it, or process 3's quota.

@@ -1,20 +1,32 @@
 //! What the kernel does at an application's calls on packets. A call that is refused changes nothing.
 
-ghost use Rattle.std.specs.Prelude.{◌≡◌, ◌<◌, None, Some, IfErr, IfOk};
-ghost use Rattle.mote_types.specs.declared.reply.Reply.{Reply as Answer};
+ghost use Rattle.std.specs.Prelude.{◌≡◌, ◌<◌, ◌≤◌, None, Some, IfErr, IfOk, length};
+ghost use Rattle.mote_types.specs.declared.entry.Note.{Note as Noted};
 ghost use Rattle.device_core.specs.PacketQueue.{front_slot, is_receiver};
-ghost use Rattle.kernel_core.specs.PacketCalls.{front_refusal, front_read_refusal, front_read};
+ghost use Rattle.kernel_core.specs.PacketCalls.{front_refusal};
 ghost use Rattle.mote_types.specs.declared.call.Call.{Call};
 ghost use Rattle.kernel_core.specs.Calls.{after_call};
 ghost use Rattle.kernel_core.specs.Code.View.{machine_of, IsAtTurn, IsCarriedOut};
 
+use crate::calls::answer_bytes;
 use crate::fields::KernelFields;
 use arrayvec::ArrayVec;
 use mote_types::entry::Note;
 use mote_types::event::{PACKET_PROCESS, Pid};
 use mote_types::refusal::Refusal;
-use mote_types::reply::{Chunk, Reply};
+use mote_types::reply::Reply;
 use node_memory::LONGEST_READ;
+
+/// Puts the note of a sent frame into a place, where its bytes are put at once.
+fn put_sent(note: &mut Option<Note>, bytes: &[u8])
+    requires { length bytes.now ≤ 127 }
+    ensures { note.new ≡ Some (Noted.Sent (record { items = bytes.now })) }
+{
+    *note = Some(Note::Sent(ArrayVec::new()));
+    if let Some(Note::Sent(sent)) = note {
+        let _ = sent.try_extend_from_slice(bytes);
+    }
+}
 
 impl KernelFields {
     /// Whether an application is the one that frames are for.
@@ -53,8 +65,15 @@ impl KernelFields {
         ensures machine { machine_of self.new ≡ after_call (Call.PacketRead at len) pid.0 (machine_of self.old) }
         ensures kept { IsCarriedOut self.old self.new }
     {
-        match self.front_range(pid, at, len) {
-            Ok(chunk) => self.answer(pid, Reply::Bytes(chunk)),
+        match self.front_slot_for(pid) {
+            Ok(slot) => {
+                let bytes = self.memory.frame_bytes(slot);
+                if len > LONGEST_READ || at as u64 + len as u64 > bytes.len() as u64 {
+                    return self.refuse(pid, Refusal::Range);
+                }
+                let range = &bytes[at as usize..at as usize + len as usize];
+                answer_bytes(&mut self.scheduler, pid, range);
+            }
             Err(refusal) => self.refuse(pid, refusal),
         }
     }
@@ -73,23 +92,6 @@ impl KernelFields {
             Some(frame) => Ok(frame.slot),
             None => Err(Refusal::NoPacket),
         }
-    }
-
-    /// A range of the front frame's bytes.
-    fn front_range(&self, pid: Pid, at: u32, len: u8) -> Result<Chunk, Refusal>
-        requires at_turn { IsAtTurn pid self.now }
-        ensures read { IfOk result (λ chunk. (front_read_refusal pid.0 at len (machine_of self.now) ≡ None)
-            × (Answer.Bytes chunk ≡ front_read at len (machine_of self.now))) }
-        ensures refused { IfErr result (λ refusal. front_read_refusal pid.0 at len (machine_of self.now) ≡ Some refusal) }
-    {
-        let slot = self.front_slot_for(pid)?;
-        let bytes = self.memory.frame_bytes(slot);
-        if len > LONGEST_READ || at as u64 + len as u64 > bytes.len() as u64 {
-            return Err(Refusal::Range);
-        }
-        let mut chunk = ArrayVec::new();
-        let _ = chunk.try_extend_from_slice(&bytes[at as usize..at as usize + len as usize]);
-        Ok(chunk)
     }
 
     /// Releases the front frame.
@@ -123,14 +125,12 @@ impl KernelFields {
         ensures machine { machine_of self.new ≡ after_call (Call.PacketSend handle) pid.0 (machine_of self.old) }
         ensures kept { IsCarriedOut self.old self.new }
     {
-        let mut sent = ArrayVec::new();
         match self.memory.send_bytes(pid, handle) {
             Ok(bytes) => {
-                let _ = sent.try_extend_from_slice(bytes);
+                self.scheduler.answered(pid, Reply::Done);
+                put_sent(&mut self.pending.note, bytes);
             }
-            Err(refusal) => return self.refuse(pid, refusal),
+            Err(refusal) => self.refuse(pid, refusal),
         }
-        self.answer(pid, Reply::Done);
-        self.pending.note = Some(Note::Sent(sent));
     }
 }

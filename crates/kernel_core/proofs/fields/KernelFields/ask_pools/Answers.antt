@@ -1,6 +1,6 @@
 use Rattle.std.proofs.Common.{rules}
 use Rattle.kernel_core.proofs.FrameBlocks.{frames_after_ask}
-use Rattle.kernel_core.proofs.fields.KernelFields.ask_memory.Goals as goal
+use Rattle.kernel_core.proofs.fields.KernelFields.ask_pools.Goals as goal
 
 pub returns-clause-kept : goal.returns-clause-kept
 returns-clause-kept c =

@@ -1,7 +1,0 @@
-use Rattle.kernel_core.proofs.FrameBlocks.{front_is_live}
-use Rattle.kernel_core.proofs.fields.KernelFields.front_range.Goals as goal
-
-pub frame_bytes-bytes-requires-clause-held : goal.frame_bytes-bytes-requires-clause-held
-frame_bytes-bytes-requires-clause-held c =
-    front_is_live c.args.self.now.memory.contents c.args.self.now.packets.frames c.in_ok-slot.slot c.requires.at_turn.frames
-    c.in_ok-slot.ensures.within c.in_ok-slot.ensures.held.1
