@@ -1,6 +1,8 @@
 -- What follows a call of an application: its refusals in the order in which they are checked, its effect, and its reply.
-use Rattle.std.specs.Prelude.{ℕ, Bool, not, ◌&&◌, ◌==◌, length, Option, Some, None, if◌then◌else◌, nat_lt}
+use Rattle.std.specs.Prelude.{Bool, not, ◌&&◌, ◌==◌, length, Option, Some, None, if◌then◌else◌, nat_lt}
 use Rattle.std.specs.Option.{option_or}
+use Rattle.mote_types.specs.Kinds.{ProcessNumber, EventCode, TimerNumber}
+use Rattle.mote_types.specs.Limits.{etimer_process, timers_each, callback_timers_each}
 use Rattle.mote_types.specs.declared.call.Call.{Call}
 use Rattle.mote_types.specs.declared.reply.Reply.{Reply}
 use Rattle.mote_types.specs.declared.refusal.Refusal.{Refusal}
@@ -26,45 +28,40 @@ use Rattle.timer_core.specs.Names.{event_timer, callback_timer}
 use Rattle.timer_core.specs.Timers.{set_timer, stop_timer, reset_timer, restart_timer, can_reset, is_armed}
 
 -- the call of p is refused, or this is the machine after it
-abbrev pub refused_or : Option Refusal → ℕ → Machine → Machine → Machine
+abbrev pub refused_or : Option Refusal → ProcessNumber → Machine → Machine → Machine
 refused_or None p m after = after
 refused_or (Some refusal) p m after = refuse p refusal m
 
-abbrev pub answer_done : ℕ → Machine → Machine
+abbrev pub answer_done : ProcessNumber → Machine → Machine
 answer_done p = answer p Reply.Done
 
--- the event that a call posts
-abbrev pub event_of : ℕ → Payload → Event
+abbrev pub event_of : EventCode → Payload → Event
 event_of code payload = record { code = code; payload = payload }
 
 -- a broadcast of an application: of no event reserved for the kernel
-abbrev pub broadcast_call_refusal : Machine → ℕ → Option Refusal
+abbrev pub broadcast_call_refusal : Machine → EventCode → Option Refusal
 broadcast_call_refusal m code = if is_reserved code then Some Refusal.Reserved else post_refusal m.scheduler
 
 -- a post of an application: to one of this mote, otherwise as a broadcast
-abbrev pub post_call_refusal : Machine → ℕ → ℕ → Option Refusal
+abbrev pub post_call_refusal : Machine → ProcessNumber → EventCode → Option Refusal
 post_call_refusal m q code = option_or (application_refusal m.scheduler q) (broadcast_call_refusal m code)
 
--- an application has timers 0 to 7 and callback timers 0 to 3
-abbrev pub timer_refusal : ℕ → Option Refusal
-timer_refusal t = if nat_lt t 8 then None else Some Refusal.BadName
+abbrev pub timer_refusal : TimerNumber → Option Refusal
+timer_refusal t = if nat_lt t timers_each then None else Some Refusal.BadName
 
-abbrev pub callback_refusal : ℕ → Option Refusal
-callback_refusal c = if nat_lt c 4 then None else Some Refusal.BadName
+abbrev pub callback_refusal : TimerNumber → Option Refusal
+callback_refusal c = if nat_lt c callback_timers_each then None else Some Refusal.BadName
 
-abbrev pub reset_refusal : ℕ → ℕ → Machine → Option Refusal
+abbrev pub reset_refusal : ProcessNumber → TimerNumber → Machine → Option Refusal
 reset_refusal p t m = option_or (timer_refusal t) (if can_reset (event_timer p t) m.timers then None else Some Refusal.Range)
 
--- the callback timer c of p
-abbrev pub is_callback_timer : ℕ → ℕ → ℕ → ℕ → Bool
+abbrev pub is_callback_timer : ProcessNumber → TimerNumber → ProcessNumber → TimerNumber → Bool
 is_callback_timer p c q d = q == p && d == c
 
--- the memory replies to a call of p
-abbrev pub asked_of_memory : ℕ → (Memory → Asked Memory) → Machine → Machine
+abbrev pub asked_of_memory : ProcessNumber → (Memory → Asked Memory) → Machine → Machine
 asked_of_memory p call m = let asked = call m.memory in answer p asked.1 (with_memory asked.0 m)
 
--- the machine after a call of p
-abbrev pub after_call : Call → ℕ → Machine → Machine
+abbrev pub after_call : Call → ProcessNumber → Machine → Machine
 -- the activation ends
 after_call Call.Wait p m = scheduled (waited p) m
 after_call Call.Exit p m = scheduled (ended p) m
@@ -87,22 +84,21 @@ after_call (Call.IsRunning q) p m =
 -- event timers
 after_call (Call.TimerSet t interval) p m =
     refused_or (timer_refusal t) p m
-    (answer_done p (mark 0 (with_timers (set_timer m.clock (event_timer p t) interval m.timers) m)))
-after_call (Call.TimerStop t) p m =
-    refused_or (timer_refusal t) p m (answer_done p (with_timers (stop_timer (event_timer p t) m.timers) m))
+    (answer_done p (mark etimer_process (with_timers (set_timer m.clock (event_timer p t) interval m.timers) m)))
+after_call (Call.TimerStop t) p m = refused_or (timer_refusal t) p m (answer_done p (with_timers (stop_timer (event_timer p t) m.timers) m))
 after_call (Call.TimerReset t) p m =
     refused_or (reset_refusal p t m) p m
-    (answer_done p (mark 0 (with_timers (reset_timer (event_timer p t) m.timers) m)))
+    (answer_done p (mark etimer_process (with_timers (reset_timer (event_timer p t) m.timers) m)))
 after_call (Call.TimerRestart t) p m =
     refused_or (timer_refusal t) p m
-    (answer_done p (mark 0 (with_timers (restart_timer m.clock (event_timer p t) m.timers) m)))
+    (answer_done p (mark etimer_process (with_timers (restart_timer m.clock (event_timer p t) m.timers) m)))
 after_call (Call.TimerExpired t) p m =
     refused_or (timer_refusal t) p m (answer p (Reply.Flag (not (is_armed (event_timer p t) m.timers))) m)
 -- callback timers
 after_call (Call.CallbackSet c interval) p m =
     refused_or (callback_refusal c) p m
     (answer_done p
-    (mark 0
+    (mark etimer_process
     (expiries_cancelled (is_callback_timer p c) (with_timers (set_timer m.clock (callback_timer p c) interval m.timers) m))))
 after_call (Call.CallbackStop c) p m =
     refused_or (callback_refusal c) p m
@@ -112,14 +108,11 @@ after_call Call.Clock p m = answer p (Reply.Wide m.clock) m
 after_call (Call.Print chunk) p m = answer_done p m
 -- packets
 after_call Call.PacketOpen p m = refused_or (open_refusal p m) p m (answer_done p (receiver_claimed p m))
-after_call (Call.PacketRead at len) p m =
-    refused_or (front_read_refusal p at len m) p m (answer p (front_read at len m) m)
-after_call Call.PacketDone p m =
-    refused_or (front_refusal p m) p m (answer_done p (front_dropped (front_slot m.packets) m))
+after_call (Call.PacketRead at len) p m = refused_or (front_read_refusal p at len m) p m (answer p (front_read at len m) m)
+after_call Call.PacketDone p m = refused_or (front_refusal p m) p m (answer_done p (front_dropped (front_slot m.packets) m))
 after_call Call.PacketCount p m = answer p (Reply.Num (length m.packets.frames)) m
 -- the note is before the reply
-after_call (Call.PacketSend h) p m =
-    refused_or (send_refusal p h m.memory.managed) p m (shown_first (sent p h m) (answer_done p m))
+after_call (Call.PacketSend h) p m = refused_or (send_refusal p h m.memory.managed) p m (shown_first (sent p h m) (answer_done p m))
 -- memory
 after_call (Call.MmemAlloc h n) p m = asked_of_memory p (on_managed (managed.alloc p h n)) m
 after_call (Call.MmemFree h) p m = asked_of_memory p (on_managed (managed.free p h)) m

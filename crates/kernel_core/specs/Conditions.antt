@@ -1,11 +1,12 @@
 -- What handing in an input, and making an entry, ask.
-use Rattle.std.specs.Prelude.{ℕ, Bool, true, length, nat_lt, ◌<◌}
+use Rattle.std.specs.Prelude.{Bool, true, length, nat_lt, ◌<◌}
+use Rattle.mote_types.specs.Kinds.{Ticks}
 use Rattle.mote_types.specs.declared.entry.Input.{Input}
 use Rattle.kernel_core.specs.declared.step.Step.{Step}
 use Rattle.kernel_core.specs.Mote.{Mote}
 
 -- by how much an input moves the clock
-abbrev pub ticks_of : Input → ℕ
+abbrev pub ticks_of : Input → Ticks
 ticks_of (Input.Tick n) = n
 ticks_of _ = 0
 

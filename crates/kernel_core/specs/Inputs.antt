@@ -1,5 +1,7 @@
 -- What an input does to the mote.
-use Rattle.std.specs.Prelude.{ℕ, ◌+◌, not, List, length, Option, Some, None, if◌then◌else◌}
+use Rattle.std.specs.Prelude.{ℕ, ◌+◌, not, length, Option, Some, None, if◌then◌else◌}
+use Rattle.mote_types.specs.Kinds.{Handle, Bytes, Ticks}
+use Rattle.mote_types.specs.Limits.{etimer_process, serial_line_process, packet_process}
 use Rattle.mote_types.specs.declared.entry.Entry.{Entry}
 use Rattle.mote_types.specs.declared.entry.Input.{Input}
 use Rattle.mote_types.specs.declared.entry.Note.{Note}
@@ -11,34 +13,33 @@ use Rattle.node_memory.specs.Frames.{frame_taken}
 use Rattle.kernel_core.specs.Machine.{Machine, with_memory, with_packets, with_serial, mark, shown_first}
 
 -- The clock advances, and etimer will look for due timers.
-abbrev pub ticked : ℕ → Machine → Machine
-ticked n m = mark 0 (record m { clock = m.clock + n })
+abbrev pub ticked : Ticks → Machine → Machine
+ticked n m = mark etimer_process (record m { clock = m.clock + n })
 
 -- All bytes go into the ring at once, and then process 2 will empty it.
-abbrev pub serial_arrived : List ℕ → Machine → Machine
-serial_arrived bytes m = mark 2 (with_serial (after_bytes m.serial bytes) m)
+abbrev pub serial_arrived : Bytes → Machine → Machine
+serial_arrived bytes m = mark serial_line_process (with_serial (after_bytes m.serial bytes) m)
 
--- a frame of n bytes is lost where 8 are held, or where managed memory or process 3's quota has no room for it
+-- a frame of n bytes is lost where the most are held, or where managed memory or process 3's quota has no room for it
 abbrev pub frame_refusal : ℕ → Machine → Option Refusal
 frame_refusal len m =
     if is_full m.packets then Some Refusal.Full
-    else if not (fits 3 len m.memory.managed) then Some (shortage m.memory.managed)
+    else if not (fits packet_process len m.memory.managed) then Some (shortage m.memory.managed)
     else None
 
 -- the frame is held under this slot, its bytes are in a block of process 3, and process 3 will notify the receiver
-abbrev pub frame_held : Option ℕ → List ℕ → Machine → Machine
+abbrev pub frame_held : Option Handle → Bytes → Machine → Machine
 frame_held None bytes m = m
 frame_held (Some slot) bytes m =
-    mark 3
+    mark packet_process
     (with_memory (frame_taken slot bytes m.memory) (with_packets (with_frame slot (length bytes) m.packets) m))
 
 -- a note says why a frame is lost
-abbrev pub held_unless_lost : Option Refusal → List ℕ → Machine → Machine
+abbrev pub held_unless_lost : Option Refusal → Bytes → Machine → Machine
 held_unless_lost (Some refusal) bytes m = shown_first (Entry.Note (Note.Lost refusal)) m
 held_unless_lost None bytes m = frame_held (free_slot m.packets) bytes m
 
--- it is held, or lost
-abbrev pub frame_arrived : List ℕ → Machine → Machine
+abbrev pub frame_arrived : Bytes → Machine → Machine
 frame_arrived bytes m = held_unless_lost (frame_refusal (length bytes) m) bytes m
 
 -- what an input does to the machine before anything is worked off

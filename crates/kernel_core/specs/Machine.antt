@@ -1,5 +1,7 @@
 -- The state of the mote: its clock, its work, what the scheduler has, its timers, its memory and its devices.
 use Rattle.std.specs.Prelude.{ℕ, ◌-◌, Bool, false, ◌&&◌, [], ◌∷◌, length, nat_le}
+use Rattle.mote_types.specs.Kinds.{ProcessNumber, Ticks}
+use Rattle.mote_types.specs.Limits.{most_applications, queue_places}
 use Rattle.device_core.specs.PacketQueue.{PacketQueue, no_packets}
 use Rattle.device_core.specs.SerialLine.{SerialLine, quiet_line}
 use Rattle.mote_types.specs.declared.entry.Entry.{Entry}
@@ -16,8 +18,7 @@ use Rattle.timer_core.specs.Timers.{Timers, no_timers}
 
 -- An expiry in the queue carries whether it was cancelled.
 pub record Machine : Type 0 where
-  -- the ticks since boot
-  pub clock : ℕ
+  pub clock : Ticks
   -- the turns and rounds since boot or the last input
   pub work : ℕ
   pub is_halted : Bool
@@ -29,13 +30,12 @@ pub record Machine : Type 0 where
   pub is_serial_waiting : Bool
   pub packets : PacketQueue
 
--- the sizes of the memory that a configuration asks for
 abbrev pub sizes_of : Config → Sizes
 sizes_of c = record { mmem = c.mmem; heap = c.heap; header = c.header; quota = c.quota }
 
 -- the configurations that a mote boots with
 abbrev pub is_bootable : Config → Bool
-is_bootable c = are_sizes (sizes_of c) c.apps && nat_le c.apps 16
+is_bootable c = are_sizes (sizes_of c) c.apps && nat_le c.apps most_applications
 
 abbrev pub booted : Config → Machine
 booted c =
@@ -72,18 +72,16 @@ with_event event = scheduled (posted event)
 
 -- the slots of the event queue that no event has
 abbrev pub free_places : Machine → ℕ
-free_places m = 32 - length m.scheduler.events
+free_places m = queue_places - length m.scheduler.events
 
 -- process p will be polled
-abbrev pub mark : ℕ → Machine → Machine
+abbrev pub mark : ProcessNumber → Machine → Machine
 mark p = scheduled (marked p)
 
--- the process gets the reply in its next turn
-abbrev pub answer : ℕ → Reply → Machine → Machine
+abbrev pub answer : ProcessNumber → Reply → Machine → Machine
 answer p reply = scheduled (answered p reply)
 
--- the reply to p is a refusal
-abbrev pub refuse : ℕ → Refusal → Machine → Machine
+abbrev pub refuse : ProcessNumber → Refusal → Machine → Machine
 refuse p refusal = answer p (Reply.Refused refusal)
 
 -- the entry is made before any other pending work

@@ -1,6 +1,8 @@
 -- The calls on packets: their refusals in the order in which they are checked, and their effects. The caller is p.
-use Rattle.std.specs.Prelude.{ℕ, not, ◌||◌, List, [], Option, Some, None, is_some, is_none, if◌then◌else◌, nat_lt}
+use Rattle.std.specs.Prelude.{ℕ, not, ◌||◌, [], Option, Some, None, is_some, is_none, if◌then◌else◌, nat_lt}
 use Rattle.std.specs.Option.{option_map_or}
+use Rattle.mote_types.specs.Kinds.{ProcessNumber, Handle, Offset, Bytes}
+use Rattle.mote_types.specs.Limits.{packet_process, chunk_limit}
 use Rattle.mote_types.specs.Bytes.{is_within, range_of}
 use Rattle.mote_types.specs.declared.entry.Entry.{Entry}
 use Rattle.mote_types.specs.declared.entry.Note.{Note}
@@ -14,7 +16,7 @@ use Rattle.process_core.specs.Scheduler.{state_in}
 use Rattle.kernel_core.specs.Machine.{Machine, with_memory, with_packets, mark}
 
 -- there is one receiver at a time, and a process that gets EXIT doesn't become one
-abbrev pub open_refusal : ℕ → Machine → Option Refusal
+abbrev pub open_refusal : ProcessNumber → Machine → Option Refusal
 open_refusal p m =
     if is_ending (state_in m.scheduler p) then Some Refusal.NotRunning
     else if is_receiver m.packets p then Some Refusal.Already
@@ -22,37 +24,34 @@ open_refusal p m =
     else None
 
 -- p is the receiver, and all held frames will be announced to it
-abbrev pub receiver_claimed : ℕ → Machine → Machine
-receiver_claimed p m = mark 3 (with_packets (with_receiver p m.packets) m)
+abbrev pub receiver_claimed : ProcessNumber → Machine → Machine
+receiver_claimed p m = mark packet_process (with_packets (with_receiver p m.packets) m)
 
--- the bytes of the front frame
-abbrev pub front_bytes : Machine → List ℕ
-front_bytes m = option_map_or (λ slot. bytes_of 3 slot m.memory.managed) (front_slot m.packets) []
+abbrev pub front_bytes : Machine → Bytes
+front_bytes m = option_map_or (λ slot. bytes_of packet_process slot m.memory.managed) (front_slot m.packets) []
 
 -- only the receiver may read the front frame and release it
-abbrev pub front_refusal : ℕ → Machine → Option Refusal
+abbrev pub front_refusal : ProcessNumber → Machine → Option Refusal
 front_refusal p m =
     if not (is_receiver m.packets p) then Some Refusal.NotReceiver
     else if is_none (front_slot m.packets) then Some Refusal.NoPacket
     else None
 
--- a read of len bytes of it, which may be at most 64
-abbrev pub front_read_refusal : ℕ → ℕ → ℕ → Machine → Option Refusal
+abbrev pub front_read_refusal : ProcessNumber → Offset → ℕ → Machine → Option Refusal
 front_read_refusal p at len m =
     if not (is_receiver m.packets p) then Some Refusal.NotReceiver
     else if is_none (front_slot m.packets) then Some Refusal.NoPacket
-    else if nat_lt 64 len || not (is_within at len (front_bytes m)) then Some Refusal.Range
+    else if nat_lt chunk_limit len || not (is_within at len (front_bytes m)) then Some Refusal.Range
     else None
 
--- some of the bytes of the frame that arrived first
-abbrev pub front_read : ℕ → ℕ → Machine → Reply
+abbrev pub front_read : Offset → ℕ → Machine → Reply
 front_read at len m = Reply.Bytes (record { items = range_of at len (front_bytes m) })
 
 -- the front frame is gone, and its block is freed
-abbrev pub front_dropped : Option ℕ → Machine → Machine
+abbrev pub front_dropped : Option Handle → Machine → Machine
 front_dropped None m = m
 front_dropped (Some slot) m = with_memory (frame_dropped slot m.memory) (with_packets (without_front m.packets) m)
 
 -- the bytes of p's block are sent
-abbrev pub sent : ℕ → ℕ → Machine → Entry
+abbrev pub sent : ProcessNumber → Handle → Machine → Entry
 sent p h m = Entry.Note (Note.Sent (record { items = bytes_of p h m.memory.managed }))

@@ -1,5 +1,7 @@
 -- Process 3 (packet), which announces frames to the receiver.
-use Rattle.std.specs.Prelude.{ℕ, Bool, ◌&&◌, Option, Some, None, is_some, if◌then◌else◌, ◌==◌}
+use Rattle.std.specs.Prelude.{Bool, ◌&&◌, Option, Some, None, is_some, if◌then◌else◌, ◌==◌}
+use Rattle.mote_types.specs.Kinds.{ProcessNumber}
+use Rattle.mote_types.specs.Limits.{packet_process}
 use Rattle.mote_types.specs.declared.event.Event.{Event}
 use Rattle.mote_types.specs.EventNumbers.{POLL, EXITED, PACKET}
 use Rattle.mote_types.specs.Codes.{number_event}
@@ -11,7 +13,7 @@ use Rattle.kernel_core.specs.Repeating.{times}
 use Rattle.kernel_core.specs.TimerProcesses.{exited_application}
 
 -- the frame is announced to the receiver by an event with its length, if there are both
-abbrev pub announce_to : Option ℕ → Option Frame → Machine → Machine
+abbrev pub announce_to : Option ProcessNumber → Option Frame → Machine → Machine
 announce_to (Some receiver) (Some frame) m =
     with_event (Queued.To receiver (number_event PACKET frame.len)) (with_packets (with_announced m.packets) m)
 announce_to _ _ m = m
@@ -28,10 +30,10 @@ has_news queue = is_some queue.receiver && is_some (unannounced queue)
 abbrev pub announce : Machine → Machine
 announce m =
     let after = times (free_places m) announce_next m in
-    if has_news after.packets then mark 3 after else after
+    if has_news after.packets then mark packet_process after else after
 
 -- where the receiver has ended there is none, and no frame counts as announced
-abbrev pub forget_receiver : Option ℕ → Machine → Machine
+abbrev pub forget_receiver : Option ProcessNumber → Machine → Machine
 forget_receiver None m = m
 forget_receiver (Some p) m = with_packets (forgotten p m.packets) m
 

@@ -1,5 +1,6 @@
 -- The run of the mote: what its machine makes of the inputs and of the calls of the applications.
 use Rattle.std.specs.Prelude.{◌≡◌, ℕ, zero, suc, ◌+◌, Bool, true, false, not, ◌&&◌, ◌||◌, List, [], ◌∷◌, ◌++◌, filter_map, Option, Some, None, option_to_list, if◌then◌else◌, ◌==◌}
+use Rattle.mote_types.specs.Kinds.{ProcessNumber}
 use Rattle.mote_types.specs.declared.call.Call.{Call}
 use Rattle.mote_types.specs.declared.entry.Input.{Input}
 use Rattle.mote_types.specs.declared.entry.Entry.{Entry}
@@ -15,17 +16,14 @@ use Rattle.kernel_core.specs.KernelProcesses.{serve}
 use Rattle.kernel_core.specs.Calls.{after_call}
 use Rattle.kernel_core.specs.Inputs.{fed}
 
--- One step.
-
 -- the call of an application on a stimulus, by its number
 abbrev pub Answers : Type 0
-Answers = ℕ → Stimulus → Call
+Answers = ProcessNumber → Stimulus → Call
 
 -- a machine, and the entry that its last step made
 abbrev pub StepMade : Type 0
 StepMade = Machine × Option Entry
 
--- no entry is made
 abbrev pub silent : Machine → StepMade
 silent m = (m, None)
 
@@ -42,14 +40,11 @@ abbrev pub with_more_work : Machine → Machine
 with_more_work m = record m { work = m.work + 1 }
 
 -- p takes a turn: its call is executed, and the turn is an entry
-abbrev pub turn_taken : ℕ → Origin → Stimulus → Call → Machine → StepMade
-turn_taken p origin stimulus call m =
-    (after_call call p (with_more_work m), Some (Entry.Turn (record { 0 = p }) origin stimulus call))
+abbrev pub turn_taken : ProcessNumber → Origin → Stimulus → Call → Machine → StepMade
+turn_taken p origin stimulus call m = (after_call call p (with_more_work m), Some (Entry.Turn (record { 0 = p }) origin stimulus call))
 
--- the job is done
 abbrev pub job_done : Answers → Option (Job Bool) → Machine → StepMade
-job_done answers (Some (Job.TakeTurn p origin stimulus)) m =
-    within_limit m (turn_taken p origin stimulus (answers p stimulus) m)
+job_done answers (Some (Job.TakeTurn p origin stimulus)) m = within_limit m (turn_taken p origin stimulus (answers p stimulus) m)
 job_done answers (Some (Job.Serve p event)) m = silent (serve p event m)
 job_done answers (Some (Job.CallBack p c is_cancelled)) m =
     silent (if is_cancelled then m else scheduled (in_front (Item.Give p Origin.Callback (Stimulus.Callback c) ∷ [])) m)
@@ -70,15 +65,13 @@ is_at_rest m = not m.is_halted && is_idle m.scheduler
 abbrev pub is_still : Machine → Bool
 is_still m = m.is_halted || is_at_rest m
 
--- A run.
-
 -- the stimulus of an entry that is a turn of p
-abbrev pub stimulus_of : ℕ → Entry → Option Stimulus
+abbrev pub stimulus_of : ProcessNumber → Entry → Option Stimulus
 stimulus_of p (Entry.Turn pid origin stimulus call) = if pid.0 == p then Some stimulus else None
 stimulus_of p _ = None
 
 -- what p received in these entries
-abbrev pub heard : ℕ → List Entry → List Stimulus
+abbrev pub heard : ProcessNumber → List Entry → List Stimulus
 heard p entries = filter_map (stimulus_of p) entries
 
 -- each application makes its call on all that it received, and on this

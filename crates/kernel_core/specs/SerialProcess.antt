@@ -1,5 +1,7 @@
 -- Process 2 (serial line), which broadcasts the lines that arrived.
-use Rattle.std.specs.Prelude.{ℕ, suc, true, false, List, Option, Some, None, if◌then◌else◌, ◌==◌, filter, length}
+use Rattle.std.specs.Prelude.{ℕ, suc, true, false, Option, Some, None, if◌then◌else◌, ◌==◌, filter, length}
+use Rattle.mote_types.specs.Kinds.{Bytes}
+use Rattle.mote_types.specs.Limits.{serial_line_process}
 use Rattle.mote_types.specs.declared.event.Event.{Event}
 use Rattle.mote_types.specs.declared.event.Payload.{Payload}
 use Rattle.mote_types.specs.EventNumbers.{POLL, CONTINUE, SERIAL_LINE}
@@ -10,30 +12,29 @@ use Rattle.process_core.specs.Scheduler.{has_room}
 use Rattle.kernel_core.specs.Machine.{Machine, with_serial, with_event}
 use Rattle.kernel_core.specs.Repeating.{times}
 
-abbrev pub line_event : List ℕ → Event
+abbrev pub line_event : Bytes → Event
 line_event line = record { code = SERIAL_LINE; payload = Payload.Line (line_of line) }
 
 -- the line is broadcast. It is lost where the queue is full
-abbrev pub broadcast_line : List ℕ → Machine → Machine
+abbrev pub broadcast_line : Bytes → Machine → Machine
 broadcast_line line m = if has_room m.scheduler then with_event (Queued.ToAll (line_event line)) m else m
 
 -- CONTINUE is posted to process 2, which waits for it. Where the queue is full it does not wait
 abbrev pub post_continue : Machine → Machine
 post_continue m =
     if has_room m.scheduler
-    then with_event (Queued.To 2 (plain_event CONTINUE)) (record m { is_serial_waiting = true })
+    then with_event (Queued.To serial_line_process (plain_event CONTINUE)) (record m { is_serial_waiting = true })
     else m
 
 -- the line is broadcast, and the process goes on after all that waits now
-abbrev pub line_served : Option (List ℕ) → Machine → Machine
+abbrev pub line_served : Option Bytes → Machine → Machine
 line_served None m = m
 line_served (Some line) m = post_continue (broadcast_line line m)
 
 -- The next whole line leaves the ring and is broadcast; where there is none, the bytes in the ring go into the line that began.
 -- While process 2 waits, the ring stays as it is
 abbrev pub serve_line : Machine → Machine
-serve_line m =
-    if m.is_serial_waiting then m else line_served (next_line m.serial) (with_serial (after_line m.serial) m)
+serve_line m = if m.is_serial_waiting then m else line_served (next_line m.serial) (with_serial (after_line m.serial) m)
 
 -- the number of whole lines in the ring
 abbrev pub line_count : SerialLine → ℕ

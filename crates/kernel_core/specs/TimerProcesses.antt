@@ -1,5 +1,7 @@
 -- Process 0 (etimer), which posts the timers that have run out, and process 1 (ctimer), for callback timers.
-use Rattle.std.specs.Prelude.{ℕ, Bool, false, ◌&&◌, Option, Some, None, is_some, if◌then◌else◌, ◌==◌, nat_le}
+use Rattle.std.specs.Prelude.{Bool, false, ◌&&◌, Option, Some, None, is_some, if◌then◌else◌, ◌==◌, nat_le}
+use Rattle.mote_types.specs.Kinds.{ProcessNumber}
+use Rattle.mote_types.specs.Limits.{etimer_process, first_application, last_application}
 use Rattle.mote_types.specs.declared.event.Event.{Event}
 use Rattle.mote_types.specs.declared.event.Payload.{Payload}
 use Rattle.mote_types.specs.EventNumbers.{POLL, EXITED, TIMER}
@@ -11,12 +13,10 @@ use Rattle.kernel_core.specs.Expiries.{expiries_cancelled}
 use Rattle.kernel_core.specs.Machine.{Machine, with_timers, with_event, free_places, mark}
 use Rattle.kernel_core.specs.Repeating.{times}
 
--- the application that an EXITED event names. Applications are the processes 4 to 19, and no other process exits
-abbrev pub exited_application : Payload → Option ℕ
-exited_application (Payload.Num p) = if nat_le 4 p && nat_le p 19 then Some p else None
+-- the application that an EXITED event names. No other process exits
+abbrev pub exited_application : Payload → Option ProcessNumber
+exited_application (Payload.Num p) = if nat_le first_application p && nat_le p last_application then Some p else None
 exited_application _ = None
-
--- etimer
 
 -- what is posted where a timer runs out
 abbrev pub expiry_of : Timer → Queued Bool
@@ -39,10 +39,10 @@ is_any_due m = is_some (first_due m.clock m.timers)
 abbrev pub post_due : Machine → Machine
 post_due m =
     let after = times (free_places m) post_first_due m in
-    if is_any_due after then mark 0 after else after
+    if is_any_due after then mark etimer_process after else after
 
 -- the event timers of a process that has ended leave the timer list
-abbrev pub forget_event_timers : Option ℕ → Machine → Machine
+abbrev pub forget_event_timers : Option ProcessNumber → Machine → Machine
 forget_event_timers None m = m
 forget_event_timers (Some p) m = with_timers (without_event_timers p m.timers) m
 
@@ -53,10 +53,8 @@ etimer event m =
     else if event.code == EXITED then forget_event_timers (exited_application event.payload) m
     else m
 
--- ctimer
-
 -- the callback timers of p leave the timer list, and their expiries are cancelled
-abbrev pub forget_callback_timers : Option ℕ → Machine → Machine
+abbrev pub forget_callback_timers : Option ProcessNumber → Machine → Machine
 forget_callback_timers None m = m
 forget_callback_timers (Some p) m = expiries_cancelled (λ q c. q == p) (with_timers (without_callback_timers p m.timers) m)
 

@@ -1,6 +1,7 @@
 -- The blocks of a process, by its own turns only.
-use Rattle.std.specs.Prelude.{ℕ, List, fold, Option, Some, None, if◌then◌else◌, ◌==◌}
+use Rattle.std.specs.Prelude.{List, fold, Option, Some, None, if◌then◌else◌, ◌==◌}
 use Rattle.std.specs.Option.{option_map, option_and_then}
+use Rattle.mote_types.specs.Kinds.{ProcessNumber, Handle, Bytes}
 use Rattle.mote_types.specs.declared.call.Call.{Call}
 use Rattle.mote_types.specs.declared.entry.Entry.{Entry}
 use Rattle.mote_types.specs.Bytes.{zeros, overwritten, resized}
@@ -9,16 +10,16 @@ use Rattle.kernel_core.specs.Laws.OwnTurns.{OwnTurn, own, is_done}
 
 -- the bytes of each block, if it is live
 abbrev pub Blocks : Type 0
-Blocks = ℕ → Option (List ℕ)
+Blocks = Handle → Option Bytes
 
 abbrev pub no_blocks : Blocks
 no_blocks name = None
 
-abbrev pub with_block : ℕ → Option (List ℕ) → Blocks → Blocks
+abbrev pub with_block : Handle → Option Bytes → Blocks → Blocks
 with_block name bytes blocks other = if other == name then bytes else blocks other
 
 -- the target's first bytes become those of the source
-abbrev pub copied : Option (List ℕ) → Option (List ℕ) → Option (List ℕ)
+abbrev pub copied : Option Bytes → Option Bytes → Option Bytes
 copied source target = option_and_then (λ bytes. option_map (overwritten 0 bytes) target) source
 
 -- the blocks of a kind after an accepted call
@@ -38,9 +39,9 @@ abbrev pub over_accepted : (Call → Touch) → List OwnTurn → Blocks
 over_accepted touch turns = fold (λ blocks turn. if is_done turn.reply then touched (touch turn.call) blocks else blocks) no_blocks turns
 
 -- p's block of that name after these entries, of the kind that such touches are on
-abbrev pub block : (Call → Touch) → List Entry → ℕ → ℕ → Option (List ℕ)
+abbrev pub block : (Call → Touch) → List Entry → ProcessNumber → Handle → Option Bytes
 block touch entries p name = over_accepted touch (own p entries) name
 
 -- p's managed block h
-abbrev pub managed_block : List Entry → ℕ → ℕ → Option (List ℕ)
+abbrev pub managed_block : List Entry → ProcessNumber → Handle → Option Bytes
 managed_block = block managed_touch

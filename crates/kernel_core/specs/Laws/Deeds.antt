@@ -1,17 +1,18 @@
 -- What each call does, if it is accepted, as far as the laws mention it: a row for every call.
-use Rattle.std.specs.Prelude.{ℕ, List}
+use Rattle.std.specs.Prelude.{ℕ}
+use Rattle.mote_types.specs.Kinds.{ProcessNumber, Handle, Offset, Bytes, TimerNumber, Ticks}
 use Rattle.mote_types.specs.declared.call.Call.{Call}
 use Rattle.mote_types.specs.declared.event.Event.{Event}
 
 -- what a call does with blocks of the caller's, in one kind of memory
 pub data Touch : Type 0 where
-  Makes : (name length : ℕ) → Touch
-  Resizes : (name length : ℕ) → Touch
-  Frees : (name : ℕ) → Touch
-  Writes : (name at : ℕ) (bytes : List ℕ) → Touch
-  Copies : (source target : ℕ) → Touch
-  Reads : (name at len : ℕ) → Touch
-  Sends : (name : ℕ) → Touch
+  Makes : (name : Handle) (length : ℕ) → Touch
+  Resizes : (name : Handle) (length : ℕ) → Touch
+  Frees : (name : Handle) → Touch
+  Writes : (name : Handle) (at : Offset) (bytes : Bytes) → Touch
+  Copies : (source target : Handle) → Touch
+  Reads : (name : Handle) (at : Offset) (len : ℕ) → Touch
+  Sends : (name : Handle) → Touch
   -- the reply is how much is free for the caller
   TellsFree : Touch
   -- nothing of this
@@ -21,12 +22,12 @@ pub data Deed : Type 0 where
   InManaged : Touch → Deed
   InHeap : Touch → Deed
   -- an event timer of the caller's is set, begins its interval again now, or where that ended, or is stopped
-  Sets : (timer interval : ℕ) → Deed
-  Restarts : (timer : ℕ) → Deed
-  Resets : (timer : ℕ) → Deed
-  Stops : (timer : ℕ) → Deed
+  Sets : (timer : TimerNumber) (interval : Ticks) → Deed
+  Restarts : (timer : TimerNumber) → Deed
+  Resets : (timer : TimerNumber) → Deed
+  Stops : (timer : TimerNumber) → Deed
   -- an event is posted for a process, or for all
-  Posts : (p : ℕ) → Event → Deed
+  Posts : (p : ProcessNumber) → Event → Deed
   PostsToAll : Event → Deed
   -- the caller ends
   Exits : Deed

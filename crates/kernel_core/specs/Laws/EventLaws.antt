@@ -1,6 +1,7 @@
 -- What a transcript shows of the events that were posted for a process.
-use Rattle.std.specs.Prelude.{◌≡◌, ℕ, Bool, true, false, ◌||◌, List, [], ◌∷◌, ◌++◌, filter_map, Option, Some, None, if◌then◌else◌, ◌==◌}
+use Rattle.std.specs.Prelude.{◌≡◌, Bool, true, false, ◌||◌, List, [], ◌∷◌, ◌++◌, filter_map, Option, Some, None, if◌then◌else◌, ◌==◌}
 use Rattle.std.specs.List.{list_any, cons_option}
+use Rattle.mote_types.specs.Kinds.{ProcessNumber, EventCode}
 use Rattle.mote_types.specs.declared.event.Stimulus.{Stimulus}
 use Rattle.mote_types.specs.declared.event.Origin.{Origin}
 use Rattle.mote_types.specs.declared.event.Event.{Event}
@@ -11,7 +12,7 @@ use Rattle.mote_types.specs.Entries.{is_halt}
 use Rattle.kernel_core.specs.Laws.Deeds.{Deed, deed}
 use Rattle.kernel_core.specs.Laws.OwnTurns.{own, reply_in, is_done}
 
-abbrev pub is_event_of_code : ℕ → Stimulus → Bool
+abbrev pub is_event_of_code : EventCode → Stimulus → Bool
 is_event_of_code code (Stimulus.Event event) = event.code == code
 is_event_of_code code _ = false
 
@@ -20,7 +21,7 @@ is_exit Deed.Exits = true
 is_exit _ = false
 
 -- whether p exited or was killed
-abbrev pub has_ended : ℕ → List Entry → Bool
+abbrev pub has_ended : ProcessNumber → List Entry → Bool
 has_ended p entries = list_any (λ turn. is_exit (deed turn.call) || is_event_of_code EXIT turn.stimulus) (own p entries)
 
 -- These entries of the transcript X end where the mote rests: before an input, or at the end of X, where that has no Halt
@@ -29,7 +30,7 @@ pub data IsAtRest (X : List Entry) : List Entry → Type 0 where
   at_end : list_any is_halt X ≡ false → IsAtRest X X
 
 -- the events that were delivered to p from the queue, except those that the kernel makes
-abbrev pub is_kernel_code : ℕ → Bool
+abbrev pub is_kernel_code : EventCode → Bool
 is_kernel_code code = code == TIMER || code == SERIAL_LINE || code == PACKET
 
 -- an event that an application posted, not one that the kernel makes
@@ -38,32 +39,32 @@ posted_event Origin.Event (Stimulus.Event event) = if is_kernel_code event.code 
 posted_event _ _ = None
 
 -- those that p received, in order
-abbrev pub given_events : List Entry → ℕ → List Event
+abbrev pub given_events : List Entry → ProcessNumber → List Event
 given_events entries p = filter_map (λ turn. posted_event turn.origin turn.stimulus) (own p entries)
 
 -- the event for p that a call posts: to p, or to all
-abbrev pub event_for : ℕ → Deed → Option Event
+abbrev pub event_for : ProcessNumber → Deed → Option Event
 event_for p (Deed.Posts q event) = if q == p then Some event else None
 event_for p (Deed.PostsToAll event) = Some event
 event_for p _ = None
 
 -- the event for p that this entry posts, if its call is accepted
-abbrev pub accepted_event : ℕ → Entry → List Entry → Option Event
+abbrev pub accepted_event : ProcessNumber → Entry → List Entry → Option Event
 accepted_event p (Entry.Turn pid origin stimulus call) later = if is_done (reply_in pid.0 later) then event_for p (deed call) else None
 accepted_event p _ later = None
 
 -- the events that were accepted for p, from whomever
-abbrev pub accepted_events : ℕ → List Entry → List Event
+abbrev pub accepted_events : ProcessNumber → List Entry → List Event
 accepted_events p [] = []
 accepted_events p (entry ∷ later) = cons_option (accepted_event p entry later) (accepted_events p later)
 
 -- what p received is a prefix of the events accepted for it
-abbrev pub InOrderFor : ℕ → List Entry → Type 0
+abbrev pub InOrderFor : ProcessNumber → List Entry → Type 0
 InOrderFor p X =
     (before later : List Entry) → before ++ later ≡ X → has_ended p before ≡ false
     → (waiting : List Event) × (given_events before p ++ waiting ≡ accepted_events p before)
 
 -- at rest, all of them
-abbrev pub NoLostEventFor : ℕ → List Entry → Type 0
+abbrev pub NoLostEventFor : ProcessNumber → List Entry → Type 0
 NoLostEventFor p X =
     (before : List Entry) → IsAtRest X before → has_ended p before ≡ false → given_events before p ≡ accepted_events p before

@@ -2,6 +2,7 @@
 use Rattle.std.specs.Prelude.{◌≡◌, ℕ, ◌+◌, Bool, true, false, List, [], ◌∷◌, ◌++◌, Option, Some, None, slice_get, if◌then◌else◌, ◌==◌}
 use Rattle.std.specs.List.{cons_option}
 use Rattle.std.specs.Option.{option_and_then}
+use Rattle.mote_types.specs.Kinds.{ProcessNumber, Ticks}
 use Rattle.mote_types.specs.declared.call.Call.{Call}
 use Rattle.mote_types.specs.declared.reply.Reply.{Reply}
 use Rattle.mote_types.specs.declared.event.Stimulus.{Stimulus}
@@ -16,17 +17,17 @@ reply_of (Stimulus.Answer reply) = Some reply
 reply_of _ = None
 
 -- the reply to p's last call before these entries: the one in its next turn
-abbrev pub reply_in : ℕ → List Entry → Option Reply
+abbrev pub reply_in : ProcessNumber → List Entry → Option Reply
 reply_in p later = option_and_then reply_of (slice_get (heard p later) 0)
 
-abbrev pub ticks_in : Entry → ℕ
+abbrev pub ticks_in : Entry → Ticks
 ticks_in (Entry.Input (Input.Tick n)) = n
 ticks_in _ = 0
 
 -- a turn of p
 pub record OwnTurn : Type 0 where
   -- the ticks before it
-  pub clock : ℕ
+  pub clock : Ticks
   pub origin : Origin
   pub stimulus : Stimulus
   pub call : Call
@@ -34,7 +35,7 @@ pub record OwnTurn : Type 0 where
   pub reply : Option Reply
 
 -- the turn of p that this entry is, if it is one, with the reply in the later entries
-abbrev pub own_turn : ℕ → ℕ → Entry → List Entry → Option OwnTurn
+abbrev pub own_turn : ProcessNumber → Ticks → Entry → List Entry → Option OwnTurn
 own_turn p clock (Entry.Turn pid origin stimulus call) later =
     if pid.0 == p
     then Some (record { clock = clock; origin = origin; stimulus = stimulus; call = call; reply = reply_in p later })
@@ -42,12 +43,12 @@ own_turn p clock (Entry.Turn pid origin stimulus call) later =
 own_turn p clock _ later = None
 
 -- the turns of p among these entries, the clock being this at the first
-abbrev pub own_from : ℕ → ℕ → List Entry → List OwnTurn
+abbrev pub own_from : ProcessNumber → Ticks → List Entry → List OwnTurn
 own_from p clock [] = []
 own_from p clock (entry ∷ later) = cons_option (own_turn p clock entry later) (own_from p (clock + ticks_in entry) later)
 
 -- the turns of p
-abbrev pub own : ℕ → List Entry → List OwnTurn
+abbrev pub own : ProcessNumber → List Entry → List OwnTurn
 own p entries = own_from p 0 entries
 
 abbrev pub is_done : Option Reply → Bool
@@ -65,5 +66,5 @@ pub record HasCall (X before : List Entry) (p : ℕ) (origin : Origin) (stimulus
   pub is_answered : reply_in p later ≡ Some reply
 
 -- the entries up to that call
-abbrev pub up_to_call : List Entry → ℕ → Origin → Stimulus → Call → List Entry
+abbrev pub up_to_call : List Entry → ProcessNumber → Origin → Stimulus → Call → List Entry
 up_to_call before p origin stimulus call = before ++ Entry.Turn (record { 0 = p }) origin stimulus call ∷ []

@@ -2,6 +2,7 @@
 use Rattle.std.specs.Prelude.{◌≡◌, ℕ, false, List, ◌∷◌, ◌++◌, Some}
 use Rattle.std.specs.List.{list_any}
 use Rattle.arrayvec.specs.ArrayVec.{ArrayVec}
+use Rattle.mote_types.specs.Kinds.{ProcessNumber, Handle}
 use Rattle.mote_types.specs.declared.call.Call.{Call}
 use Rattle.mote_types.specs.declared.event.Origin.{Origin}
 use Rattle.mote_types.specs.declared.event.Stimulus.{Stimulus}
@@ -13,8 +14,8 @@ use Rattle.kernel_core.specs.Laws.OwnTurns.{is_turn_entry, up_to_call}
 -- the last turn among these entries sends a block
 pub record Sender (entries : List Entry) : Type 0 where
   pub earlier : List Entry
-  pub p : ℕ
-  pub h : ℕ
+  pub p : ProcessNumber
+  pub h : Handle
   pub origin : Origin
   pub stimulus : Stimulus
   pub between : List Entry
