@@ -1,7 +1,8 @@
 -- The line of an entry: its words, with one space between each two.
-use Rattle.std.specs.Prelude.{ℕ, List, [], ◌∷◌, ◌++◌, length, map, codes, decimal, if◌then◌else◌, ◌==◌}
+use Rattle.std.specs.Prelude.{List, [], ◌∷◌, ◌++◌, length, map, codes, decimal, if◌then◌else◌, ◌==◌}
 use Rattle.std.specs.List.{join_by}
 use Rattle.hex.specs.Hex.{encode_lower}
+use Rattle.mote_types.specs.Kinds.{Bytes}
 use Rattle.mote_types.specs.Codes.{refusal_number}
 use Rattle.mote_types.specs.declared.event.Payload.{Payload}
 use Rattle.mote_types.specs.declared.event.Stimulus.{Stimulus}
@@ -13,10 +14,10 @@ use Rattle.mote_types.specs.declared.entry.Note.{Note}
 use Rattle.mote_types.specs.declared.entry.Entry.{Entry}
 
 abbrev pub Word : Type 0
-Word = List ℕ
+Word = Bytes
 
 -- two lower case digits for each byte, or a dash where there are none
-abbrev pub hex : List ℕ → Word
+abbrev pub hex : Bytes → Word
 hex bytes = if length bytes == 0 then codes "-" else encode_lower bytes
 
 -- `-`, a number, or bytes in hexadecimal behind an x
@@ -110,8 +111,8 @@ entry_words (Entry.Note (Note.Sent bytes)) = codes "note" ∷ codes "sent" ∷ h
 entry_words Entry.Halt = codes "halt" ∷ []
 
 -- the words, a space between each two, and the line's end
-unfoldable pub line_of : List Word → List ℕ
+unfoldable pub line_of : List Word → Bytes
 line_of words = join_by (λ word. word) (codes " ") words ++ codes "\n"
 
-unfoldable pub entry_line : Entry → List ℕ
+unfoldable pub entry_line : Entry → Bytes
 entry_line entry = line_of (entry_words entry)

@@ -1,5 +1,6 @@
 -- The text of a run: the lines of its entries, then the final line.
-use Rattle.std.specs.Prelude.{ℕ, Bool, true, false, not, ◌||◌, List, [], ◌∷◌, ◌++◌, flat_map, filter, codes, decimal}
+use Rattle.std.specs.Prelude.{Bool, true, false, not, ◌||◌, List, [], ◌∷◌, ◌++◌, flat_map, filter, codes, decimal}
+use Rattle.mote_types.specs.Kinds.{Bytes}
 use Rattle.mote_types.specs.declared.call.Call.{Call}
 use Rattle.mote_types.specs.declared.entry.Note.{Note}
 use Rattle.mote_types.specs.declared.entry.Entry.{Entry}
@@ -7,7 +8,7 @@ use Rattle.mote_text.specs.EntryText.{entry_line, line_of}
 use Rattle.mote_text.specs.declared.script.End.{End}
 
 -- what is written where the script isn't read to its end
-abbrev pub final_line : End → List ℕ
+abbrev pub final_line : End → Bytes
 final_line End.Finished = []
 final_line End.Halted = []
 final_line (End.BadLine n) = line_of (codes "bad" ∷ codes "line" ∷ decimal n ∷ [])
@@ -75,5 +76,5 @@ is_shown (Entry.Note (Note.Sent bytes)) quiet = true
 is_shown Entry.Halt quiet = true
 
 -- a line for each entry that is shown, and the final one
-abbrev pub text : Bool → List Entry → End → List ℕ
+abbrev pub text : Bool → List Entry → End → Bytes
 text quiet entries end = flat_map entry_line (filter (λ entry. is_shown entry quiet) entries) ++ final_line end
