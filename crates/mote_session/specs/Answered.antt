@@ -1,5 +1,6 @@
 -- Applications whose calls are those of some entries.
 use Rattle.std.specs.Prelude.{◌≡◌, ℕ, ◌-◌, zero, suc, List, [], ◌∷◌, ◌++◌, length, filter_map, Option, Some, None, if◌then◌else◌, ◌==◌}
+use Rattle.mote_types.specs.Kinds.{ProcessNumber}
 use Rattle.mote_types.specs.declared.call.Call.{Call}
 use Rattle.mote_types.specs.declared.entry.Entry.{Entry}
 use Rattle.mote_types.specs.declared.event.Origin.{Origin}
@@ -15,12 +16,12 @@ AnswersAs says entries =
     entries ≡ before ++ Entry.Turn pid origin stimulus call ∷ later → says pid.0 (heard pid.0 before ++ stimulus ∷ []) ≡ call
 
 -- the call of an entry that is a turn of p
-abbrev pub call_of : ℕ → Entry → Option Call
+abbrev pub call_of : ProcessNumber → Entry → Option Call
 call_of p (Entry.Turn pid origin stimulus call) = if pid.0 == p then Some call else None
 call_of p _ = None
 
 -- the calls of p
-abbrev pub calls_of : ℕ → List Entry → List Call
+abbrev pub calls_of : ProcessNumber → List Entry → List Call
 calls_of p entries = filter_map (call_of p) entries
 
 -- the call after n others; Wait, where there is none

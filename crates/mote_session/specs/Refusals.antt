@@ -1,6 +1,7 @@
 -- What a session refuses, and why. The first reason counts.
-use Rattle.std.specs.Prelude.{◌+◌, ◌^◌, Bool, true, not, ◌||◌, length, Option, None, Some, is_some, if◌then◌else◌, nat_le, nat_lt}
+use Rattle.std.specs.Prelude.{ℕ, ◌+◌, ◌^◌, Bool, true, not, ◌||◌, length, Option, None, Some, is_some, if◌then◌else◌, nat_le, nat_lt}
 use Rattle.std.specs.Option.{option_or}
+use Rattle.mote_types.specs.Kinds.{Ticks}
 use Rattle.mote_types.specs.declared.entry.Input.{Input}
 use Rattle.kernel_core.specs.Conditions.{ticks_of}
 use Rattle.kernel_core.specs.Run.{is_at_rest}
@@ -21,9 +22,16 @@ is_input (Input.Tick n) = true
 is_input (Input.Serial bytes) = nat_lt 0 (length bytes.items)
 is_input (Input.Frame bytes) = nat_lt 0 (length bytes.items)
 
--- 2^40 inputs were submitted, or the clock would exceed 2^62
+-- how many inputs a session takes, and the latest moment of its clock
+abbrev pub input_limit : ℕ
+input_limit = 2 ^ 40
+
+abbrev pub clock_limit : Ticks
+clock_limit = 2 ^ 62
+
+-- all inputs were submitted, or the clock would go further
 abbrev pub is_beyond : Input → SessionView → Bool
-is_beyond input session = nat_le (2 ^ 40) session.inputs || nat_lt (2 ^ 62) (session.machine.clock + ticks_of input)
+is_beyond input session = nat_le input_limit session.inputs || nat_lt clock_limit (session.machine.clock + ticks_of input)
 
 -- why this input can't be submitted at rest
 abbrev pub unfit : Input → SessionView → Option SessionRefusal
