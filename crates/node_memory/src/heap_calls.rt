@@ -113,13 +113,7 @@ impl NodeMemory {
     ///
     /// # Errors
     /// `BadName`, `NotLive` or `Range`.
-    pub fn heap_write(
-        &mut self,
-        pid: Pid,
-        block: u8,
-        at: u32,
-        bytes: &[u8],
-    ) -> Result<(), Refusal>
+    pub fn heap_write(&mut self, pid: Pid, block: u8, at: u32, bytes: &[u8]) -> Result<(), Refusal>
         requires least { 3 ≤ pid.0 }
         requires most { pid.0 ≤ 19 }
         requires few { length bytes.now ≤ 64 }

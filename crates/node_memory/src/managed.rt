@@ -91,13 +91,7 @@ impl NodeMemory {
     ///
     /// # Errors
     /// `BadName`, `NotLive` or `Range`.
-    pub fn mmem_write(
-        &mut self,
-        pid: Pid,
-        handle: u8,
-        at: u32,
-        bytes: &[u8],
-    ) -> Result<(), Refusal>
+    pub fn mmem_write(&mut self, pid: Pid, handle: u8, at: u32, bytes: &[u8]) -> Result<(), Refusal>
         requires least { 3 ≤ pid.0 }
         requires most { pid.0 ≤ 19 }
         requires few { length bytes.now ≤ 64 }

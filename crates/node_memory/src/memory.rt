@@ -176,9 +176,7 @@ impl NodeMemory {
             Call::HeapRealloc(block, n) => {
                 Reply::done_or_refused(self.heap_realloc(pid, *block, *n))
             }
-            Call::HeapFree(block) => {
-                Reply::done_or_refused(self.heap_free(pid, *block))
-            }
+            Call::HeapFree(block) => { Reply::done_or_refused(self.heap_free(pid, *block)) }
             Call::HeapWrite(block, at, chunk) => {
                 Reply::done_or_refused(self.heap_write(pid, *block, *at, chunk.as_slice()))
             }
