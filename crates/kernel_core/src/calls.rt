@@ -169,8 +169,7 @@ impl KernelFields {
     }
 
     /// Executes a call on managed memory.
-    // A function of its own, as those for other memory are: inlined they would take registers and room from all other calls.
-    #[inline(never)]
+    #[inline(always)]
     fn ask_managed(&mut self, pid: Pid, call: &Call)
         requires at_turn { IsAtTurn pid self.old }
         requires kind { kind_of call.now ≡ kinds.CallKind.Managed }
@@ -180,9 +179,7 @@ impl KernelFields {
         match call {
             Call::MmemAlloc(handle, n) => self.alloc_managed(pid, *handle, *n),
             Call::MmemFree(handle) => self.free_managed(pid, *handle),
-            Call::MmemWrite(handle, at, chunk) => {
-                self.write_managed(pid, *handle, *at, chunk)
-            }
+            Call::MmemWrite(handle, at, chunk) => { self.write_managed(pid, *handle, *at, chunk) }
             Call::MmemRead(handle, at, len) => self.read_managed(pid, *handle, *at, *len),
             Call::MmemCopy(source, target) => self.copy_managed(pid, *source, *target),
             Call::MmemAvail => self.count_managed(pid),
@@ -191,6 +188,7 @@ impl KernelFields {
     }
 
     /// Executes a call on heap memory.
+    // A function of its own, as each call on managed memory is.
     #[inline(never)]
     fn ask_heap(&mut self, pid: Pid, call: &Call)
         requires at_turn { IsAtTurn pid self.old }

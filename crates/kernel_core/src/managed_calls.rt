@@ -10,8 +10,10 @@ use crate::fields::KernelFields;
 use mote_types::event::Pid;
 use mote_types::reply::{Chunk, Reply};
 
+// Each is a function of its own: inlined they would take registers and room from all other calls.
 impl KernelFields {
     /// Allocates a block of `n` zeros for a handle.
+    #[inline(never)]
     pub fn alloc_managed(&mut self, pid: Pid, handle: u8, n: u32)
         requires at_turn { IsAtTurn pid self.old }
         ensures machine { machine_of self.new ≡ after_call (Call.MmemAlloc handle n) pid.0 (machine_of self.old) }
@@ -22,6 +24,7 @@ impl KernelFields {
     }
 
     /// Frees a handle's block.
+    #[inline(never)]
     pub fn free_managed(&mut self, pid: Pid, handle: u8)
         requires at_turn { IsAtTurn pid self.old }
         ensures machine { machine_of self.new ≡ after_call (Call.MmemFree handle) pid.0 (machine_of self.old) }
@@ -32,6 +35,7 @@ impl KernelFields {
     }
 
     /// Writes bytes into a handle's block, from offset `at` on.
+    #[inline(never)]
     pub fn write_managed(&mut self, pid: Pid, handle: u8, at: u32, chunk: &Chunk)
         requires at_turn { IsAtTurn pid self.old }
         ensures machine { machine_of self.new ≡ after_call (Call.MmemWrite handle at chunk.now) pid.0 (machine_of self.old) }
@@ -42,6 +46,7 @@ impl KernelFields {
     }
 
     /// Reads `len` bytes of a handle's block, from offset `at` on.
+    #[inline(never)]
     pub fn read_managed(&mut self, pid: Pid, handle: u8, at: u32, len: u8)
         requires at_turn { IsAtTurn pid self.old }
         ensures machine { machine_of self.new ≡ after_call (Call.MmemRead handle at len) pid.0 (machine_of self.old) }
@@ -54,6 +59,7 @@ impl KernelFields {
     }
 
     /// Copies all bytes of one handle's block to the front of another one's.
+    #[inline(never)]
     pub fn copy_managed(&mut self, pid: Pid, source: u8, target: u8)
         requires at_turn { IsAtTurn pid self.old }
         ensures machine { machine_of self.new ≡ after_call (Call.MmemCopy source target) pid.0 (machine_of self.old) }
@@ -64,6 +70,7 @@ impl KernelFields {
     }
 
     /// Returns the number of bytes that are free for the application.
+    #[inline(never)]
     pub fn count_managed(&mut self, pid: Pid)
         requires at_turn { IsAtTurn pid self.old }
         ensures machine { machine_of self.new ≡ after_call Call.MmemAvail pid.0 (machine_of self.old) }
