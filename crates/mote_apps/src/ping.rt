@@ -75,23 +75,23 @@ impl Ping {
     }
 
     /// The answer to `AllocEvent` has come.
-    fn begin(&mut self, reply: &Reply) -> Call
-        ensures call { result ≡ asked_answer (number_given reply.now) }
+    fn begin(&mut self, reply: &Reply, call: &mut Call)
+        ensures call { call.new ≡ asked_answer (number_given reply.now) }
         ensures state { self.new ≡ asked_next (number_given reply.now) self.old }
     {
         self.stage = Stage::Idle;
         match given_number(reply) {
             Some(number) => {
                 self.number = Some(number);
-                Call::TimerSet(0, INTERVAL)
+                *call = Call::TimerSet(0, INTERVAL);
             }
-            None => Call::Exit,
+            None => *call = Call::Exit,
         }
     }
 
     /// The timer has run out.
-    fn ring(&mut self) -> Call
-        ensures call { result ≡ ring_answer self.old.number self.old.count }
+    fn ring(&mut self, call: &mut Call)
+        ensures call { call.new ≡ ring_answer self.old.number self.old.count }
         ensures state { self.new ≡ ring_next self.old.number self.old }
     {
         match self.number {
@@ -99,9 +99,9 @@ impl Ping {
                 let count = self.count;
                 self.count = count.saturating_add(1);
                 self.stage = Stage::Sent;
-                Call::Broadcast(number, Payload::Num(count))
+                *call = Call::Broadcast(number, Payload::Num(count));
             }
-            None => Call::Wait,
+            None => *call = Call::Wait,
         }
     }
 }
@@ -123,7 +123,7 @@ impl App for Ping {
                 self.stage = Stage::Asked;
                 *call = Call::AllocEvent;
             }
-            Stimulus::Event(Event { code: TIMER, .. }) => *call = self.ring(),
+            Stimulus::Event(Event { code: TIMER, .. }) => self.ring(call),
             Stimulus::Event(
                 Event {
                     code,
@@ -132,7 +132,7 @@ impl App for Ping {
             ) if self.number == Some(*code) => put_count(call, *n),
             Stimulus::Answer(reply) => match self.stage {
                 Stage::Idle => *call = Call::Wait,
-                Stage::Asked => *call = self.begin(reply),
+                Stage::Asked => self.begin(reply, call),
                 Stage::Sent => {
                     self.stage = Stage::Idle;
                     *call = Call::TimerReset(0);
