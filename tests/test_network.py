@@ -99,6 +99,15 @@ def test_default_room() -> None:
     assert lines[begin:] == ["2 > frame 0a"] * 8 + ["2 > frame 0a", "2 note lost 1"] * 1016
 
 
+def test_plain_network(sanitizing_compiler: str) -> None:
+    """The network in plain C that the benchmark sets beside this one writes the same, under the sanitizers."""
+    built = ROOT / "crates/network/out/network"
+    if not built.exists():
+        pytest.skip("the program network isn't built")
+    ran = run(ROOT / "bench/networks", "--cc", sanitizing_compiler, "--same", built)
+    assert (ran.returncode, ran.stdout) == (0, b""), told(ran)
+
+
 # ---- Malformed lines ----
 
 TWO = "mote 1..2 relay\n"
