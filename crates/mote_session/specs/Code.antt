@@ -1,2 +1,3 @@
 -- The code's invariants. Not needed to know what a session promises.
 pub mod Places
+pub mod Working

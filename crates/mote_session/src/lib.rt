@@ -1,6 +1,7 @@
 //! A mote used step by step: its caller asks for the next step, and submits inputs and the calls of the applications.
 #![tactic(auto)]
 
+pub mod caller;
 mod last_entry;
 pub mod laws;
 pub mod refusal;

@@ -1,24 +1,27 @@
 //! A mote asked step by step.
 
-ghost use Rattle.std.specs.Prelude.{◌≡◌, ◌≢◌, ◌≤◌, ◌+◌, ◌^◌, ◌++◌, ◌↔◌, None, Some, false, true, IfErr, IfOk, IfSome, IfNone, IsErrOf, IsSomeAnd};
+ghost use Rattle.std.specs.Prelude.{◌≡◌, ◌≢◌, ◌≤◌, ◌+◌, ◌^◌, ◌++◌, ◌↔◌, None, Some, not, false, true, is_some, IfErr, IfOk, IfSome, IfNone, IsErrOf, IsSomeAnd};
 ghost use Rattle.mote_text.specs.EntryText.{entry_line};
 ghost use Rattle.mote_text.specs.Code.Appending.{HasRoom};
 ghost use Rattle.mote_text.specs.Code.EntryLines.{entry_line_limit};
 ghost use Rattle.mote_text.specs.Script.{read_line};
+ghost use Rattle.mote_types.specs.declared.entry.Entry.{Entry as Made};
 ghost use Rattle.kernel_core.specs.Calls.{after_call};
 ghost use Rattle.kernel_core.specs.Conditions.{ticks_of};
 ghost use Rattle.kernel_core.specs.Machine.{booted, is_bootable};
 ghost use Rattle.kernel_core.specs.declared.turn.Turn.{Turn as Taken};
 ghost use Rattle.timer_core.specs.Deadlines.{next_deadline};
 ghost use Rattle.std.specs.Option.{option_copied};
-ghost use Rattle.mote_session.specs.Sent.{sent_in};
-ghost use Rattle.mote_session.specs.Code.Places.{AreInPlace, session_view};
+ghost use Rattle.mote_session.specs.Sent.{is_last_shown, sent_in};
+ghost use Rattle.mote_session.specs.Code.Places.{AreInPlace, session_view, turn_in};
+ghost use Rattle.mote_session.specs.Code.Working.{MakesCall, TurnTaken, WorksBy};
 ghost use Rattle.mote_session.specs.History.{History, at_boot, with_call, with_input, with_said};
 ghost use Rattle.mote_session.specs.Refusals.{input_refusal, is_input, line_refusal, unfit, unrest};
 ghost use Rattle.mote_session.specs.SessionRuns.{IsHistoryOf, KeepsPromise};
 ghost use Rattle.mote_session.specs.SessionView.{rests};
 ghost use Rattle.mote_session.specs.Steps.{Advances, HasSameInputs, IsSubmitted, IsFed, TakesLine, with_made};
 
+use crate::caller::Caller;
 use crate::last_entry::LastEntry;
 use crate::laws::{histories_go_on, histories_keep_promise};
 use crate::refusal::SessionRefusal;
@@ -30,7 +33,7 @@ use kernel_core::turn::Turn;
 use mote_text::hex_digits::DigitValues;
 use mote_text::line::OutputBuffer;
 use mote_text::script::{BadLine, read_input_by};
-use mote_text::transcript::{push_entry, push_turn_line};
+use mote_text::transcript::{is_shown, is_turn_shown, push_entry, push_turn_line};
 use mote_types::call::Call;
 use mote_types::entry::{Entry, Input, Note};
 use mote_types::event::{Origin, Pid, Stimulus};
@@ -51,6 +54,21 @@ pub enum Next {
     Turn,
     /// Another entry was made: of an input, a note, or that the mote was halted.
     Entry,
+    /// Nothing is left to be done without an input.
+    Rest,
+    /// The mote was halted before: nothing follows.
+    Halted,
+}
+
+/// The result of `next_by`.
+#[derive(Clone, Copy, Debug, PartialEq, Eq, Drop)]
+pub enum Worked {
+    /// An application took a turn, and its call was submitted.
+    Turn,
+    /// Another entry was made: of an input, a note, or that the mote was halted.
+    Entry,
+    /// The caller has no application that must take a turn, and its call is awaited.
+    NoCall,
     /// Nothing is left to be done without an input.
     Rest,
     /// The mote was halted before: nothing follows.
@@ -131,6 +149,77 @@ fn submit_in(kernel: &mut AwaitingKernel, turn: &mut Turn, pid: Pid, call: Call)
 {
     turn.call = call;
     kernel.submit(pid, &turn.call);
+}
+
+/// Has the caller put a call into the turn that awaits it, and executes it. Returns whether there was one.
+fn call_in<H: Caller>(
+    kernel: &mut AwaitingKernel,
+    turn: &mut Turn,
+    pid: Pid,
+    mote: usize,
+    caller: &mut H,
+) -> bool
+    requires { kernel.old.turn ≡ Some pid }
+    ensures turn { turn.new ≡ record turn.old { call = turn.new.call } }
+    ensures machine { result ≡ true → kernel.new.mote.machine ≡ after_call turn.new.call pid.0 kernel.old.mote.machine }
+    ensures closed { result ≡ true → kernel.new.turn ≡ None }
+    ensures clock { kernel.new.mote.machine.clock ≡ kernel.old.mote.machine.clock }
+    ensures inputs { kernel.new.mote.inputs ≡ kernel.old.mote.inputs }
+    ensures left { kernel.new.mote.entries_left ≤ kernel.old.mote.entries_left + 1 }
+    ensures none { result ≡ false → kernel.new ≡ kernel.old }
+{
+    let Turn {
+        pid: _,
+        origin,
+        stimulus,
+        call,
+    } = turn;
+    let open = OpenTurn {
+        process: pid,
+        origin: *origin,
+        stimulus,
+    };
+    if !caller.call_into(mote, open, call) {
+        return false;
+    }
+    kernel.submit(pid, call);
+    true
+}
+
+/// The same, and notes that the turn was the last entry, if there was a call.
+fn take_in<H: Caller>(
+    kernel: &mut AwaitingKernel,
+    turn: &mut Turn,
+    last: &mut LastEntry,
+    pid: Pid,
+    mote: usize,
+    caller: &mut H,
+) -> bool
+    requires open { kernel.old.turn ≡ Some pid }
+    requires place { turn.old.pid ≡ pid }
+    ensures submitted { result ≡ true → (taken working : Taken) (other : Made) →
+        MakesCall (session_view kernel.old turn.old taken other last.old) (session_view kernel.new working turn.new other last.new) }
+    ensures closed { result ≡ true → kernel.new.turn ≡ None }
+    ensures none { result ≡ false → (kernel.new ≡ kernel.old) × (last.new ≡ last.old) }
+    ensures turn { turn.new ≡ record turn.old { call = turn.new.call } }
+{
+    let is_made = call_in(kernel, turn, pid, mote, caller);
+    if is_made {
+        *last = LastEntry::Turn;
+        return true;
+    }
+    false
+}
+
+/// The one buffer or the other.
+fn turn_in<'a>(takes_odd: bool, odd: &'a Turn, even: &'a Turn) -> &'a Turn
+    ensures { result.now ≡ turn_in takes_odd odd.now even.now }
+{
+    if takes_odd {
+        odd
+    } else {
+        even
+    }
 }
 
 /// A mote whose caller makes the calls of its applications.
@@ -268,6 +357,85 @@ impl Session {
         self.last = LastEntry::Turn;
     }
 
+    /// Works as `next`, and has `caller`, which knows this mote by the number `mote`, make the call of an application that must take a
+    /// turn, and submits it. The call needs no copy.
+    ///
+    /// # Errors
+    ///
+    /// `AwaitsCall` exactly where a turn awaits its call.
+    pub fn next_by<H: Caller>(
+        &mut self,
+        mote: usize,
+        caller: &mut H,
+    ) -> Result<Worked, SessionRefusal>
+        ensures worked { IfOk result (λ worked. (self.old.turn ≡ None) × WorksBy worked self.old self.new) }
+        ensures refused { IfErr result (λ refusal. (refusal ≡ SessionRefusal.AwaitsCall) × (self.old.turn ≢ None) × (self.new ≡ self.old)) }
+    {
+        if self.kernel.turn().is_some() {
+            return Err(SessionRefusal::AwaitsCall);
+        }
+        Ok(self.advance_by(mote, caller))
+    }
+
+    /// Works as `next_by`, where no turn awaits its call.
+    fn advance_by<H: Caller>(&mut self, mote: usize, caller: &mut H) -> Worked
+        requires { self.old.turn ≡ None }
+        ensures { WorksBy result self.old self.new }
+    {
+        match self.advance() {
+            Next::Turn => self.take_turn(mote, caller),
+            Next::Entry => Worked::Entry,
+            Next::Rest => Worked::Rest,
+            Next::Halted => Worked::Halted,
+        }
+    }
+
+    /// Has the caller make the call of the turn that awaits it, if there is one.
+    fn take_turn<H: Caller>(&mut self, mote: usize, caller: &mut H) -> Worked
+        requires { self.old.turn ≢ None }
+        ensures { TurnTaken result self.old self.new }
+    {
+        match self.kernel.turn() {
+            Some(pid) if self.end_turn_by(pid, mote, caller) => Worked::Turn,
+            _ => Worked::NoCall,
+        }
+    }
+
+    /// Has the caller make the call of the application whose turn it is, and executes it.
+    fn end_turn_by<H: Caller>(&mut self, pid: Pid, mote: usize, caller: &mut H) -> bool
+        requires { IsSomeAnd self.old.turn (λ turn. turn.process ≡ pid) }
+        ensures submitted { result ≡ true → MakesCall self.old self.new }
+        ensures none { result ≡ false → self.new ≡ self.old }
+    {
+        if self.works_in_odd {
+            if !take_in(
+                &mut self.kernel,
+                &mut self.odd,
+                &mut self.last,
+                pid,
+                mote,
+                caller,
+            ) {
+                return false;
+            }
+            self.works_in_odd = false;
+            true
+        } else {
+            if !take_in(
+                &mut self.kernel,
+                &mut self.even,
+                &mut self.last,
+                pid,
+                mote,
+                caller,
+            ) {
+                return false;
+            }
+            self.works_in_odd = true;
+            true
+        }
+    }
+
     /// Submits what a line of a script says, without its end. An empty line or a comment submits nothing.
     ///
     /// # Errors
@@ -350,11 +518,7 @@ impl Session {
             self.now.turn ≡ Some (record { process = turn.process; origin = turn.origin; stimulus = turn.stimulus.now })) }
         ensures none { IfNone result (self.now.turn ≡ None) }
     {
-        let turn = if self.works_in_odd {
-            &self.odd
-        } else {
-            &self.even
-        };
+        let turn = turn_in(self.works_in_odd, &self.odd, &self.even);
         match self.kernel.turn() {
             Some(process) => Some(OpenTurn {
                 process,
@@ -393,6 +557,21 @@ impl Session {
         }
     }
 
+    /// Whether a transcript shows the last entry, if one was made. A quiet one shows the turns that print or send, the frames that were
+    /// sent, and `halt`.
+    pub fn shows_last(&self, quiet: bool) -> bool
+        ensures { result ≡ is_last_shown quiet self.now.last }
+    {
+        match self.last {
+            LastEntry::Missing => false,
+            LastEntry::Turn => {
+                let turn = turn_in(!self.works_in_odd, &self.odd, &self.even);
+                is_turn_shown(&turn.call, quiet)
+            }
+            LastEntry::Other => is_shown(&self.other, quiet),
+        }
+    }
+
     /// Whether an input can be submitted: no turn awaits its call, nothing is left to do, and the mote wasn't halted.
     pub fn at_rest(&self) -> bool
         ensures { result ≡ rests self.now }
@@ -405,6 +584,16 @@ impl Session {
         ensures { result ≡ self.now.machine.is_halted }
     {
         self.kernel.halted()
+    }
+
+    /// Whether the last entry has a line: one was made, and no turn awaits its call.
+    pub fn has_line(&self) -> bool
+        ensures { result ≡ is_some self.now.last }
+    {
+        match self.last {
+            LastEntry::Missing => false,
+            LastEntry::Turn | LastEntry::Other => true,
+        }
     }
 
     /// Appends the transcript's line of the last entry, with its end: at most 640 bytes.
@@ -420,11 +609,7 @@ impl Session {
         match self.last {
             LastEntry::Missing => return Err(SessionRefusal::NoLine),
             LastEntry::Turn => {
-                let turn = if self.works_in_odd {
-                    &self.even
-                } else {
-                    &self.odd
-                };
+                let turn = turn_in(!self.works_in_odd, &self.odd, &self.even);
                 push_turn_line(turn.pid, turn.origin, &turn.stimulus, &turn.call, line)
             }
             LastEntry::Other => push_entry(&self.other, line),

@@ -7,6 +7,7 @@ mod hex_blocks;
 pub mod hex_digits;
 pub mod line;
 pub mod lines;
+pub mod numbers;
 mod page;
 pub mod script;
 pub mod transcript;

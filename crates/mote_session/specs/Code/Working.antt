@@ -1,0 +1,39 @@
+-- What a session does whose caller makes the calls at once.
+use Rattle.std.specs.Prelude.{◌≡◌}
+use Rattle.mote_types.specs.declared.call.Call.{Call}
+use Rattle.mote_session.specs.SessionView.{SessionView}
+use Rattle.mote_session.specs.Steps.{Advances, HasSameInputs, IsSubmitted}
+use Rattle.mote_session.specs.declared.session.Next.{Next}
+use Rattle.mote_session.specs.declared.session.Worked.{Worked}
+
+-- a step of the session
+pub record DoesNext (next : Next) (old new : SessionView) : Type 0 where
+  pub advances : Advances next old new
+  pub same : HasSameInputs old new
+
+-- the call of the turn that awaits it is submitted
+pub record MakesCall (old new : SessionView) : Type 0 where
+  pub call : Call
+  pub submitted : IsSubmitted call old new
+  pub same : HasSameInputs old new
+
+-- an application receives something, and makes its call
+pub record TakesTurn (old new : SessionView) : Type 0 where
+  pub mid : SessionView
+  pub opens : DoesNext Next.Turn old mid
+  pub calls : MakesCall mid new
+
+abbrev pub WorksBy : Worked → SessionView → SessionView → Type 0
+WorksBy Worked.Turn old new = TakesTurn old new
+WorksBy Worked.NoCall old new = DoesNext Next.Turn old new
+WorksBy Worked.Entry old new = DoesNext Next.Entry old new
+WorksBy Worked.Rest old new = DoesNext Next.Rest old new
+WorksBy Worked.Halted old new = DoesNext Next.Halted old new
+
+-- a turn that was open is taken, or stays open
+abbrev pub TurnTaken : Worked → SessionView → SessionView → Type 0
+TurnTaken Worked.Turn old new = MakesCall old new
+TurnTaken Worked.NoCall old new = new ≡ old
+TurnTaken Worked.Entry old new = ⊥
+TurnTaken Worked.Rest old new = ⊥
+TurnTaken Worked.Halted old new = ⊥
