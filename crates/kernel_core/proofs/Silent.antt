@@ -1,5 +1,6 @@
 -- The scheduler's items that are no jobs, as steps of the machine that make no entry.
-use Rattle.std.proofs.Common.{◌≡◌, ℕ, zero, suc, false, refl}
+use Rattle.std.proofs.Common.{◌≡◌, ℕ, zero, suc, false, refl, subst, None}
+use Rattle.process_core.specs.Code.Yields.{Yields}
 use Rattle.kernel_core.proofs.Common.{option_map, Job, job_carrying, carrying, Scheduler, job, after_front, after_items, ComesTo, ComesToJob, Armings, is_cancelled, Machine, Answers, silent, one_step, job_done, Silently, GoesSilently}
 use Rattle.kernel_core.proofs.Repeating.{after_items-keep}
 use Rattle.kernel_core.proofs.Carrying.{after_front-carrying, job-carrying}
@@ -34,6 +35,9 @@ module _ (armings : Armings) (answers : Answers) (m : Machine) (running : m.is_h
   after_items_silently n s =
       after_items-keep (λ t. GoesSilently answers (at s) (at t))
       (λ t none so_far. goes_on so_far (silent_step (rw (one_step_at t, none) refl))) n s (silently_here (at s))
+
+  pub items_silently : (s after : Scheduler ℕ) → Yields s None after → GoesSilently answers (at s) (at after)
+  items_silently s after (n, same) = subst (λ t. GoesSilently answers (at s) (at t)) same (after_items_silently n s)
 
   -- up to this job
   pub job_reached : (s after : Scheduler ℕ) (next : Job ℕ) → ComesTo s next after → ComesToJob armings answers (at s) next (at after)

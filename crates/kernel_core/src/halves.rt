@@ -34,9 +34,7 @@ impl KernelFields {
             self.pending.take_first(other);
             return StepOutcome::Other;
         }
-        if self.pass_idle_round() {
-            return StepOutcome::Rest;
-        }
+        self.pass_idle_poll();
         self.work_on(turn, other)
     }
 

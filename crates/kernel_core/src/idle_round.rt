@@ -1,38 +1,36 @@
-//! A round in which only etimer acts: it looks for due timers, and finds none.
+//! A poll round in which only etimer acts: it looks for due timers, and finds none.
 
 ghost use Rattle.std.specs.Prelude.{◌≡◌, ◌≤◌, ◌<◌, ◌+◌, ◌^◌, true, false};
 ghost use Rattle.kernel_core.specs.Code.View.{machine_of, IsAtWork, IsInOrder};
-ghost use Rattle.kernel_core.specs.Code.IdleRound.{has_idle_round, is_idle_tick, RestsAfter};
+ghost use Rattle.kernel_core.specs.Code.IdleRound.{is_idle_tick, RestsAfter};
 ghost use Rattle.kernel_core.specs.Conditions.{ticks_of};
 ghost use Rattle.kernel_core.specs.Run.{Answers, is_at_rest};
-ghost use Rattle.kernel_core.specs.Code.Steps.{GoesToRest};
+ghost use Rattle.kernel_core.specs.Code.Steps.{GoesSilently};
 
 use crate::fields::{KernelFields, WORK_LIMIT};
 use mote_types::entry::Input;
 use mote_types::event::ETIMER;
 
 impl KernelFields {
-    /// Makes such a round in one go, where the next one is such a round: it begins, etimer is polled, and there is rest.
+    /// Where the next poll round would only poll etimer, and no timer is due, begins the round and passes that poll.
     /// Otherwise does nothing.
     #[inline]
-    pub fn pass_idle_round(&mut self) -> bool
+    pub fn pass_idle_poll(&mut self)
         requires at_work { IsAtWork self.old }
-        ensures value { result ≡ has_idle_round (machine_of self.old) }
-        ensures passed { result ≡ true → (answers : Answers) → GoesToRest answers (machine_of self.old) (machine_of self.new) }
+        ensures passed { (answers : Answers) → GoesSilently answers (machine_of self.old) (machine_of self.new) }
         ensures order { IsInOrder self.new }
         ensures kept { self.new ≡ record self.old { work = self.new.work; scheduler = self.new.scheduler } }
         ensures applications { self.new.scheduler.state.applications ≡ self.old.scheduler.state.applications }
-        ensures else_nothing { result ≡ false → self.new ≡ self.old }
+        ensures work { self.old.work ≤ self.new.work }
     {
         if !self.scheduler.polls_alone(ETIMER)
             || self.work == WORK_LIMIT
             || self.timers.any_due(self.clock)
         {
-            return false;
+            return;
         }
         self.work += 1;
-        self.scheduler.unmark(ETIMER);
-        true
+        self.scheduler.pass_poll(ETIMER);
     }
 
     /// Accepts a tick that leaves no timer due, and makes the round that follows, in one go: the entry is made, etimer is

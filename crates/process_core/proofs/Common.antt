@@ -8,10 +8,11 @@ pub use Rattle.mote_types.specs.declared.event.Stimulus.{Stimulus}
 pub use Rattle.mote_types.specs.declared.reply.Reply.{Reply}
 pub use Rattle.process_core.specs.Agenda.{Item, Job}
 pub use Rattle.process_core.specs.Code.KernelReceivers.{behind_kernel_receivers, is_other_than, kernel_receivers_passed}
-pub use Rattle.process_core.specs.Code.LonePoll.{IsLonePoll, is_only_marked, polls_alone, unmarked}
+pub use Rattle.process_core.specs.Code.LonePoll.{IsLonePoll, is_only_marked, polled_alone, polls_alone, unmarked}
 pub use Rattle.process_core.specs.Code.Nesting.{AreIn, IsNested, IsSound, answering, has_ended, is_one_of, leaving}
 pub use Rattle.process_core.specs.Code.OpenWork.{agenda_of, base_items, front_items, items_of, poll_items, receiver_items}
-pub use Rattle.process_core.specs.Code.ProcessList.{EndsWithKernel, IsKept, kernel_numbers, listed, mark_at, mark_count, others, process_at, state_at}
+pub use Rattle.process_core.specs.Code.ProcessList.{EndsWithKernel, IsKept, kernel_numbers, listed, others, process_at, state_at}
+unfoldable pub use Rattle.process_core.specs.Code.ProcessList.{mark_at, with_bit}
 pub use Rattle.process_core.specs.Code.SchedulerFields.{BootsKnown, HoldsEvent, IsBare, IsInOrder, IsOrdered, StartsKnown, active_in, front_after, queued_of, scheduler_behind, scheduler_of, turn_in}
 pub use Rattle.process_core.specs.Code.SchedulerView.{job_of}
 pub use Rattle.process_core.specs.Code.Walks.{from_application, from_marked, is_broadcast, is_kernel_next, passes_receiver, receiver_is_next}
@@ -35,6 +36,6 @@ pub use Rattle.process_core.specs.declared.process.Process.{Process}
 pub use Rattle.process_core.specs.declared.open_work.Base.{Base}
 pub use Rattle.process_core.specs.declared.open_work.Continuation.{Continuation}
 pub use Rattle.process_core.specs.declared.state.State.{State}
-pub use Rattle.std.proofs.Common.{Bool, IfNone, List, None, Option, Some, [], add-one, ap, arith, drop, eqb, false, flat_map, if◌then◌else◌, is_some, length, lit<, map, nat_eq, nat_lt, not, refl, replicate, reverse, set, slice_get, suc, sym, take, true, zero, ℕ, ◌&&◌, ◌*◌, ◌++◌, ◌+◌, ◌-◌, ◌<◌, ◌==◌, ◌∙◌, ◌∷◌, ◌≡◌, ◌≢◌, ◌≤◌}
+pub use Rattle.std.proofs.Common.{Bool, IfNone, List, None, Option, Some, [], add-one, ap, arith, drop, eqb, false, flat_map, if◌then◌else◌, is_some, length, lit<, map, nat_eq, nat_lt, not, refl, replicate, reverse, set, slice_get, suc, sym, take, true, zero, ℕ, ◌&&◌, ◌*◌, ◌++◌, ◌+◌, ◌-◌, ◌<◌, ◌==◌, ◌^◌, ◌∙◌, ◌∷◌, ◌≡◌, ◌≢◌, ◌≤◌}
 pub use Rattle.process_core.specs.declared.scheduler_fields.SchedulerFields.{SchedulerFields}
 pub use Rattle.process_core.specs.declared.front.Front.{Front}

@@ -1,5 +1,5 @@
 -- A round that only polls one process of the kernel.
-use Rattle.process_core.proofs.Common.{◌≡◌, ℕ, ◌<◌, ◌==◌, Bool, true, false, ◌&&◌, List, [], ◌∷◌, length, refl, arith, Some, not, map, nat_tests, POLL, plain_event, Item, Job, from_marked, queued_of, is_one_of, is_empty, is_only_marked, polls_alone, numbers, is_marked, is_any_marked, is_kernel_process, with_mark, Scheduler, in_front, Process, unmarked, IsLonePoll, zero, suc, ◌≤◌, nat_eq, ◌++◌, drop, ◌∙◌, flat_map, reverse, length-reverse, Event, front_items, items_of, base_items, agenda_of, Base, Continuation, SchedulerFields, sym, ap, if◌then◌else◌, is_other_than, from_application, is_kernel_next, passes_receiver, kernel_receivers_passed, scheduler_of, receiver_is_next, poll_items, receiver_items, behind_kernel_receivers, is_broadcast, is_idle, marked, state_of, State}
+use Rattle.process_core.proofs.Common.{◌≡◌, ℕ, ◌<◌, ◌==◌, Bool, ComesTo, wants_round, true, false, ◌&&◌, List, [], ◌∷◌, length, refl, arith, Some, not, map, nat_tests, POLL, plain_event, Item, Job, from_marked, queued_of, is_one_of, is_empty, is_only_marked, polled_alone, polls_alone, numbers, is_marked, is_any_marked, is_kernel_process, with_mark, Scheduler, in_front, Process, unmarked, IsLonePoll, zero, suc, ◌≤◌, nat_eq, ◌++◌, drop, ◌∙◌, flat_map, nat_lt, reverse, length-reverse, Event, front_items, items_of, base_items, agenda_of, Base, Continuation, SchedulerFields, sym, ap, if◌then◌else◌, is_other_than, from_application, is_kernel_next, passes_receiver, kernel_receivers_passed, scheduler_of, receiver_is_next, poll_items, receiver_items, behind_kernel_receivers, is_broadcast, is_idle, marked, state_of, State}
 use Rattle.std.proofs.lemmas.Bool.{and_parts, not-true, or_parts}
 use Rattle.process_core.proofs.Listed.{marked_from_running}
 use Rattle.process_core.proofs.Yields.{unmarked_pass, poll_one_yields, yields_next, yields_after}
@@ -8,12 +8,8 @@ use Rattle.process_core.specs.declared.queued.Queued as code
 pub empty_list : {A : Type 0} (xs : List A) → is_empty xs ≡ true → xs ≡ []
 empty_list xs h = grind arith
 
-pub all_three : {a b c : Bool} → a ≡ true → b ≡ true → c ≡ true → (a && (b && c)) ≡ true
-all_three e f g = grind arith
-
-pub no_events : (events : List code.Queued) → (length events == 0) ≡ true → is_empty (map queued_of events) ≡ true
-no_events [] h = refl
-no_events (x ∷ events) h = absurd (grind (arith, nat_tests, h))
+pub both_true : {a b : Bool} → a ≡ true → b ≡ true → (a && b) ≡ true
+both_true e f = grind arith
 
 -- where no process is marked, a poll round passes over all
 none_marked : (list : List Process) (p : ℕ) → is_any_marked list ≡ false → is_marked p list ≡ false
@@ -54,43 +50,36 @@ module _ (list : List Process) where
 module _ {X : Type 0} where
   module _ (s : Scheduler X) where
     module _ (p : ℕ) where
-      -- the result of the round, where the walk after p is this
-      lone_poll_at : (later : List ℕ) → s.agenda ≡ [] → s.events ≡ [] → is_kernel_process p ≡ true
+      -- the result of the poll round, where the walk after p is this
+      lone_poll_at : (later : List ℕ) → s.agenda ≡ [] → is_kernel_process p ≡ true
           → is_marked p s.processes ≡ true
           → is_any_marked s.processes ≡ true → is_any_marked (with_mark p false s.processes) ≡ false
           → from_marked s.processes (numbers s.processes) ≡ p ∷ later → IsLonePoll p s
-      lone_poll_at later bare quiet kernel here some none first =
+      lone_poll_at later bare kernel here some none first =
           let round : Scheduler X = record s { agenda = Item.Deliver ∷ [] } in
           let begun : Scheduler X = in_front (Item.Polls ∷ []) round in
           let after : Scheduler X = in_front (map (λ q. Item.PollOne q) later) round in
-          let polled : Scheduler X = record after { processes = with_mark p false s.processes } in
+          let served : Scheduler X = record after { processes = with_mark p false s.processes } in
           let left : Scheduler X = record round { processes = with_mark p false s.processes } in
           let poll : Job X = Job.Serve p (plain_event POLL) in
           record {
             begun = begun;
-            polled = polled;
+            served = served;
             round = grind arith;
             poll =
-                yields_next begun (Some poll) polled refl
+                yields_next begun (Some poll) served refl
                 (rw some
                 (yields_after (in_front (map (λ q. Item.PollOne q) (numbers s.processes)) round)
-                (in_front (map (λ q. Item.PollOne q) (p ∷ later)) round) (Some poll) polled
+                (in_front (map (λ q. Item.PollOne q) (p ∷ later)) round) (Some poll) served
                 (rw first at (unmarked_pass round (numbers s.processes)))
-                (poll_one_yields after p (Some poll) polled here (0, rw kernel refl, rw kernel refl))));
-            rest =
-                yields_after polled (in_front (map (λ q. Item.PollOne q) (from_marked (with_mark p false s.processes) later)) left)
-                (Some Job.Rest) (unmarked p s)
-                (unmarked_pass left later)
-                (rw (none_from_marked (with_mark p false s.processes) later none)
-                (yields_next left (Some Job.Rest) (unmarked p s) (rw quiet refl) (0, rw (quiet, none) refl, rw (quiet, none, bare) refl)));
-            idle = grind arith;
+                (poll_one_yields after p (Some poll) served here (0, rw kernel refl, rw kernel refl))));
+            over = rw (none_from_marked (with_mark p false s.processes) later none) at (unmarked_pass left later);
           }
 
       pub lone_poll : p < 4 → polls_alone p s ≡ true → IsLonePoll p s
       lone_poll low alone =
-          let outer = and_parts (is_empty s.agenda) (is_empty s.events && is_only_marked p s.processes) alone in
-          let inner = and_parts (is_empty s.events) (is_only_marked p s.processes) outer.1 in
-          let only = and_parts (is_marked p s.processes) (not (is_any_marked (with_mark p false s.processes))) inner.1 in
+          let outer = and_parts (is_empty s.agenda) (is_only_marked p s.processes) alone in
+          let only = and_parts (is_marked p s.processes) (not (is_any_marked (with_mark p false s.processes))) outer.1 in
           let none = not-true (is_any_marked (with_mark p false s.processes)) only.1 in
           let first = marked_first s.processes (numbers s.processes) p (λ q h. alone_marked s.processes p q none h) only.0
           (marked_is_one_of s.processes p only.0) in
@@ -101,6 +90,10 @@ marked_again : (list : List Process) (p : ℕ) → is_any_marked list ≡ false 
 marked_again [] p none = refl
 marked_again (x ∷ list) p none = let rest = marked_again list p in grind (arith, nat_tests, or_parts)
 
+none_waits : {A : Type 0} (events : List A) → nat_lt 0 (length events) ≡ false → events ≡ []
+none_waits [] h = refl
+none_waits (x ∷ events) h = absurd (grind (arith, nat_tests, h))
+
 module _ {X : Type 0} where
   module _ (s : Scheduler X) where
     module _ (p : ℕ) where
@@ -109,7 +102,18 @@ module _ {X : Type 0} where
 
       pub polls_alone_from_rest : is_idle s ≡ true → state_of p s.processes ≡ State.Running
           → polls_alone p (marked p s) ≡ true
-      polls_alone_from_rest idle runs = grind (arith, nat_tests, all_three, marked_from_running, marked_again)
+      polls_alone_from_rest idle runs = grind (arith, nat_tests, marked_from_running, marked_again)
+
+      -- nothing is left to be done after that round
+      pub rests_after_poll : is_idle s ≡ true → ComesTo (polled_alone p (marked p s)) Job.Rest (unmarked p (marked p s))
+      rests_after_poll idle =
+          let parts = and_parts (is_empty s.agenda) (not (wants_round s)) idle in
+          let wants = or_parts (is_any_marked s.processes) (nat_lt 0 (length s.events)) (not-true (wants_round s) parts.1) in
+          let bare = empty_list s.agenda parts.0 in let quiet = none_waits s.events wants.1 in
+          let rested : Scheduler X = record s { processes = s.processes } in
+          rw (marked_again s.processes p wants.0)
+          (yields_next (record s { agenda = Item.Deliver ∷ [] }) (Some Job.Rest) rested (rw quiet refl)
+          (0, rw (quiet, wants.0) refl, rw (quiet, wants.0, bare) refl))
 
 -- When nothing is left to be done.
 pub is_empty_append : {A : Type 0} (xs ys : List A) → is_empty (xs ++ ys) ≡ (is_empty xs && is_empty ys)
@@ -222,6 +226,18 @@ module _ (d : SchedulerFields) where
       ≡ (is_empty (front_items d.front d.reply d.synch)
       && ((length d.stack.items == 0) && (is_empty d.polls && is_empty (base_items d.base d.walk d.broadcast))))
   is_empty_agenda = grind (arith, nat_tests, is_empty_append, is_empty_stack, is_empty_continuations, is_empty_map)
+
+module _ (d : SchedulerFields) where
+  -- the delivery is left, where nothing else is
+  pub delivers_only : is_empty (agenda_of d) ≡ true → agenda_of (record d { base = Base.Deliver true }) ≡ Item.Deliver ∷ []
+  delivers_only h =
+      let all = sym (is_empty_agenda d) ∙ h in
+      let first = and_parts (is_empty (front_items d.front d.reply d.synch)) (_) all in let second = and_parts (_) (_) first.1 in
+      let third = and_parts (is_empty d.polls) (_) second.1 in
+      let front = empty_list (front_items d.front d.reply d.synch) first.0 in
+      let bare : reverse d.stack.items ≡ [] = empty_list (reverse d.stack.items) (is_empty_continuations d.stack.items ∙ second.0) in
+      let polls = empty_list d.polls third.0 in
+      rw (front, bare, polls) refl
 
 module _ (is_polled : Bool) where
   module _ (walk : List ℕ) where

@@ -73,6 +73,17 @@ pushed continuations f = reverse-append continuations (f ∷ [])
 pub no_front : (front : Front) (p : Pid) (reply : Reply) (synch : Event) → turn_in front ≡ Some p → front_items front reply synch ≡ []
 no_front front p reply synch e = grind (arith, nat_tests)
 
+pub none_reported : (front : Front) (reply : Reply) (synch : Event) → ((p : Pid) → front ≡ Front.Answer p → ⊥)
+    → ((p : Pid) → front ≡ Front.Give p → ⊥) → ((p : Pid) → front ≡ Front.Start p → ⊥)
+    → ((p : Pid) (number : ℕ) → front ≡ Front.Callback p number → ⊥) → front_items front reply synch ≡ []
+none_reported Front.Nothing reply synch answer give start callback = refl
+none_reported (Front.Call p) reply synch answer give start callback = refl
+none_reported (Front.Expiry p number) reply synch answer give start callback = refl
+none_reported (Front.Answer p) reply synch answer give start callback = absurd (answer p refl)
+none_reported (Front.Give p) reply synch answer give start callback = absurd (give p refl)
+none_reported (Front.Start p) reply synch answer give start callback = absurd (start p refl)
+none_reported (Front.Callback p number) reply synch answer give start callback = absurd (callback p number refl)
+
 module _ (test : State → Bool) where
   -- where no other process changes its state
   others_in : (p : ℕ) (old new : List Process) (xs : List ℕ)

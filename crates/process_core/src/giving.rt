@@ -40,6 +40,7 @@ fn drop_first(events: &mut HeapCircularBuffer<Queued>)
 
 impl SchedulerFields {
     /// Gives the process its next stimulus.
+    #[inline(always)]
     pub fn give(&mut self, pid: Pid, origin: Origin, told: &Stimulus) -> Option<NextJob>
         requires order { IsInOrder self.old }
         requires idle { self.old.front ≡ Front.Nothing }
@@ -89,6 +90,7 @@ impl SchedulerFields {
     }
 
     /// A poll round reaches this process.
+    #[inline(always)]
     pub fn poll_one(&mut self, pid: Pid, told: &mut Stimulus) -> Option<NextJob>
         requires order { IsInOrder self.old }
         requires idle { self.old.front ≡ Front.Nothing }
@@ -108,6 +110,7 @@ impl SchedulerFields {
     }
 
     /// Delivers the first event.
+    #[inline(always)]
     pub fn deliver(&mut self, told: &mut Stimulus) -> Option<NextJob>
         requires order { IsInOrder self.old }
         requires idle { self.old.front ≡ Front.Nothing }

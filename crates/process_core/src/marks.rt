@@ -1,84 +1,79 @@
 //! The marks of the processes: a poll of a marked one is pending.
 
-ghost use Rattle.std.specs.Prelude.{◌≡◌, ◌<◌, drop, length, false, nat_lt, replicate, slice_set};
-ghost use Rattle.process_core.specs.Code.ProcessList.{mark_at, mark_count};
+ghost use Rattle.std.specs.Prelude.{◌≡◌, ◌<◌, ◌^◌, ◌==◌, nat_lt};
+ghost use Rattle.process_core.specs.Code.ProcessList.{mark_at, with_bit};
 
 use std::marker::Model;
 
 /// The largest number of processes.
 pub const PROCESSES: usize = 20;
 
-/// Which processes are marked, by their numbers. Their number is stored with them, so that no walk is needed to find out
-/// whether any is.
+/// The bits of the kernel's processes.
+const KERNEL_BITS: u32 = 15;
+
+/// Which processes are marked: a bit for each, by their numbers. So whether any is, or only one, takes one comparison.
 #[derive(Drop)]
 pub struct Marks {
-    marks: [bool; PROCESSES],
-    count: usize,
+    bits: u32,
 }
 
 impl Model for Marks {
-    ghost use Rattle.std.specs.Prelude.{◌≡◌, List, Bool, length};
-    ghost use Rattle.process_core.specs.Code.ProcessList.{mark_count};
+    ghost use Rattle.std.specs.Prelude.{ℕ};
 
-    ghost Value = { List Bool };
+    ghost Value = { ℕ };
 
-    ghost view = { λ m. m.marks };
-
-    ghost invariant = { λ m. (length m.marks ≡ 20) × (m.count ≡ mark_count m.marks) };
-}
-
-fn mark_in(marks: &[bool], number: u8) -> bool
-    ensures { result ≡ mark_at marks.now number }
-{
-    match marks.get(number as usize) {
-        Some(mark) => *mark,
-        None => false,
-    }
+    ghost view = { λ m. m.bits };
 }
 
 impl Marks {
     /// No process is marked.
     pub fn new() -> Marks
-        ensures { result ≡ replicate 20 false }
+        ensures { result ≡ 0 }
     {
-        Marks {
-            marks: [false; PROCESSES],
-            count: 0,
-        }
+        Marks { bits: 0 }
     }
 
     /// Whether the process of this number is marked.
+    #[tactic(auto, using(crate::proofs::MarkBits::shifted_bit))]
     pub fn is_marked(&self, number: u8) -> bool
+        requires { number < 32 }
         ensures { result ≡ mark_at self.now number }
     {
-        mark_in(&self.marks, number)
+        (self.bits >> number) & 1 == 1
+    }
+
+    /// Whether any process is marked.
+    pub fn is_any(&self) -> bool
+        ensures { result ≡ nat_lt 0 self.now }
+    {
+        self.bits > 0
     }
 
     /// Whether any application is marked.
     pub fn is_application_marked(&self) -> bool
-        ensures { result ≡ nat_lt 0 (mark_count (drop 4 self.now)) }
+        ensures { result ≡ nat_lt 15 self.now }
     {
-        let kernel = usize::from(self.marks[0])
-            + usize::from(self.marks[1])
-            + usize::from(self.marks[2])
-            + usize::from(self.marks[3]);
-        self.count > kernel
+        self.bits > KERNEL_BITS
     }
 
-    /// The number of marked processes.
-    pub fn count(&self) -> usize
-        ensures { result ≡ mark_count self.now }
+    /// Whether only the process of this number is marked.
+    pub fn is_only(&self, number: u8) -> bool
+        requires { number < 32 }
+        ensures { result ≡ (self.now == 2 ^ number) }
     {
-        self.count
+        self.bits == 1 << number
     }
 
     /// Sets or clears a mark.
+    #[tactic(auto, unfolding(crate::specs::Code::ProcessList::with_bit))]
     pub fn set(&mut self, number: u8, marked: bool)
-        requires { number < length self.old }
-        ensures { self.new ≡ slice_set self.old number marked }
+        requires { number < 32 }
+        ensures { self.new ≡ with_bit number marked self.old }
     {
-        let was_marked = mark_in(&self.marks, number);
-        self.count = self.count + usize::from(marked) - usize::from(was_marked);
-        self.marks[number as usize] = marked;
+        if marked {
+            self.bits |= 1 << number;
+        } else {
+            self.bits &= !(1 << number);
+        }
     }
 }

@@ -101,21 +101,22 @@ impl ProcessList {
     pub fn is_marked(&self, pid: Pid) -> bool
         ensures { result ≡ is_marked pid.0 self.now }
     {
-        self.marks.is_marked(pid.0)
+        pid.0 < 20 && self.marks.is_marked(pid.0)
     }
 
     /// Whether any poll is pending.
     pub fn is_any_marked(&self) -> bool
         ensures { result ≡ is_any_marked self.now }
     {
-        self.marks.count() > 0
+        self.marks.is_any()
     }
 
     /// Whether a poll of this process is pending, and of no other one.
     pub fn is_only_marked(&self, pid: Pid) -> bool
+        requires { pid.0 < 20 }
         ensures { result ≡ is_only_marked pid.0 self.now }
     {
-        self.marks.count() == 1 && self.marks.is_marked(pid.0)
+        self.marks.is_only(pid.0)
     }
 
     /// Changes the state of a process of the list.

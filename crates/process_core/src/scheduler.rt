@@ -82,6 +82,7 @@ impl Scheduler {
             base: Base::Boot,
             walk: Walk::over(starts),
             broadcast: plain_event(0),
+            ready: NextJob::Rest,
         };
         Ok(Scheduler { fields })
     }

@@ -1,6 +1,7 @@
 //! The scheduler's fields.
 
 use crate::front::Front;
+use crate::next_job::NextJob;
 use crate::open_work::{Base, Continuation};
 use crate::process_list::ProcessList;
 use crate::queued::Queued;
@@ -39,4 +40,6 @@ pub struct SchedulerFields {
     pub walk: Walk,
     /// The event that is broadcast.
     pub broadcast: Event,
+    /// The job that a function out of line has found.
+    pub ready: NextJob,
 }

@@ -1,10 +1,11 @@
 //! How open work is done.
 
 ghost use Rattle.std.specs.Prelude.{◌≡◌, ◌<◌, [], ◌∷◌, Some, IfNone, length, option_map, reverse};
+ghost use Rattle.mote_types.specs.declared.event.Pid.{Pid as At};
 ghost use Rattle.mote_types.specs.declared.event.Stimulus.{Stimulus as ToldStimulus};
 ghost use Rattle.process_core.specs.Code.Weights.{weight, weight_over};
 ghost use Rattle.process_core.specs.Code.SchedulerView.{job_of};
-ghost use Rattle.process_core.specs.Code.SchedulerFields.{scheduler_of, scheduler_behind, scheduler_over, front_after, HoldsEvent, IsBare, IsInOrder, IsOrdered};
+ghost use Rattle.process_core.specs.Code.SchedulerFields.{scheduler_of, scheduler_behind, scheduler_over, front_after, found, HoldsEvent, IsBare, IsInOrder, IsOrdered};
 ghost use Rattle.process_core.specs.Code.Yields.{Yields};
 ghost use Rattle.process_core.specs.declared.front.Front.{Front};
 ghost use Rattle.process_core.specs.declared.open_work.Base.{Base};
@@ -32,8 +33,8 @@ impl SchedulerFields {
         ensures order { IsInOrder self.new }
     {
         let front = self.front;
-        self.front = Front::Nothing;
         match front {
+            Front::Nothing => None,
             Front::Answer(pid) => {
                 tell_reply(told, &self.reply);
                 self.front = Front::Call(pid);
@@ -42,6 +43,51 @@ impl SchedulerFields {
                     origin: Origin::Answer,
                 })
             }
+            _ => {
+                if self.find_rare_front(front, told) {
+                    Some(self.ready)
+                } else {
+                    None
+                }
+            }
+        }
+    }
+
+    // What few calls report, out of line: the buffers of events are cleared at the entry. The job is put into a field: as a
+    // result it would keep each other job in memory, too.
+    #[inline(never)]
+    fn find_rare_front(&mut self, front: Front, told: &mut Stimulus) -> bool
+        requires order { IsInOrder self.old }
+        requires front { self.old.front ≡ front }
+        requires rare { (p : At) → front ≡ Front.Answer p → ⊥ }
+        ensures yields { Yields (scheduler_of self.old)
+            (option_map (λ r. job_of r told.new) (found result self.new.ready)) (scheduler_behind self.new) }
+        ensures told { HoldsEvent (found result self.new.ready) told.new }
+        ensures front { self.new.front ≡ front_after (found result self.new.ready) }
+        ensures order { IsInOrder self.new }
+    {
+        match self.take_rare_front(front, told) {
+            Some(ready) => {
+                self.ready = ready;
+                true
+            }
+            None => false,
+        }
+    }
+
+    // What few calls report.
+    fn take_rare_front(&mut self, front: Front, told: &mut Stimulus) -> Option<NextJob>
+        requires order { IsInOrder self.old }
+        requires front { self.old.front ≡ front }
+        requires rare { (p : At) → front ≡ Front.Answer p → ⊥ }
+        ensures yields { Yields (scheduler_of self.old)
+            (option_map (λ r. job_of r told.new) result) (scheduler_behind self.new) }
+        ensures told { HoldsEvent result told.new }
+        ensures front { self.new.front ≡ front_after result }
+        ensures order { IsInOrder self.new }
+    {
+        self.front = Front::Nothing;
+        match front {
             Front::Give(pid) => {
                 tell(told, &self.synch);
                 self.give(pid, Origin::Synch, told)
@@ -104,8 +150,29 @@ impl SchedulerFields {
         }
     }
 
-    // The next application is started.
+    // As `resume_boot`, out of line.
     #[inline(never)]
+    fn find_boot(&mut self, told: &mut Stimulus) -> bool
+        requires bare { IsBare self.old Base.Boot }
+        requires order { IsInOrder self.old }
+        requires idle { self.old.front ≡ Front.Nothing }
+        ensures yields { Yields (scheduler_behind self.old)
+            (option_map (λ r. job_of r told.new) (found result self.new.ready)) (scheduler_behind self.new) }
+        ensures told { HoldsEvent (found result self.new.ready) told.new }
+        ensures front { self.new.front ≡ front_after (found result self.new.ready) }
+        ensures order { IsInOrder self.new }
+        ensures falls { IfNone (found result self.new.ready) (weight self.new < weight self.old) }
+    {
+        match self.resume_boot(told) {
+            Some(ready) => {
+                self.ready = ready;
+                true
+            }
+            None => false,
+        }
+    }
+
+    // The next application is started.
     fn resume_boot(&mut self, told: &mut Stimulus) -> Option<NextJob>
         requires bare { IsBare self.old Base.Boot }
         requires order { IsInOrder self.old }
@@ -127,6 +194,7 @@ impl SchedulerFields {
     }
 
     // A round: the poll round, and then the delivery.
+    #[inline(always)]
     fn resume_deliver(&mut self, is_polled: bool, told: &mut Stimulus) -> Option<NextJob>
         requires bare { IsBare self.old (Base.Deliver is_polled) }
         requires order { IsInOrder self.old }
@@ -196,14 +264,41 @@ impl SchedulerFields {
         }
         match self.base {
             Base::Nothing => Some(self.begin_round()),
-            Base::Boot => self.resume_boot(told),
+            Base::Boot => {
+                if self.find_boot(told) {
+                    Some(self.ready)
+                } else {
+                    None
+                }
+            }
             Base::Deliver { is_polled } => self.resume_deliver(is_polled, told),
             Base::Broadcast { is_polled } => self.resume_broadcast(is_polled, told),
         }
     }
 
-    // The topmost continuation is worked on.
+    // As `resume_within`, out of line.
     #[inline(never)]
+    fn find_within(&mut self, told: &mut Stimulus) -> bool
+        requires open { 0 < length self.old.stack.items }
+        requires order { IsInOrder self.old }
+        requires idle { self.old.front ≡ Front.Nothing }
+        ensures yields { Yields (scheduler_behind self.old)
+            (option_map (λ r. job_of r told.new) (found result self.new.ready)) (scheduler_behind self.new) }
+        ensures told { HoldsEvent (found result self.new.ready) told.new }
+        ensures front { self.new.front ≡ front_after (found result self.new.ready) }
+        ensures order { IsInOrder self.new }
+        ensures falls { IfNone (found result self.new.ready) (weight self.new < weight self.old) }
+    {
+        match self.resume_within(told) {
+            Some(ready) => {
+                self.ready = ready;
+                true
+            }
+            None => false,
+        }
+    }
+
+    // The topmost continuation is worked on.
     fn resume_within(&mut self, told: &mut Stimulus) -> Option<NextJob>
         requires open { 0 < length self.old.stack.items }
         requires order { IsInOrder self.old }
@@ -245,12 +340,15 @@ impl SchedulerFields {
     {
         if self.stack.is_empty() {
             self.resume_below(told)
+        } else if self.find_within(told) {
+            Some(self.ready)
         } else {
-            self.resume_within(told)
+            None
         }
     }
 
     /// The open work goes on up to a job.
+    #[inline(always)]
     pub fn work_on(&mut self, told: &mut Stimulus) -> NextJob
         requires order { IsInOrder self.old }
         requires idle { self.old.front ≡ Front.Nothing }
@@ -268,6 +366,7 @@ impl SchedulerFields {
     }
 
     /// No work is open: a round begins, if it has anything to do.
+    #[inline(always)]
     fn begin_round(&mut self) -> NextJob
         requires order { IsInOrder self.old }
         requires idle { self.old.front ≡ Front.Nothing }

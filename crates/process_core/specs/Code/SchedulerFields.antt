@@ -1,5 +1,5 @@
 -- What the fields of the code's scheduler stand for, and their invariant.
-use Rattle.std.specs.Prelude.{◌≡◌, ℕ, ◌+◌, ◌<◌, ◌≤◌, true, List, [], map, Option, Some, None, reverse}
+use Rattle.std.specs.Prelude.{◌≡◌, ℕ, ◌+◌, ◌<◌, ◌≤◌, Bool, true, false, List, [], map, Option, Some, None, reverse}
 use Rattle.mote_types.specs.declared.event.Pid.{Pid}
 use Rattle.process_core.specs.declared.front.Front.{Front}
 use Rattle.process_core.specs.declared.open_work.Base.{Base}
@@ -41,6 +41,11 @@ abbrev pub front_after : Option answer.NextJob → Front
 front_after (Some (answer.NextJob.TakeTurn pid origin)) = Front.Call pid
 front_after (Some (answer.NextJob.CallBack pid number arming)) = Front.Expiry pid number
 front_after _ = Front.Nothing
+
+-- the job that is in the field `ready`, where one was found
+abbrev pub found : Bool → answer.NextJob → Option answer.NextJob
+found true ready = Some ready
+found false ready = None
 
 -- where a kernel process must be served, the caller's buffer holds an event
 abbrev pub HoldsEvent : Option answer.NextJob → Stimulus → Type 0

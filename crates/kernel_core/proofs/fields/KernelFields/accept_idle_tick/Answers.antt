@@ -10,4 +10,4 @@ returns-clause-passed c = λ done. λ answers.
     ∙ c.if-any_due.false in
     rw (c.in-Tick.is, c.any_due.ensures.kept)
     (idle_tick answers c.args.self.now c.in-Tick.ticks c.requires.at_work.running c.requires.at_work.shown none
-    (c.rest_goes_on.ensures.round 0 (omega arith)) (c.rest_goes_on.ensures.same 0))
+    (c.rest_goes_on.ensures.round 0 (omega arith)) (c.rest_goes_on.ensures.rest 0) (c.rest_goes_on.ensures.same 0) c.rest_goes_on.ensures.idle)

@@ -1,8 +1,8 @@
-use Rattle.process_core.proofs.Lemmas.{sym, ◌∙◌, ap, nat_lt, is_any_marked, any_counted}
+use Rattle.process_core.proofs.Lemmas.{sym, ◌∙◌, ap, is_any_marked, any_counted}
 use Rattle.process_core.proofs.process_list.ProcessList.is_any_marked.Goals as goal
 
 pub returns : goal.returns
 returns c =
     let list = c.self.inside in
-    ap (λ count. nat_lt 0 count) c.count.ensures
+    c.is_any.ensures
     ∙ (sym (any_counted list.states list.marks list.on_list.items c.self.invariant.kept) ∙ ap is_any_marked c.self.view_is)

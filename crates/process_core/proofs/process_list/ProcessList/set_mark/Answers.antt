@@ -1,4 +1,4 @@
-use Rattle.process_core.proofs.Lemmas.{sym, ◌∙◌, ap, arith, with_mark, kept_mark, mark_set, changed_none, off_list, on_list}
+use Rattle.process_core.proofs.Lemmas.{sym, ◌∙◌, ap, with_mark, kept_mark, mark_set, changed_none, off_list, on_list}
 use Rattle.process_core.proofs.process_list.ProcessList.set_mark.Goals as goal
 
 pub invariant_of-self : goal.invariant_of-self
@@ -24,5 +24,5 @@ returns-in_default c =
     let known = c.state_of.ensures.known (λ e. c.in_default.not-Absent (c.state_of.ensures.value ∙ e)) in
     rw c.set.ensures
     (sym (mark_set c.args.pid.0 list.states list.marks list.on_list.items c.args.marked
-    (omega (arith, known, c.self.invariant.kept.mark_places))))
+    known c.self.invariant.kept.mark_places))
     ∙ ap (with_mark c.args.pid.0 c.args.marked) c.self.view_is

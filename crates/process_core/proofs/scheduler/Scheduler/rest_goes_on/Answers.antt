@@ -1,4 +1,4 @@
-use Rattle.process_core.proofs.Lemmas.{◌≡◌, true, State, is_idle, is_some, lone_poll, marked, not, polls_alone_from_rest, state_of, unmarked_again}
+use Rattle.process_core.proofs.Lemmas.{◌≡◌, true, State, is_idle, is_some, lone_poll, marked, not, polls_alone_from_rest, rests_after_poll, state_of, unmarked_again}
 use Rattle.std.proofs.lemmas.Bool.{and_parts}
 use Rattle.process_core.proofs.scheduler.Scheduler.rest_goes_on.Goals as goal
 
@@ -13,3 +13,9 @@ returns-clause-round c = λ p below.
 
 pub returns-clause-same : goal.returns-clause-same
 returns-clause-same c = λ p. unmarked_again c.args.self.now.state p (idle c)
+
+pub returns-clause-rest : goal.returns-clause-rest
+returns-clause-rest c = λ p. rests_after_poll c.args.self.now.state p (idle c)
+
+pub returns-clause-idle : goal.returns-clause-idle
+returns-clause-idle c = idle c

@@ -1,4 +1,4 @@
-use Rattle.process_core.proofs.Lemmas.{drop, length, sym, ap, arith, Some, job_of, scheduler_behind, from_marked, polls_yield, polls_end, first_and_rest, length-from_marked, if_none}
+use Rattle.process_core.proofs.Lemmas.{drop, length, sym, ap, arith, None, Some, job_of, scheduler_behind, from_marked, polls_yield, polls_end, first_and_rest, length-from_marked, if_none}
 use Rattle.process_core.proofs.scheduler_fields.SchedulerFields.resume_below.Goals as goal
 
 pub returns-in-Some-clause-yields : goal.returns-in-Some-clause-yields
@@ -21,10 +21,15 @@ returns-in-Nothing-clause-yields c =
     (scheduler_behind c.begin_round.new.self) c.requires.bare c.in_default.ensures.next c.in_default.ensures.behind
     (c.begin_round.ensures.yields c.args.told.now)
 
-pub returns-in-Boot-clause-yields : goal.returns-in-Boot-clause-yields
-returns-in-Boot-clause-yields c =
-    polls_end c.args.self.now c.next_marked.new.self _ _ c.requires.bare c.in_default.ensures.next c.in_default.ensures.behind
-    c.resume_boot.ensures.yields
+pub returns-then-find_boot-clause-yields : goal.returns-then-find_boot-clause-yields
+returns-then-find_boot-clause-yields c =
+    polls_end c.args.self.now c.next_marked.new.self (Some (job_of c.find_boot.new.self.ready c.find_boot.new.told)) (scheduler_behind c.find_boot.new.self)
+    c.requires.bare c.in_default.ensures.next c.in_default.ensures.behind (rw c.if-find_boot.true at c.find_boot.ensures.yields)
+
+pub returns-else-find_boot-clause-yields : goal.returns-else-find_boot-clause-yields
+returns-else-find_boot-clause-yields c =
+    polls_end c.args.self.now c.next_marked.new.self None (scheduler_behind c.find_boot.new.self)
+    c.requires.bare c.in_default.ensures.next c.in_default.ensures.behind (rw c.if-find_boot.false at c.find_boot.ensures.yields)
 
 pub returns-in-Deliver-clause-yields : goal.returns-in-Deliver-clause-yields
 returns-in-Deliver-clause-yields c =
