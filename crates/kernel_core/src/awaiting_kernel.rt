@@ -58,10 +58,13 @@ impl AwaitingKernel {
         ensures bad_sizes { IsErrOf result BootFault.BadSizes ↔ (is_bootable config ≡ false) }
     {
         match Kernel::boot(alloc, config) {
-            Ok(Kernel { fields }) => match Box::new(alloc, fields) {
-                Ok(fields) => Ok(AwaitingKernel { fields, turn: None }),
-                Err(_) => Err(BootFault::Memory),
-            },
+            Ok(kernel) => {
+                let Kernel { fields } = kernel;
+                match Box::new(alloc, fields) {
+                    Ok(fields) => Ok(AwaitingKernel { fields, turn: None }),
+                    Err(_) => Err(BootFault::Memory),
+                }
+            }
             Err(fault) => Err(fault),
         }
     }
