@@ -85,13 +85,13 @@ worked_after {outcome} {turn} {before} {other} old between new kept applications
     let pending : between.pending ≡ old.pending = ap (λ (k : KernelFields). k.pending) kept in
     let less : entries_left_in between ≤ entries_left_in old =
     rw (halted, pending) (left_from old.halted old.work between.work (pending_count old.pending) more) in record {
-  room = λ is. omega (arith, less, worked.room is);
-  untold = worked.untold;
-  order = worked.order;
-  halted = rw halted at worked.halted;
-  clock = worked.clock ∙ ap (λ (k : KernelFields). k.clock) kept;
-  applications = worked.applications ∙ applications;
-  inputs = worked.inputs ∙ ap (λ (k : KernelFields). k.inputs) kept;
-  progress = takes_from (stepped outcome turn other) (mote_of old) (mote_of between) (mote_of new) less worked.progress;
-  unmade = worked.unmade;
-}
+      room = λ is. omega (arith, less, worked.room is);
+      untold = worked.untold;
+      order = worked.order;
+      halted = rw halted at worked.halted;
+      clock = worked.clock ∙ ap (λ (k : KernelFields). k.clock) kept;
+      applications = worked.applications ∙ applications;
+      inputs = worked.inputs ∙ ap (λ (k : KernelFields). k.inputs) kept;
+      progress = takes_from (stepped outcome turn other) (mote_of old) (mote_of between) (mote_of new) less worked.progress;
+      unmade = worked.unmade;
+    }

@@ -227,6 +227,9 @@ only_counted s m ns p known k = split (is_one_of p ns) refl
   where
     split : (b : Bool) → is_one_of p ns ≡ b → is_only_marked p (listed s m ns) ≡ (m == 2 ^ p)
     split true e =
-        rw (marked_kept p s m ns k, mark_set p s m ns false known k.mark_places,
-        any_counted s (with_bit p false m) ns (kept_mark p false e k)) (only_bit m p known k.mark_places)
+        rw (
+          marked_kept p s m ns k,
+          mark_set p s m ns false known k.mark_places,
+          any_counted s (with_bit p false m) ns (kept_mark p false e k),
+        ) (only_bit m p known k.mark_places)
     split false e = rw (marked_kept p s m ns k, k.unmarked p e) (rw (k.unmarked p e) at (only_bit m p known k.mark_places))
