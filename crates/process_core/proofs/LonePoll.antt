@@ -1,9 +1,8 @@
 -- A round that only polls one process of the kernel.
-use Rattle.process_core.proofs.Common.{◌≡◌, ℕ, ◌<◌, ◌==◌, Bool, ComesTo, wants_round, true, false, ◌&&◌, List, [], ◌∷◌, length, refl, arith, Some, not, map, nat_tests, POLL, plain_event, Item, Job, from_marked, queued_of, is_one_of, is_empty, is_only_marked, polled_alone, polls_alone, numbers, is_marked, is_any_marked, is_kernel_process, with_mark, Scheduler, in_front, Process, unmarked, IsLonePoll, zero, suc, ◌≤◌, nat_eq, ◌++◌, drop, ◌∙◌, flat_map, nat_lt, reverse, length-reverse, Event, front_items, items_of, base_items, agenda_of, Base, Continuation, SchedulerFields, sym, ap, if◌then◌else◌, is_other_than, from_application, is_kernel_next, passes_receiver, kernel_receivers_passed, scheduler_of, receiver_is_next, poll_items, receiver_items, behind_kernel_receivers, is_broadcast, is_idle, marked, state_of, State}
+use Rattle.process_core.proofs.Common.{◌≡◌, ℕ, ◌<◌, ◌==◌, Bool, ComesTo, wants_round, true, false, ◌&&◌, List, [], ◌∷◌, length, refl, arith, Some, not, map, nat_tests, POLL, plain_event, Item, Job, from_marked, is_one_of, is_empty, is_only_marked, polled_alone, polls_alone, numbers, is_marked, is_any_marked, is_kernel_process, with_mark, Scheduler, in_front, Process, unmarked, IsLonePoll, zero, suc, ◌≤◌, nat_eq, ◌++◌, drop, ◌∙◌, flat_map, nat_lt, reverse, length-reverse, Event, front_items, items_of, base_items, agenda_of, Base, Continuation, SchedulerFields, sym, ap, if◌then◌else◌, is_other_than, from_application, is_kernel_next, passes_receiver, kernel_receivers_passed, scheduler_of, receiver_is_next, poll_items, receiver_items, behind_kernel_receivers, is_broadcast, is_idle, marked, state_of, State}
 use Rattle.std.proofs.lemmas.Bool.{and_parts, not-true, or_parts}
 use Rattle.process_core.proofs.Listed.{marked_from_running}
 use Rattle.process_core.proofs.Yields.{unmarked_pass, poll_one_yields, yields_next, yields_after}
-use Rattle.process_core.specs.declared.queued.Queued as code
 
 pub empty_list : {A : Type 0} (xs : List A) → is_empty xs ≡ true → xs ≡ []
 empty_list xs h = grind arith
