@@ -3,7 +3,7 @@
 //! Each takes the session out of the mote, works, and puts it back. What C hands in can be anything: a mote that is closed, a
 //! call where none is awaited, numbers out of range have their statuses, and then nothing is changed.
 
-ghost use Rattle.std.specs.Prelude.{◌≡◌, ◌≢◌, ◌≤◌, ◌+◌, ◌↔◌, false, true, None, Some, length as size_of, take, drop, is_some, IsSomeAnd, IfOk, IsErrOf};
+ghost use Rattle.std.specs.Prelude.{◌≡◌, ◌≢◌, ◌≤◌, ◌+◌, ◌↔◌, false, true, None, Some, length as size_of, take, drop, is_some, IsSomeAnd, IfErr, IfOk, IsErrOf};
 ghost use Rattle.kernel_core.specs.Machine.{is_bootable};
 ghost use Rattle.timer_core.specs.Deadlines.{next_deadline};
 ghost use Rattle.toarmuts.specs.Sessions.{session_in};
@@ -24,6 +24,20 @@ use mote_session::{BootFault, Config};
 use mote_text::line::OutputBuffer;
 use std::alloc::Global;
 
+/// Puts a session on the heap, with room for a line.
+// Out of line, so that what it takes of the stack isn't added to what the boot takes.
+#[inline(never)]
+fn held(alloc: Global, session: Session) -> Result<Box<OpenMote>, BootFault>
+    ensures session { IfOk result (λ mote. mote.value.session ≡ session) }
+    ensures fault { IfErr result (λ fault. fault ≡ BootFault.Memory) }
+{
+    let line = OutputBuffer::new();
+    match Box::new(alloc, OpenMote { session, line }) {
+        Ok(open_mote) => Ok(open_mote),
+        Err(_) => Err(BootFault::Memory),
+    }
+}
+
 /// A mote at boot.
 ///
 /// # Errors
@@ -34,11 +48,8 @@ fn boot(alloc: Global, config: Config) -> Result<Box<OpenMote>, BootFault>
     ensures bad_sizes { IsErrOf result BootFault.BadSizes ↔ (is_bootable config ≡ false) }
 {
     let session = Session::boot(alloc, config)?;
-    let line = OutputBuffer::new();
-    match Box::new(alloc, OpenMote { session, line }) {
-        Ok(open_mote) => Ok(open_mote),
-        Err(_) => Err(BootFault::Memory),
-    }
+    let open_mote = held(alloc, session)?;
+    Ok(open_mote)
 }
 
 /// Opens a mote with so many applications, processes 4, 5, .. All memory that it will use is taken here.
