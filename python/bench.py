@@ -14,8 +14,7 @@ from typing import Any, Callable
 from hypothesis import HealthCheck, given, settings
 
 import toarmuts
-from toarmuts import Mote, Network, Options, Script, TimerStop, Transcript, Turn, Turns, Wait, strategies
-from toarmuts.bundled import Blink
+from toarmuts import Mote, Network, Options, Print, Script, TimerReset, TimerSet, TimerStop, Transcript, Turn, Turns, Wait, strategies
 from toarmuts.coverage import Coverage
 from toarmuts.library import library
 
@@ -74,11 +73,20 @@ def stops() -> Turns:
             yield call
 
 
+def beat() -> Turns:
+    """Prints a word every ten ticks."""
+    yield TimerSet(0, 10)
+    while True:
+        yield Wait()
+        yield Print(b"on\n")
+        yield TimerReset(0)
+
+
 def bench_motes() -> None:
     """A mote in hand, with applications in Python. Times are short, since others leave a processor alone for no longer."""
     mote = Mote([stops])
     tell("a call of an application in Python", best(lambda: mote.serial_text("a"), 5000) / 100)
-    mote = Mote([Blink])
+    mote = Mote([beat])
     tell("`mote.tick(10)`, 4 entries", best(lambda: mote.tick(10), 5000))
 
 

@@ -266,3 +266,12 @@ def test_applications(file: str) -> None:
     before, after, name, wanted = NAMES[file]
     told = source(file).partition(before)[2].partition(after)[0]
     assert re.findall(name, told, re.M) == wanted, f"{file} differs from interface/rules.json"
+
+
+def test_kinds_of_applications() -> None:
+    """The applications of the program mote have the numbers 1, 2, .. in a struct of C, in code and in what is proved of the definition."""
+    code = re.findall(r"^            (\d) => Some\(Bundled::(\w+)", source("crates/toarmuts/src/application.rt"), re.M)
+    assert [(int(kind), name.lower()) for kind, name in code] == list(enumerate(OF_MOTE, 1))
+    examples = source("crates/toarmuts/proofs/BundledExamples.antt")
+    proved = re.findall(r'said (\d) 0 0 0 0 ≡ named \(codes "([a-z-]+)"\)', examples)
+    assert [(int(kind), name) for kind, name in proved] == list(enumerate(OF_MOTE, 1))

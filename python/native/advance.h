@@ -22,4 +22,7 @@ struct advance {
  */
 void advance_mote(struct toarmuts_mote *mote, const struct toarmuts_call *call, struct advance *advance);
 
+/* The same, where a bundled application makes the call. */
+void advance_bundled(struct toarmuts_mote *mote, struct toarmuts_application *application, struct advance *advance);
+
 #endif

@@ -19,6 +19,25 @@ put_line(struct toarmuts_network *network, struct network_advance *advance)
   return status;
 }
 
+/* Whether there is stack for a step. */
+static bool
+begin_step(struct network_advance *advance)
+{
+  advance->length = 0;
+  advance->submitted = 0;
+  advance->status = has_stack(STACK_OF_A_STEP) ? TOARMUTS_DONE : STACK_TOO_SMALL;
+  return advance->status == TOARMUTS_DONE;
+}
+
+/* Writes the line of a turn whose call was submitted with this status. */
+static bool
+end_turn(struct toarmuts_network *network, uint32_t status, struct network_advance *advance)
+{
+  advance->submitted = status == TOARMUTS_DONE;
+  advance->status = advance->submitted ? put_line(network, advance) : status;
+  return advance->status == TOARMUTS_DONE;
+}
+
 /* Works on to what happens next, and writes its line. */
 static void
 step(struct toarmuts_network *network, struct network_advance *advance)
@@ -47,29 +66,29 @@ step(struct toarmuts_network *network, struct network_advance *advance)
   advance->status = put_line(network, advance);
 }
 
-void
-advance_network(struct toarmuts_network *network, const struct toarmuts_call *call, struct network_advance *advance)
+/* Works on to the next turn, to rest or to the halt, or until the lines fill the room. */
+static void
+go_on(struct toarmuts_network *network, struct network_advance *advance)
 {
-  advance->length = 0;
-  advance->submitted = 0;
-  if(!has_stack(STACK_OF_A_STEP)) {
-    advance->status = STACK_TOO_SMALL;
-    return;
-  }
-  if(call->kind != 0) {
-    advance->status = toarmuts_network_submit(network, call);
-    if(advance->status != 0) {
-      return;
-    }
-    advance->submitted = 1;
-    advance->status = put_line(network, advance);
-    if(advance->status != 0) {
-      return;
-    }
-  }
   do {
     step(network, advance);
   } while(advance->status == 0 && advance->step == TOARMUTS_ENTRY && sizeof advance->lines - advance->length > MOST_OF_A_LINE);
+}
+
+void
+advance_network(struct toarmuts_network *network, const struct toarmuts_call *call, struct network_advance *advance)
+{
+  if(begin_step(advance) && (call->kind == 0 || end_turn(network, toarmuts_network_submit(network, call), advance))) {
+    go_on(network, advance);
+  }
+}
+
+void
+advance_network_bundled(struct toarmuts_network *network, struct toarmuts_application *application, struct network_advance *advance)
+{
+  if(begin_step(advance) && end_turn(network, toarmuts_network_submit_bundled(network, application), advance)) {
+    go_on(network, advance);
+  }
 }
 
 /* Adds links; where one is refused, the network is closed. */

@@ -24,6 +24,9 @@ struct network_advance {
 /* Submits a call, unless its kind is 0, and works to the next turn, to rest or to the halt, or until the lines fill the room. */
 void advance_network(struct toarmuts_network *network, const struct toarmuts_call *call, struct network_advance *advance);
 
+/* The same, where a bundled application makes the call. */
+void advance_network_bundled(struct toarmuts_network *network, struct toarmuts_application *application, struct network_advance *advance);
+
 /* toarmuts_network_open and all its links, toarmuts_network_tick and toarmuts_network_feed, and the status STACK_TOO_SMALL. A network
  * with a link that is refused is closed. */
 uint32_t open_network(const struct toarmuts_network_sizes *sizes, const struct toarmuts_network_mote *motes, uint64_t count,

@@ -4,11 +4,42 @@ from __future__ import annotations
 import pathlib
 import random
 
-from toarmuts import Call, Options
+from toarmuts import Call, Event, EventCode, Options, Print, Reply, TimerReset, TimerSet, Wait
 from toarmuts.rules import RULES
 
 ROOT = pathlib.Path(__file__).resolve().parents[2]
 NAMES = [name for name in RULES.applications if name != "clock-watcher"]
+
+
+class Hello:
+    """What `hello` does, in Python."""
+
+    def turn(self, stimulus):
+        """The call for this stimulus."""
+        return Print(b"hi\n") if isinstance(stimulus, Event) and stimulus.code == EventCode.INIT else Wait()
+
+
+class Blink:
+    """What `blink` does, in Python."""
+
+    def __init__(self):
+        self.lit = self.printed = False
+
+    def turn(self, stimulus):
+        """The call for this stimulus."""
+        match stimulus:
+            case Event(code=EventCode.INIT):
+                self.lit = self.printed = False
+                return TimerSet(0, 10)
+            case Event(code=EventCode.TIMER):
+                self.lit, self.printed = not self.lit, True
+                return Print(b"on\n" if self.lit else b"off\n")
+            case Reply() if self.printed:
+                self.printed = False
+                return TimerReset(0)
+        return Wait()
+
+
 BEYOND = {"process": 20, "timer": 8, "callback": 4, "handle": 16, "source": 16, "target": 16, "heap_block": 16, "pool": 4, "block": 16,
           "previous": 16, "chain": 8}
 

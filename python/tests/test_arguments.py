@@ -8,10 +8,9 @@ import random
 import re
 
 import pytest
-from common import random_call, random_line
+from common import Hello, random_call, random_line
 
 import toarmuts
-from toarmuts.bundled import Echo
 from toarmuts.call import read_calls
 from toarmuts.campaign import make_case
 from toarmuts.script import has_form
@@ -113,8 +112,8 @@ WRONG = [
     (run(["calls print 0"]), NoApplication, "call 1: 'print 0': a word is not hex, or has too many bytes: print takes data"),
     (run(["calls 2 clock 1"]), NoApplication, "call 1: '2 clock 1': there are more words than the call takes: clock takes none"),
     (run(["calls 128 wait, clock"]), NoApplication, "application 1 (process 4): an application makes at most 128 calls"),
-    (run([Echo, "frob"]), NoApplication, "application 2 (process 5): no application 'frob'; there are hello, blink,"),
-    (run([Echo, "calls wait, frob 1"]), NoApplication, "application 2 (process 5), call 2: 'frob 1': no call frob"),
+    (run([Hello, "frob"]), NoApplication, "application 2 (process 5): no application 'frob'; there are hello, blink,"),
+    (run([Hello, "calls wait, frob 1"]), NoApplication, "application 2 (process 5), call 2: 'frob 1': no call frob"),
     (run([[Wait()] * 129]), NoApplication, "application 1 (process 4): 129 calls; a list has at most 128"),
     # Scripts.
     (run([], 5), WrongType, "script must be a str, bytes or Script, not int"),

@@ -7,14 +7,13 @@ import threading
 import weakref
 
 import pytest
-from common import ROOT, random_application, random_script
+from common import ROOT, Blink, random_application, random_script
 
 import toarmuts
 from toarmuts import (BadTranscript, Call, Callback, Ending, Event, EventCode, Input, InputKind, Note, NoteKind, Origin, Refusal, Reply,
                       ReplyKind, Stats, TimerSet, Transcript, Turn, Wait)
 from toarmuts.scenario import read_file
 
-from toarmuts.bundled import Blink as BLINK
 from toarmuts.rows import PlainRow, PlainWords, Row, Words, make, make_plain
 from toarmuts.transcript import read_callback
 from toarmuts.values import read_reply, read_event
@@ -205,7 +204,7 @@ def test_entries_outlive_their_transcript():
 
 
 def test_runs_and_entries_can_be_sent_to_other_processes():
-    run = toarmuts.run(["blink", [Wait()], BLINK], "tick 10\n")
+    run = toarmuts.run(["blink", [Wait()], Blink], "tick 10\n")
     list(run.transcript)
     again = pickle.loads(pickle.dumps(run))
     assert again.transcript == run.transcript and again.text == run.text and again.applications == run.applications

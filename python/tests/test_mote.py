@@ -9,13 +9,12 @@ import sys
 import threading
 
 import pytest
-from common import NAMES, random_application, random_call, random_script
+from common import NAMES, Blink, Hello, random_application, random_call, random_script
 
 import toarmuts
 from toarmuts import (AllocEvent, ApplicationError, BadInput, CallbackSet, Clock, Event, EventCode, Exit, IsRunning, Kill, MmemAlloc,
                       MmemRead, MmemWrite, Mote, MoteError, Post, Print, Reply, ReplyKind, Script, Start, Table, TimerReset, TimerSet,
                       Transcript, Wait)
-from toarmuts.bundled import BUNDLED
 
 
 def texts(entries):
@@ -534,8 +533,8 @@ def test_answers_and_stimuli_are_sent():
 def test_tables_and_objects_are_applications():
     table = {EventCode.INIT: [TimerSet(0, 5)], EventCode.TIMER: [Print(b"x"), TimerReset(0)]}
     assert toarmuts.run([Table(table)], "tick 5\ntick 5\n").printed() == b"xx"
-    echo = BUNDLED["echo"]()
-    assert toarmuts.run([echo, "hello"], "serial 610a\n").printed() == b"hi\na"
+    blink = Blink()
+    assert toarmuts.run([blink, "hello"], "tick 10\n").printed() == b"hi\non\n" and blink.lit
 
 
 def test_a_table_has_a_row_for_callbacks_and_none_for_other_events():
@@ -567,18 +566,16 @@ def test_a_mote_is_closed_at_the_end_of_its_block():
 
 
 def test_a_run_of_python_applications_is_written_as_lists():
-    run = toarmuts.run([BUNDLED["blink"], "hello"], "tick 10\ntick 25\n")
+    run = toarmuts.run([Blink, "hello"], "tick 10\ntick 25\n")
     again = toarmuts.read_scenarios(run.scenario())[0]
     assert again.carry_out().fault is None and "calls timer-set 0 10" in run.scenario()
     with pytest.raises(toarmuts.BadScenario, match="process 4 made [0-9]+ calls; a list in a file has at most 128"):
-        toarmuts.run([BUNDLED["blink"]], "tick 10\n" * 100).scenario()
+        toarmuts.run([Blink], "tick 10\n" * 100).scenario()
 
 
 def both(applications, script, **sizes):
-    """The run by the library, and the one that goes step by step with the same applications in Python."""
-    in_python = [BUNDLED[name] if isinstance(name, str) else name for name in applications]
-    # Lists are carried out step by step beside an application in Python.
-    return (toarmuts.run([*applications, "hello"], script, **sizes), toarmuts.run([*in_python, BUNDLED["hello"]], script, **sizes))
+    """The run by the library, and the one that goes step by step, since it has an application in Python."""
+    return (toarmuts.run([*applications, "hello"], script, **sizes), toarmuts.run([*applications, Hello], script, **sizes))
 
 
 def assert_same(by_library, step_by_step):
@@ -587,7 +584,7 @@ def assert_same(by_library, step_by_step):
 
 
 @pytest.mark.parametrize("name", [*NAMES, "clock-watcher"])
-def test_applications_in_python_are_those_in_rattle(name):
+def test_names_step_by_step_are_those_by_the_library(name):
     """Equal transcripts on random scripts, alone and beside others."""
     # The one that never waits halts each time, after 10,000 turns.
     for seed in range(4 if name == "clock-watcher" else 60):

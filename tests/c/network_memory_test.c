@@ -62,7 +62,10 @@ take_turns(long count)
   while(count-- > 0 && toarmuts_network_next(&network, &happening, &turn) == TOARMUTS_DONE && happening.step != TOARMUTS_NETWORK_HALT) {
     if(happening.step == TOARMUTS_NETWORK_TURN) {
       struct toarmuts_call call = random_call();
-      toarmuts_network_submit(&network, &call);
+      struct toarmuts_application application = any_application();
+      if(random_below(2) == 0 || toarmuts_network_submit_bundled(&network, &application) != TOARMUTS_DONE) {
+        toarmuts_network_submit(&network, &call);
+      }
     } else if(happening.step == TOARMUTS_NETWORK_REST && random_below(2) == 0) {
       toarmuts_network_tick(&network, random_below(9));
     } else if(happening.step == TOARMUTS_NETWORK_REST) {

@@ -6,6 +6,7 @@
 static const struct toarmuts_network closed_network;
 static const struct toarmuts_call wait_call = {TOARMUTS_CALL_WAIT, {0}, 0, 0, 0, {0}};
 static const struct toarmuts_call clock_call = {TOARMUTS_CALL_CLOCK, {0}, 0, 0, 0, {0}};
+static struct toarmuts_application hello = {.kind = TOARMUTS_APPLICATION_HELLO}, nobody;
 static const struct toarmuts_network_mote usual = {TOARMUTS_DEFAULTS, 1};
 
 /* Whether what happened last has this line. */
@@ -141,7 +142,8 @@ check_closed(void)
   check("closed",
         toarmuts_network_link(&network, &link) == TOARMUTS_CLOSED &&
           toarmuts_network_next(&network, &happening, &turn) == TOARMUTS_CLOSED && happening.step == 99 &&
-          toarmuts_network_submit(&network, &wait_call) == TOARMUTS_CLOSED && toarmuts_network_tick(&network, 1) == TOARMUTS_CLOSED &&
+          toarmuts_network_submit(&network, &wait_call) == TOARMUTS_CLOSED &&
+          toarmuts_network_submit_bundled(&network, &hello) == TOARMUTS_CLOSED && toarmuts_network_tick(&network, 1) == TOARMUTS_CLOSED &&
           toarmuts_network_feed(&network, 1, TOARMUTS_FRAME, line, 0) == TOARMUTS_CLOSED &&
           toarmuts_network_line(&network, line, 8, &number) == TOARMUTS_CLOSED &&
           toarmuts_network_clock(&network, &number) == TOARMUTS_CLOSED && toarmuts_network_due(&network, 1, &number) == TOARMUTS_CLOSED &&
@@ -179,6 +181,7 @@ check_order(void)
   check("fresh", toarmuts_network_link(&network, &good) == TOARMUTS_DONE && toarmuts_network_tick(&network, 1) == TOARMUTS_NOT_AT_REST &&
                    toarmuts_network_feed(&network, 9, 9, line, 0) == TOARMUTS_NOT_AT_REST &&
                    toarmuts_network_submit(&network, &none) == TOARMUTS_NO_TURN &&
+                   toarmuts_network_submit_bundled(&network, &hello) == TOARMUTS_NO_TURN &&
                    toarmuts_network_line(&network, line, 8, &length) == TOARMUTS_NO_LINE && length == 99);
   check("turn", toarmuts_network_next(&network, &happening, &turn) == TOARMUTS_DONE && turn.process == 4 &&
                   turn.origin == TOARMUTS_FROM_SYNCH && turn.stimulus == TOARMUTS_EVENT && turn.event == TOARMUTS_EVENT_INIT);
@@ -187,6 +190,7 @@ check_order(void)
                            toarmuts_network_feed(&network, 9, 9, line, 0) == TOARMUTS_AWAITS_CALL &&
                            toarmuts_network_link(&network, &bad[0]) == TOARMUTS_IS_STARTED &&
                            toarmuts_network_submit(&network, &none) == TOARMUTS_NO_CALL &&
+                           toarmuts_network_submit_bundled(&network, &nobody) == TOARMUTS_NO_APPLICATION &&
                            toarmuts_network_line(&network, line, 8, &length) == TOARMUTS_NO_LINE && length == 99);
   check("line", toarmuts_network_submit(&network, &wait_call) == TOARMUTS_DONE &&
                   toarmuts_network_line(&network, line, 8, &length) == TOARMUTS_NO_ROOM && length == strlen("1 4 synch 129 - -> wait") &&
@@ -303,6 +307,20 @@ submits(struct known *known)
   return status == due;
 }
 
+/* A bundled application in place of a call. */
+static bool
+submits_bundled(struct known *known)
+{
+  struct toarmuts_application application = any_application(), before = application;
+  uint32_t status = toarmuts_network_submit_bundled(&known->network, &application);
+  uint32_t due = !known->is_open           ? TOARMUTS_CLOSED
+                 : !known->awaits          ? TOARMUTS_NO_TURN
+                 : is_application(&before) ? TOARMUTS_DONE
+                                           : TOARMUTS_NO_APPLICATION;
+  known->awaits = known->awaits && status != TOARMUTS_DONE;
+  return status == due && (status == TOARMUTS_DONE ? is_application(&application) : memcmp(&application, &before, sizeof before) == 0);
+}
+
 /* The status of an input that has this one by itself. */
 static uint32_t
 due_for(const struct known *known, uint32_t by_itself)
@@ -378,8 +396,8 @@ closes(struct known *known)
 static void
 check_calls(long count)
 {
-  static bool (*const calls[])(struct known *) = {opens,   links,   goes_on, goes_on, goes_on, goes_on, submits,
-                                                  submits, submits, ticks,   feeds,   shows,   closes};
+  static bool (*const calls[])(struct known *) = {opens,   links,   goes_on,         goes_on, goes_on, goes_on, submits,
+                                                  submits, submits, submits_bundled, ticks,   feeds,   shows,   closes};
   static struct known networks[3];
   bool holds = true;
   while(holds && count-- > 0) {
@@ -400,12 +418,13 @@ struct input {
   uint8_t bytes[127];
 };
 
-/* A network with its inputs, where a mote has one list of calls or none. */
+/* A network with its inputs, where a mote has one application, bundled or a list of calls, or none. */
 struct drawn {
   uint32_t motes, links, inputs;
   uint32_t applications[MOST_MOTES];
   uint32_t counts[MOST_MOTES];
   uint32_t places[MOST_MOTES];
+  struct toarmuts_application bundled[MOST_MOTES];
   struct toarmuts_call calls[MOST_MOTES][MOST_LISTED];
   struct toarmuts_link link[MOST_LINKS];
   struct input input[MOST_INPUTS];
@@ -440,6 +459,9 @@ draw_motes(struct drawn *drawn)
   for(uint32_t m = 0; m < drawn->motes; m++) {
     drawn->applications[m] = random_below(5) != 0;
     drawn->counts[m] = drawn->applications[m] * random_below(MOST_LISTED + 1);
+    if(drawn->applications[m] != 0 && random_below(3) == 0) {
+      drawn->bundled[m] = fresh_application();
+    }
     for(uint32_t i = 0; i < drawn->counts[m]; i++) {
       drawn->calls[m][i] = drawn_call(i);
     }
@@ -477,8 +499,10 @@ write_script(FILE *file, const struct drawn *drawn)
 {
   char text[600];
   for(uint32_t m = 0; m < drawn->motes; m++) {
-    fprintf(file, "mote %u%s", (unsigned)m + 1, drawn->applications[m] != 0 ? " calls" : "");
-    for(uint32_t i = 0; i < drawn->counts[m]; i++) {
+    const char *name = names[drawn->bundled[m].kind];
+    fprintf(file, "mote %u%s%s", (unsigned)m + 1, drawn->applications[m] != 0 ? " " : "", name != NULL ? name : "");
+    fprintf(file, "%s", drawn->applications[m] != 0 && name == NULL ? "calls" : "");
+    for(uint32_t i = 0; name == NULL && i < drawn->counts[m]; i++) {
       put_call(text, &drawn->calls[m][i]);
       fprintf(file, "%s%s", i == 0 ? " " : ", ", text);
     }
@@ -506,7 +530,19 @@ write_script(FILE *file, const struct drawn *drawn)
   }
 }
 
-/* Goes on to rest or a halt, each application going through its list, and writes each line. */
+/* The turn of a mote's application. */
+static void
+make_turn(struct toarmuts_network *network, struct drawn *drawn, uint32_t m)
+{
+  uint32_t place = drawn->places[m]++;
+  if(drawn->bundled[m].kind != 0) {
+    toarmuts_network_submit_bundled(network, &drawn->bundled[m]);
+  } else {
+    toarmuts_network_submit(network, place < drawn->counts[m] ? &drawn->calls[m][place] : &wait_call);
+  }
+}
+
+/* Goes on to rest or a halt, and writes each line. */
 static uint32_t
 write_lines(FILE *file, struct toarmuts_network *network, struct drawn *drawn)
 {
@@ -516,8 +552,7 @@ write_lines(FILE *file, struct toarmuts_network *network, struct drawn *drawn)
   uint64_t length;
   while(toarmuts_network_next(network, &happening, &turn) == TOARMUTS_DONE && happening.step != TOARMUTS_NETWORK_REST) {
     if(happening.step == TOARMUTS_NETWORK_TURN) {
-      uint32_t m = happening.mote - 1, place = drawn->places[m]++;
-      toarmuts_network_submit(network, place < drawn->counts[m] ? &drawn->calls[m][place] : &wait_call);
+      make_turn(network, drawn, happening.mote - 1);
     }
     if(toarmuts_network_line(network, line, sizeof line, &length) == TOARMUTS_DONE) {
       fwrite(line, 1, length, file);

@@ -1,5 +1,5 @@
-/* What the programs share that ask motes step by step: calls with their words as a transcript shows them, and
- * applications that are lists of calls. */
+/* What the programs share that ask motes step by step: calls with their words as a transcript shows them, applications that are lists of
+ * calls, and bundled ones. */
 #ifndef STEPS_H
 #define STEPS_H
 
@@ -145,6 +145,57 @@ random_call(void)
     call.bytes[i] = (uint8_t)random_below(256);
   }
   return call;
+}
+
+/* The names of the bundled applications, by their kinds. */
+static const char *const names[] = {
+  [TOARMUTS_APPLICATION_HELLO] = "hello", [TOARMUTS_APPLICATION_BLINK] = "blink", [TOARMUTS_APPLICATION_ECHO] = "echo",
+  [TOARMUTS_APPLICATION_RELAY] = "relay", [TOARMUTS_APPLICATION_CHURN] = "churn", [TOARMUTS_APPLICATION_PING] = "ping",
+};
+
+enum { NAMES = sizeof names / sizeof names[0] };
+
+/* An application of some kind as before its start, or of kind 0. */
+static inline struct toarmuts_application
+fresh_application(void)
+{
+  return (struct toarmuts_application){.kind = random_below(NAMES)};
+}
+
+/* A struct of any numbers, of which many say an application. */
+static inline struct toarmuts_application
+any_application(void)
+{
+  struct toarmuts_application application;
+  memset(&application, (int)random_below(256), sizeof application);
+  application.kind = random_below(NAMES + 1);
+  for(int i = 0; i < 4; i++) {
+    application.numbers[i] = random_below(random_below(4) == 0 ? 300 : 10);
+  }
+  application.length = random_below(70);
+  return application;
+}
+
+/* Whether a struct says an application. */
+static inline bool
+is_application(const struct toarmuts_application *application)
+{
+  const uint32_t *number = application->numbers;
+  switch(application->kind) {
+  case TOARMUTS_APPLICATION_HELLO:
+  case TOARMUTS_APPLICATION_BLINK:
+    return true;
+  case TOARMUTS_APPLICATION_ECHO:
+    return application->length <= 64;
+  case TOARMUTS_APPLICATION_RELAY:
+    return number[0] <= 8 && number[1] <= 255;
+  case TOARMUTS_APPLICATION_CHURN:
+    return number[0] == 0 || number[1] <= 255;
+  case TOARMUTS_APPLICATION_PING:
+    return number[0] <= 2 && (number[2] == 0 || number[3] <= 255);
+  default:
+    return false;
+  }
 }
 
 #endif

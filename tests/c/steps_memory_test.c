@@ -15,7 +15,10 @@ take_turns(struct toarmuts_mote *mote, long count)
   while(count-- > 0 && toarmuts_next(mote, &step, &turn) == TOARMUTS_DONE && step != TOARMUTS_HALT) {
     if(step == TOARMUTS_TURN) {
       struct toarmuts_call call = random_call();
-      toarmuts_submit(mote, &call);
+      struct toarmuts_application application = any_application();
+      if(random_below(2) == 0 || toarmuts_submit_bundled(mote, &application) != TOARMUTS_DONE) {
+        toarmuts_submit(mote, &call);
+      }
     } else if(step == TOARMUTS_REST) {
       const char *input = inputs[random_below(3)];
       toarmuts_feed(mote, (const uint8_t *)input, strlen(input));

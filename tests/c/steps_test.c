@@ -152,6 +152,63 @@ check_turns(void)
   check("poll", turn.origin == TOARMUTS_FROM_POLL && turn.event == TOARMUTS_EVENT_POLL);
 }
 
+/* Lets a bundled application take the turn that comes next; its line is that. */
+static bool
+takes_turn(struct toarmuts_mote *mote, struct toarmuts_application *application, const char *line)
+{
+  struct toarmuts_turn turn;
+  uint32_t step = TOARMUTS_HALT;
+  return toarmuts_next(mote, &step, &turn) == TOARMUTS_DONE && step == TOARMUTS_TURN &&
+         toarmuts_submit_bundled(mote, application) == TOARMUTS_DONE && line_is(mote, line);
+}
+
+/* Bundled applications: what is refused changes nothing, and a copy goes on as the original. */
+static void
+check_bundled(void)
+{
+  static const struct toarmuts_application refused[] = {
+    {0, {0}, 0, {0}},
+    {7, {0}, 0, {0}},
+    {TOARMUTS_APPLICATION_ECHO, {0}, 65, {0}},
+    {TOARMUTS_APPLICATION_RELAY, {9, 0}, 0, {0}},
+    {TOARMUTS_APPLICATION_RELAY, {0, 256}, 0, {0}},
+    {TOARMUTS_APPLICATION_CHURN, {1, 256}, 0, {0}},
+    {TOARMUTS_APPLICATION_PING, {3, 0, 0, 0}, 0, {0}},
+    {TOARMUTS_APPLICATION_PING, {0, 0, 1, 256}, 0, {0}},
+  };
+  struct toarmuts_application blink = {.kind = TOARMUTS_APPLICATION_BLINK}, copy = blink, echo = {.kind = TOARMUTS_APPLICATION_ECHO};
+  struct toarmuts_mote mote = closed_mote;
+  struct toarmuts_turn turn;
+  uint32_t step;
+  check("bundled, closed", toarmuts_submit_bundled(&mote, &blink) == TOARMUTS_CLOSED);
+  toarmuts_open(&defaults, 1, &mote);
+  check("bundled, no turn", toarmuts_submit_bundled(&mote, &blink) == TOARMUTS_NO_TURN && memcmp(&blink, &copy, sizeof blink) == 0);
+  toarmuts_next(&mote, &step, &turn);
+  for(size_t i = 0; i < sizeof refused / sizeof refused[0]; i++) {
+    struct toarmuts_application application = refused[i];
+    check("bundled, refused", toarmuts_submit_bundled(&mote, &application) == TOARMUTS_NO_APPLICATION &&
+                                memcmp(&application, &refused[i], sizeof application) == 0);
+  }
+  check("blink starts", toarmuts_submit_bundled(&mote, &blink) == TOARMUTS_DONE && line_is(&mote, "4 synch 129 - -> timer-set 0 10") &&
+                          takes_turn(&mote, &blink, "4 answer done -> wait") && toarmuts_next(&mote, &step, &turn) == TOARMUTS_DONE);
+  feed(&mote, "tick 10");
+  toarmuts_next(&mote, &step, &turn);
+  copy = blink;
+  check("blink goes on", takes_turn(&mote, &copy, "4 event 136 0 -> print 6f6e0a") &&
+                           takes_turn(&mote, &copy, "4 answer done -> timer-reset 0") && takes_turn(&mote, &copy, "4 answer done -> wait"));
+  toarmuts_next(&mote, &step, &turn);
+  feed(&mote, "tick 10");
+  toarmuts_next(&mote, &step, &turn);
+  check("the older state prints on once more", takes_turn(&mote, &blink, "4 event 136 0 -> print 6f6e0a"));
+  toarmuts_close(&mote);
+  toarmuts_open(&defaults, 1, &mote);
+  check("echo", takes_turn(&mote, &echo, "4 synch 129 - -> wait") && toarmuts_next(&mote, &step, &turn) == TOARMUTS_DONE);
+  feed(&mote, "serial 68690a");
+  toarmuts_next(&mote, &step, &turn);
+  check("echo prints", takes_turn(&mote, &echo, "4 event 138 x6869 -> print 6869"));
+  toarmuts_close(&mote);
+}
+
 /* A mote, and what is known of it. */
 struct known {
   struct toarmuts_mote mote;
@@ -217,6 +274,20 @@ answers(struct known *known)
   uint32_t due = !known->is_open ? TOARMUTS_CLOSED : !known->awaits ? TOARMUTS_NO_TURN : is_call(&call) ? TOARMUTS_DONE : TOARMUTS_NO_CALL;
   known->awaits = known->awaits && status != TOARMUTS_DONE;
   return status == due;
+}
+
+/* A bundled application in place of a call. */
+static bool
+answers_bundled(struct known *known)
+{
+  struct toarmuts_application application = any_application(), before = application;
+  uint32_t status = toarmuts_submit_bundled(&known->mote, &application);
+  uint32_t due = !known->is_open           ? TOARMUTS_CLOSED
+                 : !known->awaits          ? TOARMUTS_NO_TURN
+                 : is_application(&before) ? TOARMUTS_DONE
+                                           : TOARMUTS_NO_APPLICATION;
+  known->awaits = known->awaits && status != TOARMUTS_DONE;
+  return status == due && (status == TOARMUTS_DONE ? is_application(&application) : memcmp(&application, &before, sizeof before) == 0);
 }
 
 /* Whether what is handed in is answered as is due, where by itself it has this status. A mote may rest before next says so. */
@@ -297,8 +368,8 @@ closes(struct known *known)
 static void
 check_calls(long count)
 {
-  static bool (*const calls[])(struct known *) = {opens,   goes_on,    goes_on,     goes_on, answers, answers,
-                                                  answers, takes_line, takes_input, tells,   closes};
+  static bool (*const calls[])(struct known *) = {opens,           goes_on, goes_on,    goes_on,     answers, answers,
+                                                  answers_bundled, answers, takes_line, takes_input, tells,   closes};
   static struct known motes[3];
   bool holds = true;
   while(holds && count-- > 0) {
@@ -312,11 +383,12 @@ check_calls(long count)
 
 enum { MOST_LISTED = 40, MOST_LINES = 30, MOST_TEXT = 1 << 20 };
 
-/* Applications that are lists of calls, and a script. Now and then the first application asks for the clock at every turn, which
- * halts the mote. */
+/* Applications that are bundled or lists of calls, and a script. Now and then the first application asks for the clock at every turn,
+ * which halts the mote. */
 struct scenario {
   bool watches_clock;
   uint32_t applications, lines;
+  struct toarmuts_application bundled[6];
   uint32_t counts[6];
   struct toarmuts_call calls[6][MOST_LISTED];
   char script[MOST_LINES][600];
@@ -328,6 +400,7 @@ make_scenario(struct scenario *scenario)
   scenario->applications = random_below(7);
   scenario->watches_clock = scenario->applications > 0 && random_below(100) == 0;
   for(uint32_t i = 0; i < scenario->applications; i++) {
+    scenario->bundled[i] = random_below(2) == 0 ? fresh_application() : (struct toarmuts_application){0};
     scenario->counts[i] = random_below(MOST_LISTED + 1);
     for(uint32_t k = 0; k < scenario->counts[i]; k++) {
       scenario->calls[i][k] = random_call();
@@ -357,9 +430,9 @@ static char *
 put_applications(char *text, const struct scenario *scenario)
 {
   for(uint32_t i = 0; i < scenario->applications; i++) {
-    bool watches = i == 0 && scenario->watches_clock;
-    text += sprintf(text, watches ? "clock-watcher" : "calls");
-    for(uint32_t k = 0; !watches && k < scenario->counts[i]; k++) {
+    const char *name = i == 0 && scenario->watches_clock ? "clock-watcher" : names[scenario->bundled[i].kind];
+    text += sprintf(text, "%s", name != NULL ? name : "calls");
+    for(uint32_t k = 0; name == NULL && k < scenario->counts[i]; k++) {
       text += sprintf(text, k == 0 ? " " : ", ");
       text = put_call(text, &scenario->calls[i][k]);
     }
@@ -388,9 +461,25 @@ call_of(const struct scenario *scenario, uint32_t application, uint32_t turn)
   return turn < scenario->counts[application] ? &scenario->calls[application][turn] : &wait;
 }
 
-/* Goes on to rest or a halt, each application going through its list, and appends the lines of all entries. */
+/* How far the applications of a scenario are. */
+struct progress {
+  uint32_t places[6];
+  struct toarmuts_application bundled[6];
+};
+
+/* The turn of an application, which is bundled or goes through its list. */
+static uint32_t
+make_turn(struct toarmuts_mote *mote, const struct scenario *scenario, struct progress *progress, uint32_t application)
+{
+  bool watches = application == 0 && scenario->watches_clock;
+  return !watches && progress->bundled[application].kind != 0
+           ? toarmuts_submit_bundled(mote, &progress->bundled[application])
+           : toarmuts_submit(mote, call_of(scenario, application, progress->places[application]++));
+}
+
+/* Goes on to rest or a halt, and appends the lines of all entries. */
 static char *
-put_entries(char *text, struct toarmuts_mote *mote, const struct scenario *scenario, uint32_t *places, bool *holds)
+put_entries(char *text, struct toarmuts_mote *mote, const struct scenario *scenario, struct progress *progress, bool *holds)
 {
   struct toarmuts_turn turn;
   uint32_t step;
@@ -398,8 +487,7 @@ put_entries(char *text, struct toarmuts_mote *mote, const struct scenario *scena
   memset(&turn, 0, sizeof turn);
   while(toarmuts_next(mote, &step, &turn) == TOARMUTS_DONE && step < TOARMUTS_REST) {
     if(step == TOARMUTS_TURN) {
-      uint32_t application = turn.process - 4;
-      *holds = *holds && toarmuts_submit(mote, call_of(scenario, application, places[application]++)) == TOARMUTS_DONE;
+      *holds = *holds && make_turn(mote, scenario, progress, turn.process - 4) == TOARMUTS_DONE;
     }
     *holds = *holds && toarmuts_line(mote, (uint8_t *)text, 640, &length) == TOARMUTS_DONE;
     text += length;
@@ -434,15 +522,17 @@ static char *
 put_run(char *text, const struct scenario *scenario, bool *holds)
 {
   struct toarmuts_mote mote = closed_mote;
-  uint32_t places[6] = {0}, status = toarmuts_open(&defaults, scenario->applications, &mote);
+  struct progress progress = {{0}, {{0}}};
+  uint32_t status = toarmuts_open(&defaults, scenario->applications, &mote);
+  memcpy(progress.bundled, scenario->bundled, sizeof progress.bundled);
   *holds = *holds && status == TOARMUTS_DONE;
-  text = put_entries(text, &mote, scenario, places, holds);
+  text = put_entries(text, &mote, scenario, &progress, holds);
   for(uint32_t i = 0; i < scenario->lines && status == TOARMUTS_DONE; i++) {
     status = hand_in(&mote, scenario->script[i]);
     if(status == TOARMUTS_BAD_LINE) {
       text += sprintf(text, "bad line %u\n", (unsigned)i + 1);
     }
-    text = put_entries(text, &mote, scenario, places, holds);
+    text = put_entries(text, &mote, scenario, &progress, holds);
   }
   *holds = *holds && toarmuts_close(&mote) == TOARMUTS_DONE;
   return text;
@@ -504,6 +594,7 @@ main(int count, char **words)
   check_words();
   check_order();
   check_turns();
+  check_bundled();
   check_calls(count > 1 ? atol(words[1]) : 1000);
   check_runs(count > 2 ? atol(words[2]) : 100);
   return conclude();

@@ -23,7 +23,7 @@ enum toarmuts_status {
   TOARMUTS_HALTED = 3,                 /* the mote halted; network: an input took all its rounds */
   TOARMUTS_TOO_LONG = 4,               /* the script has more than 16,777,216 bytes */
   TOARMUTS_NOT_TEXT = 16,              /* the applications are no UTF-8 */
-  TOARMUTS_NO_APPLICATION = 17,        /* a line names no application */
+  TOARMUTS_NO_APPLICATION = 17,        /* a line names no application; submit_bundled: the struct says none */
   TOARMUTS_TOO_MANY_APPLICATIONS = 18, /* more than 16 */
   TOARMUTS_BAD_SIZES = 19,             /* no mote boots with these sizes; open: or with more than 16 applications */
   TOARMUTS_NO_ROOM = 20,               /* the transcript, or the line, is longer than the room for it; a link too many */
@@ -31,7 +31,7 @@ enum toarmuts_status {
   TOARMUTS_CLOSED = 22,                /* the mote, or the network, is closed */
   TOARMUTS_IS_OPEN = 23,               /* open: it is open already */
   TOARMUTS_AWAITS_CALL = 24,           /* next, feed, feed_input, tick: a turn awaits its call */
-  TOARMUTS_NO_TURN = 25,               /* submit: no turn awaits a call */
+  TOARMUTS_NO_TURN = 25,               /* submit, submit_bundled: no turn awaits a call */
   TOARMUTS_NOT_AT_REST = 26,           /* feed, feed_input, tick: work is pending: call next first */
   TOARMUTS_NO_CALL = 27,               /* submit: no such kind, a number out of its range, or too many bytes */
   TOARMUTS_NO_INPUT = 28,              /* no such kind, no bytes, or too many; feed: an input of no bytes */
@@ -277,6 +277,25 @@ struct toarmuts_call {
   uint8_t bytes[128];
 };
 
+/* The bundled applications, those of the program mote. */
+enum toarmuts_application_kind {
+  TOARMUTS_APPLICATION_HELLO = 1,
+  TOARMUTS_APPLICATION_BLINK = 2,
+  TOARMUTS_APPLICATION_ECHO = 3,
+  TOARMUTS_APPLICATION_RELAY = 4,
+  TOARMUTS_APPLICATION_CHURN = 5,
+  TOARMUTS_APPLICATION_PING = 6
+};
+
+/* A bundled application between two turns: `struct toarmuts_application echo = {.kind = TOARMUTS_APPLICATION_ECHO};` is as before its
+ * start. The library writes the other members; any numbers in them are safe. A copy is as good as the original. */
+struct toarmuts_application {
+  uint32_t kind; /* enum toarmuts_application_kind */
+  uint32_t numbers[4];
+  uint32_t length;
+  uint8_t bytes[128];
+};
+
 enum toarmuts_input_kind { TOARMUTS_TICK, TOARMUTS_SERIAL, TOARMUTS_FRAME };
 
 /* Opens a mote with this number of applications (0 to 16), processes 4, 5, .. All its memory is allocated here. `quiet` of the
@@ -294,6 +313,10 @@ uint32_t toarmuts_next(struct toarmuts_mote *mote, uint32_t *step, struct toarmu
 
 /* Submits the call of the application whose turn it is: it is executed, and the turn is an entry. */
 uint32_t toarmuts_submit(struct toarmuts_mote *mote, const struct toarmuts_call *call);
+
+/* In place of toarmuts_submit: submits the call that this application makes in the turn. The struct is that of the process whose turn it is;
+ * it is then as after the turn. NO_APPLICATION where it says none. */
+uint32_t toarmuts_submit_bundled(struct toarmuts_mote *mote, struct toarmuts_application *application);
 
 /* Writes the transcript's line of the last entry to the front of the buffer, without its line end. A turn is an entry once its call was
  * submitted. 639 bytes are always enough. */
@@ -394,6 +417,9 @@ uint32_t toarmuts_network_next(struct toarmuts_network *network, struct toarmuts
 
 /* Submits the call of the application whose turn it is: it is executed, and the turn is an entry. */
 uint32_t toarmuts_network_submit(struct toarmuts_network *network, const struct toarmuts_call *call);
+
+/* In place of toarmuts_network_submit, as toarmuts_submit_bundled. */
+uint32_t toarmuts_network_submit_bundled(struct toarmuts_network *network, struct toarmuts_application *application);
 
 /* Lets the clock advance by a number of ticks, in the calls of next that follow. */
 uint32_t toarmuts_network_tick(struct toarmuts_network *network, uint32_t ticks);

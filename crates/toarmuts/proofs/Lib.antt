@@ -1,3 +1,4 @@
+mod BundledExamples
 mod Examples
 mod Parts
 mod ReadLines

@@ -1,9 +1,11 @@
+pub mod BundledTurns
 pub mod Outcomes
 pub mod Calls
 pub mod Code
 pub mod Configurations
 pub mod Inputs
 pub mod Owned
+pub mod PlainApplications
 pub mod Reasons
 pub mod Sessions
 pub mod Steps

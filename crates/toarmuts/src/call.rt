@@ -27,7 +27,7 @@ pub struct PlainCall {
 }
 
 /// So many bytes from the front on, where the vector has room for them.
-fn front<const N: usize>(bytes: &[u8; 128], len: u32) -> Option<ArrayVec<u8, N>>
+pub(crate) fn front<const N: usize>(bytes: &[u8; 128], len: u32) -> Option<ArrayVec<u8, N>>
     requires { N ≤ 128 }
     ensures { result ≡ (if nat_le len N then Some (record { items = take len bytes.now }) else None) }
 {

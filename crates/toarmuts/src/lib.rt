@@ -8,6 +8,8 @@
 ghost use Rattle.std.specs.Prelude.{◌≡◌, ◌≢◌, ◌≤◌, ◌<◌, length, take, drop};
 ghost use Rattle.toarmuts.specs.Outcomes.{HasNoReason, IsRefusalOf, IsRunOf, IsTooLongFor};
 
+mod application;
+mod bundled_turn;
 mod call;
 mod configuration;
 mod held_network;
@@ -33,6 +35,7 @@ mod unboxed;
 
 use crate::outcome::{put_refusal, put_run};
 use crate::running::run_lines;
+pub use application::PlainApplication;
 pub use call::PlainCall;
 pub use configuration::Configuration;
 pub use held_network::HeldNetwork;

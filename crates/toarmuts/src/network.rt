@@ -5,10 +5,13 @@
 ghost use Rattle.std.specs.Prelude.{◌≡◌, ◌≢◌, ◌≤◌, ◌+◌, ◌↔◌, true, None, length as size_of, take, drop, is_some, IsSomeAnd};
 ghost use Rattle.network_steps.specs.Lines.{came_line};
 ghost use Rattle.network_steps.specs.Works.{TakesFeed, TakesLink, TakesTicks};
+ghost use Rattle.toarmuts.specs.BundledTurns.{NetworkTakesTurn, network_bundled_status};
 ghost use Rattle.toarmuts.specs.Inputs.{input_said};
 ghost use Rattle.toarmuts.specs.NetworkCalls.{NetworkGoes, NetworkGoesNext, NetworkTakesCall, awaits, network_due_status, network_feed_status, network_line_status, network_link_status, network_status, network_submit_status, network_tick_status, steps_in};
 ghost use Rattle.toarmuts.specs.Networks.{link_said, place_of};
 
+use crate::application::PlainApplication;
+use crate::bundled_turn::take_network_turn;
 use crate::call::PlainCall;
 use crate::held_network::HeldNetwork;
 use crate::in_network::{
@@ -104,6 +107,25 @@ pub extern "C" fn toarmuts_network_submit(
         return CLOSED;
     };
     let status = submit_call(&mut open_network.steps, call);
+    network.put(alloc, open_network);
+    status
+}
+
+/// Submits the call that a bundled application makes in its turn: the application is one that C holds.
+#[unsafe(no_mangle)]
+pub extern "C" fn toarmuts_network_submit_bundled(
+    alloc: Global,
+    network: &mut HeldNetwork,
+    application: &mut PlainApplication,
+) -> u32
+    ensures status { result ≡ network_status (steps_in network.old) (network_bundled_status application.old) }
+    ensures taken { result ≡ 0 → NetworkGoes (NetworkTakesTurn application.old application.new) (steps_in network.old) (steps_in network.new) }
+    ensures unchanged { result ≢ 0 → ((steps_in network.new) ≡ (steps_in network.old)) × (application.new ≡ application.old) }
+{
+    let Some(mut open_network) = network.take(alloc) else {
+        return CLOSED;
+    };
+    let status = take_network_turn(&mut open_network.steps, application);
     network.put(alloc, open_network);
     status
 }

@@ -10,6 +10,9 @@ use network_steps::fault::StepsFault;
 /// It was done.
 pub const DONE: u32 = 0;
 
+/// There is no such application.
+pub const NO_APPLICATION: u32 = 17;
+
 /// No mote boots with these sizes and so many applications.
 pub const BAD_SIZES: u32 = 19;
 

@@ -8,9 +8,12 @@ ghost use Rattle.kernel_core.specs.Machine.{is_bootable};
 ghost use Rattle.timer_core.specs.Deadlines.{next_deadline};
 ghost use Rattle.toarmuts.specs.Sessions.{session_in};
 ghost use Rattle.mote_text.specs.EntryText.{entry_line};
+ghost use Rattle.toarmuts.specs.BundledTurns.{TakesTurn, bundled_status};
 ghost use Rattle.toarmuts.specs.Inputs.{input_said};
 ghost use Rattle.toarmuts.specs.Steps.{Goes, GoesNext, IsLastLine, IsOpened, TakesCall, TakesInput, TakesScriptLine, submit_status, config_in, due_status, feed_status, input_status, line_status, next_status, open_status};
 
+use crate::application::PlainApplication;
+use crate::bundled_turn::take_turn;
 use crate::call::PlainCall;
 use crate::configuration::Configuration;
 use crate::in_session::{feed_input, feed_line, go_on, put_due, put_last_line, take_call};
@@ -159,6 +162,25 @@ pub extern "C" fn toarmuts_submit(alloc: Global, mote: &mut Mote, call: &PlainCa
         return CLOSED;
     };
     let status = take_call(&mut open_mote.session, call);
+    mote.put(alloc, open_mote);
+    status
+}
+
+/// Submits the call that a bundled application makes in its turn: the application is one that C holds.
+#[unsafe(no_mangle)]
+pub extern "C" fn toarmuts_submit_bundled(
+    alloc: Global,
+    mote: &mut Mote,
+    application: &mut PlainApplication,
+) -> u32
+    ensures status { result ≡ bundled_status application.old (session_in mote.old) }
+    ensures taken { result ≡ 0 → Goes (TakesTurn application.old application.new) (session_in mote.old) (session_in mote.new) }
+    ensures unchanged { result ≢ 0 → ((session_in mote.new) ≡ (session_in mote.old)) × (application.new ≡ application.old) }
+{
+    let Some(mut open_mote) = mote.take(alloc) else {
+        return CLOSED;
+    };
+    let status = take_turn(&mut open_mote.session, application);
     mote.put(alloc, open_mote);
     status
 }

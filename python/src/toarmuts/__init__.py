@@ -16,7 +16,6 @@ clone to a first result.
 import importlib as _importlib
 import typing as _typing
 
-from . import bundled as _bundled  # noqa: F401  so that no run imports it
 from .applications import Application, ApplicationLike, CallList, Table, Turns
 from .call import Call
 from .calls import *  # noqa: F401,F403  a class for each call

@@ -18,16 +18,17 @@ from __future__ import annotations
 import functools
 import inspect
 import itertools
+import struct
 from collections.abc import Callable, Generator, Iterable, Mapping, Sequence, Set
 from dataclasses import dataclass
 from typing import Any, Protocol, Union, overload
 
 from .call import MOST_CALLS, Call, is_count, read_calls
-from .calls import Exit, Wait
+from .calls import Clock, Exit, Wait
 from .errors import (BadCall, BadInput, NoApplication, Reason, TooManyApplications, ToarmutsError, WrongType, repr_of, words_of)
-from .library import Why
+from .library import APPLICATION_SIZE, Why
 from .numbers import EventCode
-from .rules import FIRST_PROCESS, MOST_APPLICATIONS, RULES
+from .rules import BUNDLED, FIRST_PROCESS, MOST_APPLICATIONS, RULES
 from .script import encoded
 from .values import Event, Stimulus, index_of
 
@@ -143,7 +144,9 @@ def _check_row(calls: object) -> list[Call]:
     return list(calls)
 
 
-WAIT, EXIT = Wait(), Exit()
+WAIT, EXIT, CLOCK = Wait(), Exit(), Clock()
+# The member of struct toarmuts_application that says which it is.
+_KIND = struct.Struct("=I")
 
 
 @dataclass(frozen=True)
@@ -152,7 +155,7 @@ class Named:
 
     number: int
     line: str | None
-    make: Callable[[], Application]
+    make: Callable[[], Made]
     told: str
     """Its name in pictures and messages."""
 
@@ -222,6 +225,30 @@ def _itself(application: Application) -> Application:
     return application
 
 
+class ClockWatcher:
+    """Asks for the clock at every turn, and so never waits."""
+
+    def turn(self, stimulus: Stimulus) -> Call:
+        """The call for this stimulus."""
+        return CLOCK
+
+
+class Bundled:
+    """An application of the mote between two turns: the library makes its calls."""
+
+    def __init__(self, name: str) -> None:
+        self.name = name
+        self.state = bytearray(_KIND.pack(BUNDLED.index(name) + 1).ljust(APPLICATION_SIZE, b"\0"))
+        """The bytes of ``struct toarmuts_application``."""
+
+    def __repr__(self) -> str:
+        return f"<Bundled {self.name}>"
+
+
+Made = Union[Application, Bundled]
+"""An application of a mote that goes step by step."""
+
+
 def _unwrapped(application: object) -> object:
     while isinstance(application, functools.partial):
         application = application.func
@@ -275,11 +302,11 @@ def _make_list(number: int, line: str) -> Application:
         raise NoApplication(number, line, str(fault), fault.place) from None
 
 
-def _make_named(number: int, name: str) -> Application:
-    """The mote's own application of this name."""
+def _make_named(number: int, name: str) -> Made:
+    """The application of this name."""
     if name not in RULES.applications:
         raise NoApplication(number, name, _no_name(name))
-    return bundled(name)
+    return Bundled(name) if name in BUNDLED else ClockWatcher()
 
 
 def _no_name(name: str) -> str:
@@ -361,12 +388,5 @@ def why_no_call(call: object) -> str:
     return f"{repr_of(call)} is not a call"
 
 
-def bundled(name: str) -> Application:
-    """The application of the mote with this name, in Python."""
-    from .bundled import BUNDLED
-
-    return BUNDLED[name]()
-
-
-__all__ = ["Application", "ApplicationLike", "CallList", "GeneratorApplication", "Named", "Table", "ToarmutsError", "Turns",
-           "read_applications"]
+__all__ = ["Application", "ApplicationLike", "Bundled", "CallList", "GeneratorApplication", "Made", "Named", "Table", "ToarmutsError",
+           "Turns", "read_applications"]

@@ -7,11 +7,11 @@ from typing import Any
 
 from ._native import ffi, lib  # type: ignore[import]
 from .errors import LibraryError
-from .library import (ADVANCE_SIZE, FIRST_ROOM, LINK_SIZE, MAKE, MOST_ROOM_KEPT, NETWORK_ADVANCE_SIZE, NETWORK_MOTE_SIZE, NO_ROOM, ROW_SIZE,
-                      Configuration, Held, HeldNetwork, NetworkSizes, Outcome)
+from .library import (ADVANCE_SIZE, APPLICATION_SIZE, FIRST_ROOM, LINK_SIZE, MAKE, MOST_ROOM_KEPT, NETWORK_ADVANCE_SIZE, NETWORK_MOTE_SIZE,
+                      NO_ROOM, ROW_SIZE, Configuration, Held, HeldNetwork, NetworkSizes, Outcome)
 
 STRUCTURES = {"transcript_row": ROW_SIZE, "advance": ADVANCE_SIZE, "network_advance": NETWORK_ADVANCE_SIZE,
-              "toarmuts_network_mote": NETWORK_MOTE_SIZE, "toarmuts_link": LINK_SIZE}
+              "toarmuts_application": APPLICATION_SIZE, "toarmuts_network_mote": NETWORK_MOTE_SIZE, "toarmuts_link": LINK_SIZE}
 
 
 class _Room:
@@ -140,6 +140,10 @@ class CffiMote:
         self._call_bytes[:] = call
         lib.advance_mote(self._mote, self._call, self._advance)
 
+    def advance_bundled(self, application: bytearray) -> None:
+        """Works on, where a bundled application makes the call."""
+        lib.advance_bundled(self._mote, ffi.from_buffer("struct toarmuts_application *", application), self._advance)
+
     def clock(self) -> int:
         """The ticks since boot."""
         lib.toarmuts_clock(self._mote, self._clock)
@@ -184,6 +188,10 @@ class CffiNetwork:
         """Works on."""
         self._call_bytes[:] = call
         lib.advance_network(self._network, self._call, self._advance)
+
+    def advance_bundled(self, application: bytearray) -> None:
+        """Works on, where a bundled application makes the call."""
+        lib.advance_network_bundled(self._network, ffi.from_buffer("struct toarmuts_application *", application), self._advance)
 
     def clock(self) -> int:
         """The ticks since boot."""

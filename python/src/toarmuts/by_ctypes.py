@@ -8,12 +8,12 @@ import weakref
 from typing import Any
 
 from .errors import LibraryError
-from .library import (ADVANCE_SIZE, FIRST_ROOM, LINK_SIZE, MAKE, MOST_ROOM_KEPT, NETWORK_ADVANCE_SIZE, NETWORK_MOTE_SIZE, NO_ROOM, ROW_SIZE,
-                      Configuration, Held, HeldNetwork, NetworkSizes, Outcome)
+from .library import (ADVANCE_SIZE, APPLICATION_SIZE, FIRST_ROOM, LINK_SIZE, MAKE, MOST_ROOM_KEPT, NETWORK_ADVANCE_SIZE, NETWORK_MOTE_SIZE,
+                      NO_ROOM, ROW_SIZE, Configuration, Held, HeldNetwork, NetworkSizes, Outcome)
 
 NEEDED = ("toarmuts_run", "transcript_table", "transcript_lines", "run_mote", "open_mote", "feed_line", "feed_input", "toarmuts_clock",
-          "toarmuts_close", "toarmuts_due", "advance_mote", "open_network", "tick_network", "feed_network", "advance_network",
-          "toarmuts_network_clock", "toarmuts_network_due", "toarmuts_network_close")
+          "toarmuts_close", "toarmuts_due", "advance_mote", "advance_bundled", "open_network", "tick_network", "feed_network",
+          "advance_network", "advance_network_bundled", "toarmuts_network_clock", "toarmuts_network_due", "toarmuts_network_close")
 
 
 class _Outcome(ctypes.Structure):
@@ -34,6 +34,7 @@ class _NetworkSizes(ctypes.Structure):
 
 
 _Numbers = ctypes.c_uint32 * 6
+_ApplicationBytes = ctypes.c_char * APPLICATION_SIZE
 
 
 class _Room:
@@ -90,6 +91,7 @@ class CtypesLibrary:
         calls.feed_input.argtypes = [pointer, u32, u32, ctypes.c_char_p, size]
         calls.toarmuts_clock.argtypes, calls.toarmuts_close.argtypes = [pointer, pointer], [pointer]
         calls.advance_mote.argtypes, calls.advance_mote.restype = [pointer, ctypes.c_char_p, pointer], None
+        calls.advance_bundled.argtypes, calls.advance_bundled.restype = [pointer, pointer, pointer], None
         calls.toarmuts_due.argtypes = [pointer, pointer]
         for name in ("open_mote", "feed_line", "feed_input", "toarmuts_clock", "toarmuts_due", "toarmuts_close"):
             getattr(calls, name).restype = u32
@@ -101,6 +103,7 @@ class CtypesLibrary:
         calls.tick_network.argtypes = [pointer, u32]
         calls.feed_network.argtypes = [pointer, u32, u32, ctypes.c_char_p, u64]
         calls.advance_network.argtypes, calls.advance_network.restype = [pointer, ctypes.c_char_p, pointer], None
+        calls.advance_network_bundled.argtypes, calls.advance_network_bundled.restype = [pointer, pointer, pointer], None
         calls.toarmuts_network_clock.argtypes, calls.toarmuts_network_close.argtypes = [pointer, pointer], [pointer]
         calls.toarmuts_network_due.argtypes = [pointer, u32, pointer]
         for name in ("open_network", "tick_network", "feed_network", "toarmuts_network_clock", "toarmuts_network_due",
@@ -182,6 +185,11 @@ class CtypesMote:
         """Works on."""
         self._calls.advance_mote(self._pointer, call, ctypes.addressof(self._advance))
 
+    def advance_bundled(self, application: bytearray) -> None:
+        """Works on, where a bundled application makes the call."""
+        state = _ApplicationBytes.from_buffer(application)
+        self._calls.advance_bundled(self._pointer, ctypes.addressof(state), ctypes.addressof(self._advance))
+
     def clock(self) -> int:
         """The ticks since boot."""
         clock = ctypes.c_uint64()
@@ -224,6 +232,11 @@ class CtypesNetwork:
     def advance(self, call: bytes) -> None:
         """Works on."""
         self._calls.advance_network(self._pointer, call, ctypes.addressof(self._advance))
+
+    def advance_bundled(self, application: bytearray) -> None:
+        """Works on, where a bundled application makes the call."""
+        state = _ApplicationBytes.from_buffer(application)
+        self._calls.advance_network_bundled(self._pointer, ctypes.addressof(state), ctypes.addressof(self._advance))
 
     def clock(self) -> int:
         """The ticks since boot."""

@@ -30,6 +30,7 @@ MOST_ROOM_KEPT = 1 << 24
 
 ROW_SIZE = 56
 ADVANCE_SIZE = 1488
+APPLICATION_SIZE = 148
 NETWORK_ADVANCE_SIZE = 4304
 
 Configuration = tuple[int, int, int, int, int, int]
@@ -82,6 +83,9 @@ class Held(Protocol):
     def advance(self, call: bytes) -> None:
         """Makes a call, if it has a kind, and works on; the result is in ``advance_bytes``."""
 
+    def advance_bundled(self, application: bytearray) -> None:
+        """The same, where a bundled application makes the call: the bytes of ``struct toarmuts_application``."""
+
     def clock(self) -> int:
         """The ticks since boot."""
 
@@ -106,6 +110,9 @@ class HeldNetwork(Protocol):
 
     def advance(self, call: bytes) -> None:
         """Makes a call, if it has a kind, and works on; the result is in ``advance_bytes``."""
+
+    def advance_bundled(self, application: bytearray) -> None:
+        """The same, where a bundled application makes the call: the bytes of ``struct toarmuts_application``."""
 
     def clock(self) -> int:
         """The ticks since boot."""

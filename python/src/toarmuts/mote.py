@@ -5,7 +5,7 @@ import threading
 from collections.abc import Callable, Iterable
 from typing import TYPE_CHECKING
 
-from .applications import Application, ApplicationLike, read_applications
+from .applications import ApplicationLike, Made, read_applications
 from .call import Call
 from .errors import BadInput, MoteError, WrongType, no_attribute
 from .library import CLOSED
@@ -219,7 +219,7 @@ class Mote:
         """Whether the mote was halted: the turns and rounds of an input reached 10,000."""
         return self._stepper.halted
 
-    def application(self, process: int) -> Application:
+    def application(self, process: int) -> Made:
         """The application of a process, from 4 on, as it is now."""
         number = index_of(process)
         if number is None:

@@ -7,7 +7,7 @@ from collections.abc import Callable, Iterable, Sequence
 from dataclasses import replace
 from typing import Any
 
-from .applications import Application, ApplicationLike
+from .applications import ApplicationLike, Made
 from .call import Call
 from .errors import BadInput, MoteError, WrongType
 from .library import CLOSED, NOT_AT_REST
@@ -445,7 +445,7 @@ class NetworkMote:
         """Receives a frame of 1 to 127 bytes from outside."""
         return self.network.frame(self.number, data)
 
-    def application(self, process: int) -> Application:
+    def application(self, process: int) -> Made:
         """The application of a process, from 4 on, as it is now."""
         number = index_of(process)
         made = self.network._started().applications[self.number - 1]

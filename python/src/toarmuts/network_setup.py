@@ -8,7 +8,7 @@ from collections.abc import Iterator, Sequence
 from dataclasses import dataclass, replace
 from typing import NamedTuple, Union
 
-from .applications import Application, ApplicationLike, Named, read_applications
+from .applications import ApplicationLike, Made, Named, read_applications
 from .errors import BadInput, MoteError, WrongType
 from .library import BAD_SIZES, HeldNetwork, library
 from .links import Link
@@ -44,7 +44,7 @@ class MoteSetup:
         """The bytes of ``struct toarmuts_network_mote``."""
         return _MOTE.pack(*self.options.configuration(), len(self.named))
 
-    def make(self) -> list[Application]:
+    def make(self) -> list[Made]:
         """Its applications, made anew."""
         return [named.make() for named in self.named]
 

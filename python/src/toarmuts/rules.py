@@ -85,9 +85,10 @@ class SizeRule:
 
 @dataclass(frozen=True)
 class Rules:
-    """All rules of the file."""
+    """All rules of the file. The applications that aren't of the program mote are made here; the library has the others."""
 
     applications: tuple[str, ...]
+    not_of_mote: tuple[str, ...]
     limits: Mapping[str, int]
     sizes: Mapping[str, SizeRule]
     arguments: Mapping[str, ArgumentRule]
@@ -102,6 +103,10 @@ def _call(kind: int, row: dict[str, Any]) -> CallRule:
     return CallRule(row["name"], kind, tuple(row["arguments"]), tuple(row["refusals"]), row["reply"], row["about"])
 
 
+def _event(row: dict[str, Any]) -> EventRule:
+    return EventRule(row["name"], row["code"], row["reserved"], tuple(row["origins"]), row["about"])
+
+
 def _size(row: dict[str, Any]) -> SizeRule:
     one_of = tuple(row.get("one_of", ()))
     return SizeRule(row["name"], row.get("least", 0), row.get("most", 0), row.get("multiple_of", 1), one_of, row["default"])
@@ -112,6 +117,7 @@ def read_rules(place: pathlib.Path = PLACE) -> Rules:
     told = json.loads(place.read_text(encoding="utf-8"))
     return Rules(
         applications=tuple(told["applications"]),
+        not_of_mote=tuple(told["not_of_mote"]),
         limits=told["limits"],
         sizes={row["name"]: _size(row) for row in told["sizes"]},
         arguments={row["name"]: ArgumentRule(**row) for row in told["arguments"]},
@@ -119,10 +125,11 @@ def read_rules(place: pathlib.Path = PLACE) -> Rules:
         replies=tuple(told["replies"]),
         refusals={row["number"]: RefusalRule(**row) for row in told["refusals"]},
         origins=tuple(told["origins"]),
-        events={row["code"]: EventRule(**{**row, "origins": tuple(row["origins"])}) for row in told["events"]},
+        events={row["code"]: _event(row) for row in told["events"]},
     )
 
 
 RULES = read_rules()
 FIRST_PROCESS = RULES.limits["first_process"]
 MOST_APPLICATIONS = RULES.limits["applications"]
+BUNDLED = tuple(name for name in RULES.applications if name not in RULES.not_of_mote)

@@ -7,7 +7,7 @@ from collections import defaultdict
 from collections.abc import Callable, Sequence
 from typing import ClassVar, Protocol
 
-from .applications import Application, GeneratorApplication, Named, why_no_call
+from .applications import Application, Bundled, GeneratorApplication, Made, Named, why_no_call
 from .call import Call
 from .errors import ApplicationError, MoteError, OutOfMemory, StackTooSmall, ToarmutsError, words_of
 from .library import (AWAITS_CALL, BAD_SIZES, CLOSED, NO_CALL, NO_INPUT, NO_TIMER, NO_TURN, NOT_AT_REST, OUT_OF_MEMORY, STACK_TOO_SMALL,
@@ -106,6 +106,9 @@ class CanAdvance(Protocol):
     def advance(self, call: bytes) -> None:
         """Makes a call, if it has a kind, and works on; the result is in ``advance_bytes``."""
 
+    def advance_bundled(self, application: bytearray) -> None:
+        """The same, where a bundled application makes the call."""
+
 
 class Worker:
     """Works what the library holds from rest to rest, and asks applications in Python for their calls."""
@@ -130,21 +133,28 @@ class Worker:
     def work(self, call: Call | None = None) -> None:
         """Works on to rest; a call is for the turn that awaits one."""
         __tracebackhide__ = True
-        packed = _NO_CALL if call is None else call.packed()
+        self._work(_NO_CALL if call is None else call.packed())
+
+    def _work(self, made: bytes | bytearray) -> None:
+        """The same. What is made is a call, or the state of a bundled application, which makes one."""
+        __tracebackhide__ = True
         while True:
-            step = self._advance(packed)
+            step = self._advance(made)
             if step == _TURN:
-                packed = self._ask().packed()
+                made = self._make()
             elif step == _ENTRY:
-                packed = _NO_CALL
+                made = _NO_CALL
             else:
                 self.halted = step == _HALT
                 return
 
-    def _advance(self, packed: bytes) -> int:
+    def _advance(self, made: bytes | bytearray) -> int:
         """Passes a call to the library, works on, keeps the lines that were made, and notes which turn awaits a call then."""
         try:
-            self._worked.advance(packed)
+            if isinstance(made, bytearray):
+                self._worked.advance_bundled(made)
+            else:
+                self._worked.advance(made)
             return self._note()
         except BaseException:
             # An interrupt, or what another signal's handler raises, may come when the library has worked on, and nothing is noted yet.
@@ -186,7 +196,7 @@ class Worker:
             return process, Event(event, _payload(payload, number, data))
         return process, Callback(number) if stimulus == _CALLBACK else _reply(reply, number, turn[7:12], data)
 
-    def _application(self, process: int) -> Application:
+    def _application(self, process: int) -> Made:
         """The application whose turn it is."""
         raise NotImplementedError
 
@@ -194,14 +204,20 @@ class Worker:
         """The exception where the application whose turn it is fails."""
         return ApplicationError(process, stimulus, reason, Transcript(self.text()))
 
-    def _ask(self) -> Call:
-        """Asks the application whose turn it is. Where it fails, the turn goes on awaiting its call."""
+    def _make(self) -> bytes | bytearray:
+        """The call of the application whose turn it is, or the state of a bundled one, whose call the library makes."""
         __tracebackhide__ = True
         assert self.awaiting is not None
         process, stimulus = self.awaiting
+        application = self._application(process)
+        return application.state if isinstance(application, Bundled) else self._ask(process, stimulus, application).packed()
+
+    def _ask(self, process: int, stimulus: Stimulus, application: Application) -> Call:
+        """Asks the application whose turn it is. Where it fails, the turn goes on awaiting its call."""
+        __tracebackhide__ = True
         try:
             if not self._made:
-                self._made.default_factory = _asking(self._application(process), stimulus)
+                self._made.default_factory = _asking(application, stimulus)
             # Asks and keeps the call in one step, which no interrupt parts.
             call = self._made[0]
         except Exception as fault:
@@ -216,7 +232,7 @@ class Worker:
         """Goes on where an application failed: asks it again."""
         if self.halted:
             raise refuse(HALTED, self.what)
-        self.work(self._ask() if self.awaiting is not None else None)
+        self._work(self._make() if self.awaiting is not None else _NO_CALL)
 
     def text(self) -> bytes:
         """All lines so far."""
@@ -229,7 +245,7 @@ class Stepper(Worker):
     what, _numbers = "mote", _ADVANCE
 
     def __init__(self, applications: list[Named], options: Options) -> None:
-        self.applications: list[Application] = [named.make() for named in applications]
+        self.applications: list[Made] = [named.make() for named in applications]
         status, held = library().open(options.configuration(), len(applications))
         if status == BAD_SIZES:
             raise bad_sizes(options, len(applications))
@@ -238,7 +254,7 @@ class Stepper(Worker):
         self.held: Held = held
         super().__init__(held)
 
-    def _application(self, process: int) -> Application:
+    def _application(self, process: int) -> Made:
         return self.applications[process - FIRST_PROCESS]
 
     def feed_line(self, line: bytes) -> int:
@@ -255,12 +271,12 @@ class NetworkStepper(Worker):
 
     what, _numbers = "network", _NETWORK_ADVANCE
 
-    def __init__(self, held: HeldNetwork, applications: Sequence[list[Application]], transcript_of: Callable[[int], Transcript]) -> None:
+    def __init__(self, held: HeldNetwork, applications: Sequence[list[Made]], transcript_of: Callable[[int], Transcript]) -> None:
         self.held, self.applications = held, applications
         self._transcript_of = transcript_of
         super().__init__(held)
 
-    def _application(self, process: int) -> Application:
+    def _application(self, process: int) -> Made:
         return self.applications[self.mote - 1][process - FIRST_PROCESS]
 
     def _fault(self, process: int, stimulus: Stimulus, reason: str) -> ApplicationError:
