@@ -15,15 +15,15 @@ use std::alloc::{AllocError, Global};
 const ABOUT: &str = "\
 Runs applications on one simulated Contiki-NG node.
 
-Reads a script from standard input, one input a line, and carries it out:
-  tick N        the clock goes on by N ticks, 0 to 4294967295
-  serial HEX    1 to 256 bytes come in on the serial line
-  frame HEX     a radio frame of 1 to 127 bytes comes in
+Reads a script from standard input, one input a line, and executes it:
+  tick N        advances the clock by N ticks, 0 to 4294967295
+  serial HEX    the serial line receives 1 to 256 bytes
+  frame HEX     the radio receives a frame of 1 to 127 bytes
 An empty line and one that begins with '#' do nothing.
 
 Writes a transcript to standard output: a line for each input ('> tick 5'), and
-a line for each turn of an application: its process number, what it was told,
-and the call that it makes ('4 event 136 0 -> print 6f6e0a').";
+a line for each turn of an application: its process number, the event or reply
+that it receives, and the call that it makes ('4 event 136 0 -> print 6f6e0a').";
 
 /// The option of this name, which takes a number.
 pub fn number_option<'a>(
@@ -118,7 +118,7 @@ pub fn names_argument<'a>(alloc: Global) -> Arg<'a>
 {
     Arg::new(alloc, "APP")
         .num_args(0..)
-        .help("Names of applications, none to sixteen, repeats allowed")
+        .help("Names of applications, 0 to 16, repeats allowed")
 }
 
 /// A command that takes the options for sizes besides its others.

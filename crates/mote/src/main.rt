@@ -12,11 +12,11 @@ const PROGRAM: Program = Program {
     name: "mote",
     version: "0.2.0",
     after_help: after_help!(
-        "  hello    prints 'hi' when it is started
-  blink    prints 'on' and 'off' by turns, every 10 ticks
-  echo     prints each line that comes in on the serial line
-  relay    sends each radio frame that comes in
-  churn    makes 18 calls on all kinds of memory when it is started
+        "  hello    prints 'hi' when it starts
+  blink    prints 'on' and 'off' in turn, every 10 ticks
+  echo     prints each line that it receives on the serial line
+  relay    sends each radio frame that it receives
+  churn    makes 18 calls on all kinds of memory when it starts
   ping     broadcasts a count every 5 ticks, and prints it",
         "which prints 'on' at the clock's tick 10:
   printf 'tick 10\\n' | mote blink"

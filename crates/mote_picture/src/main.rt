@@ -1,4 +1,4 @@
-//! Draws the picture of a run: a transcript comes from standard input, one SVG, HTML file or value change dump goes to standard output.
+//! Draws the picture of a run: reads a transcript from standard input, writes one SVG, HTML file or value change dump to standard output.
 #![tactic(auto)]
 
 ghost use Rattle.std.specs.Prelude.{◌≡◌, IfErr};
@@ -24,7 +24,7 @@ use std::process::ExitCode;
 use transcript_lines::is_quiet;
 use undrawn::Undrawn;
 
-/// The height of a picture that most viewers still open, in pixels: they keep places in 15 bits.
+/// The height of a picture that most viewers still open, in pixels: they store positions in 15 bits.
 const HIGHEST: usize = 32_000;
 
 /// All bytes of standard input.
@@ -47,7 +47,7 @@ fn write_all<R: Print>(rt: &R, picture: &[u8]) -> Result<(), Failure<'static>> {
     }
 }
 
-/// The picture that is asked for. Where it is too high for most viewers, that is told.
+/// The picture that is asked for. Warns where it is too high for most viewers.
 fn drawn<R: AllocGlobal + Eprint>(
     rt: &R,
     lines: &[&str],
@@ -116,10 +116,10 @@ fn written<R: AllocGlobal + Eprint>(
     }
 }
 
-/// Says where a picture is too high for most viewers, which serve it only in part or not at all.
+/// Warns where a picture is too high for most viewers, which show only a part of it, or nothing.
 fn warn_of_height<R: Eprint>(rt: &R, height: usize) {
     if height > HIGHEST {
-        // Where that can't be told, the picture is written all the same.
+        // Where the warning can't be written, the picture still is.
         let _ = eprintln!(rt;
             "mote_picture: few viewers open a picture of {height} pixels, more than {HIGHEST}: --from and --to show a part of the run, --page writes a page"
         );
@@ -138,7 +138,7 @@ fn draw_transcript<R: AllocGlobal + Print + Eprint>(
     Ok(write_all(rt, written.as_slice())?)
 }
 
-/// Draws what the words ask for.
+/// Draws what the arguments ask for.
 fn draw_picture<R: AllocGlobal + io::Input + Print + Eprint>(
     rt: &R,
     words: &[&str],
@@ -149,7 +149,7 @@ fn draw_picture<R: AllocGlobal + io::Input + Print + Eprint>(
     draw_transcript(rt, transcript.as_slice(), &named, title.as_str())
 }
 
-/// Tells why nothing is drawn, and answers the status that the program exits with.
+/// Reports why nothing is drawn, and returns the status that the program exits with.
 fn tell<R: Print + Eprint>(rt: &R, undrawn: Undrawn) -> u8
     ensures { IsToldWith undrawn result }
 {
@@ -162,7 +162,7 @@ fn tell<R: Print + Eprint>(rt: &R, undrawn: Undrawn) -> u8
     }
 }
 
-/// Draws what the words ask for, or tells why that isn't done. Answers the status that the program exits with.
+/// Draws what the arguments ask for, or reports why nothing is drawn. Returns the status that the program exits with.
 fn draw_or_tell<R: AllocGlobal + io::Input + Print + Eprint>(rt: &R, words: &[&str]) -> u8 {
     match draw_picture(rt, words) {
         Ok(()) => 0,
@@ -170,11 +170,11 @@ fn draw_or_tell<R: AllocGlobal + io::Input + Print + Eprint>(rt: &R, words: &[&s
     }
 }
 
-/// What the program does with its words. Answers the status that it exits with.
+/// What the program does with its arguments. Returns the status that it exits with.
 ///
 /// # Errors
 ///
-/// `OutOfMemory` where memory was refused for the words.
+/// `OutOfMemory` where memory was refused for the arguments.
 fn work<R: AllocGlobal + io::Input + Print + Eprint>(
     rt: &R,
     words: &[String],

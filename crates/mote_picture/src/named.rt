@@ -1,4 +1,4 @@
-//! What the words of the command line name.
+//! What the arguments name.
 
 ghost use Rattle.std.specs.Prelude.{◌≡◌, ◌≤◌, ◌++◌, true, flat_map, IfOk, IfErr, string_bytes};
 ghost use Rattle.clap.specs.Walk.{rows_of, texts};
@@ -26,7 +26,7 @@ pub enum Form {
     Dump,
 }
 
-/// What the words name.
+/// What the arguments name.
 #[derive(Drop)]
 pub struct Named<'a> {
     pub form: Form,
@@ -37,7 +37,7 @@ pub struct Named<'a> {
     pub unfolded: bool,
 }
 
-/// The sizes of a mote with so many applications, where there may be such a one.
+/// The sizes of a mote with n applications, where they are valid for one.
 fn sizes_for(matches: &ArgMatches<'_>, applications: usize) -> Result<Sizes, Failure<'static>>
     ensures few { IfOk result (λ _. applications ≤ 16) }
     ensures sizes { IfOk result (λ sizes. sizes ≡ spec.shown_sizes (sizes_of (rows_of (found_of matches.now)))) }
@@ -59,7 +59,7 @@ fn sizes_for(matches: &ArgMatches<'_>, applications: usize) -> Result<Sizes, Fai
     })
 }
 
-/// What is to be written. The parser lets no page through that is a dump, too.
+/// The form to write. The parser refuses `--page` with `--vcd`.
 fn form_of(matches: &ArgMatches<'_>) -> Form {
     if matches.get_flag("page") {
         Form::Page
@@ -102,12 +102,12 @@ fn named_by<'a>(alloc: Global, matches: &ArgMatches<'a>) -> Result<Named<'a>, Un
     })
 }
 
-/// What the words name. The first word is the program's name.
+/// What the arguments name. The first is the program's name.
 ///
 /// # Errors
 ///
-/// What the parser finds in the words, then more than sixteen names, then sizes that no mote has, then a range that ends before it
-/// begins, or want of memory.
+/// What the parser finds in the arguments, then more than sixteen names, then invalid sizes, then a range that ends before it
+/// begins. `OutOfMemory` where memory was refused.
 pub fn read_words<'a>(alloc: Global, words: &'a [&'a str]) -> Result<Named<'a>, Undrawn>
     ensures named { IfOk result IsFit }
     ensures refused { IfErr result IsOfWords }
@@ -116,7 +116,7 @@ pub fn read_words<'a>(alloc: Global, words: &'a [&'a str]) -> Result<Named<'a>, 
     named_by(alloc, &matches)
 }
 
-/// Appends what a word has in the title: the one that asks for a page has nothing.
+/// Appends an argument to the title, unless it is `--page`.
 fn push_word(title: &mut String, word: &str) -> Result<(), AllocError>
     ensures { IfOk result (λ _. string_bytes title.new ≡ string_bytes title.old ++ title_word word.now) }
 {
@@ -127,7 +127,7 @@ fn push_word(title: &mut String, word: &str) -> Result<(), AllocError>
     title.push_str(word)
 }
 
-/// Appends what words have in the title.
+/// Appends arguments to the title.
 fn push_words(title: &mut String, words: &[&str]) -> Result<(), AllocError>
     ensures { IfOk result (λ _. string_bytes title.new ≡ string_bytes title.old ++ flat_map title_word (texts words.now)) }
 {
@@ -137,7 +137,7 @@ fn push_words(title: &mut String, words: &[&str]) -> Result<(), AllocError>
     Ok(())
 }
 
-/// What stands above the picture: the words, but for the one that asks for a page.
+/// The title above the picture: the arguments without `--page`.
 ///
 /// # Errors
 ///

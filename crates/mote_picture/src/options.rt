@@ -1,4 +1,4 @@
-//! The command line: its options beside those that mote has, and the text that tells what the program does.
+//! The command line: its options beside those that mote has, and the text of its help.
 
 use clap::{Arg, ArgMatches, Command, value_parser};
 use command_line::{Failure, Program, flag, names_argument, number_option, with_sizes};
@@ -8,29 +8,29 @@ const ABOUT: &str = "\
 Draws the picture of a run.
 
 Reads a transcript, as the program mote writes it, from standard input, and
-writes one SVG to standard output, to be opened in any browser. Give it the names
-and the sizes that mote was given, since a transcript tells neither.";
+writes one SVG for any browser to standard output. It needs the same names and
+sizes as mote, since a transcript has neither.";
 
 const PAGE: &str =
-    "Writes one HTML file in place of the SVG, for long runs: to be scrolled, searched and stepped through";
+    "Writes one HTML file in place of the SVG, for long runs: it scrolls, searches and steps through the run";
 
 const DUMP: &str =
-    "Writes a value change dump in place of the SVG, for the viewers of logic analysers, as GTKWave";
+    "Writes a value change dump in place of the SVG, for viewers of waveforms such as GTKWave";
 
 const AFTER_HELP: &str = "\
 Exit status:
-  0     the picture was written, or this text or the version was printed
-  2     a line is no line of a transcript, or a quiet one is to be a value change
-        dump: nothing is written
+  0     the picture was written, or the help or the version was printed
+  2     a line is malformed, or --vcd was used with a quiet transcript: nothing is
+        written
   5, 6  standard input can't be read, standard output can't be written
-  64    the words name no mote
-  70    memory was refused
+  64    invalid arguments
+  70    out of memory
 
 Example:
   mote relay < relay.script | mote_picture relay > relay.svg
   mote relay < relay.script | mote_picture --page relay > relay.html";
 
-/// What the program tells of itself.
+/// What the program reports of itself.
 pub(crate) const PROGRAM: Program = Program {
     name: "mote_picture",
     version: "0.2.0",
@@ -51,7 +51,7 @@ fn page_flag<'a>(alloc: Global) -> Result<Arg<'a>, AllocError> {
     flag(alloc, "page", PAGE).conflicts_with("vcd")
 }
 
-/// The command line as the parser is told it.
+/// The command line as the parser gets it.
 fn command<'a>(alloc: Global, program: Program) -> Result<Command<'a>, AllocError> {
     let command = Command::new(alloc, program.name)
         .version(program.version)
@@ -59,13 +59,13 @@ fn command<'a>(alloc: Global, program: Program) -> Result<Command<'a>, AllocErro
         .after_help(program.after_help);
     let command = with_sizes(alloc, command)?;
     with_range(alloc, command)?
-        .arg(flag(alloc, "unfolded", "Gives each line a row of its own"))?
+        .arg(flag(alloc, "unfolded", "Draws each line in its own row"))?
         .arg(page_flag(alloc)?)?
         .arg(flag(alloc, "vcd", DUMP))?
         .arg(names_argument(alloc))
 }
 
-/// What the parser makes of the words, of which the first is the program's name.
+/// What the parser makes of the arguments, of which the first is the program's name.
 ///
 /// # Errors
 ///

@@ -7,16 +7,16 @@ use command_line::Failure;
 use std::alloc::{AllocError, AllocFailed};
 use std::fmt;
 
-/// What the program tells in place of a picture.
+/// What the program reports in place of a picture.
 #[derive(Drop)]
 pub enum Undrawn {
-    /// As other programs tell it.
+    /// As other programs report it.
     Program(Failure<'static>),
     /// `--from` is above `--to`.
     BadRange(u64, u64),
     /// The line of this number, from 1 on, is no line of a transcript.
     NoLine(u64),
-    /// A dump of a quiet transcript is asked for, which tells no clock.
+    /// A dump of a quiet transcript is asked for, which has no clock.
     Quiet,
     /// `--from` or `--to` with a quiet transcript.
     QuietRange,

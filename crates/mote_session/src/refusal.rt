@@ -1,4 +1,4 @@
-//! Why a session refuses what it is asked or handed.
+//! Why a session refuses a call.
 
 use thiserror::Error;
 
@@ -14,11 +14,11 @@ pub enum SessionRefusal {
     /// The mote was halted: nothing follows.
     #[error("the mote was halted")]
     Halted,
-    /// Work is left to be done before an input can be submitted.
+    /// There is pending work, which must be done before an input can be submitted.
     #[error("the mote does not rest")]
     NotAtRest,
     /// A line of a script is malformed.
-    #[error("a line of no form")]
+    #[error("a malformed line")]
     BadLine,
     /// Serial bytes or a frame of no bytes.
     #[error("an input of no bytes")]

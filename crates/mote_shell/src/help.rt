@@ -6,18 +6,18 @@
 macro_rules! after_help {
     ($applications:literal, $example:literal) => {
         concat!(
-            "Applications, processes 4, 5, .. in the order of their names:\n",
+            "Applications, processes 4, 5, .. in the order of the arguments:\n",
             $applications,
             "
 
 Exit status:
-  0     the script was carried out, or this text or the version was printed
-  2     the script has a line of no form: 'bad line N' ends the transcript
+  0     the script was executed, or the help or the version was printed
+  2     the script has a malformed line: 'bad line N' ends the transcript
   3     the mote halted: 'halt' ends the transcript
   4     the script has more than 16777216 bytes: 'too long' ends the transcript
   5, 6  standard input can't be read, standard output can't be written
-  64    the words name no mote
-  70    memory was refused
+  64    invalid arguments
+  70    out of memory
 
 Example, ",
             $example

@@ -23,7 +23,7 @@ pub const LINE_LIMIT: usize = 1_024;
 pub enum End {
     /// All lines of the script were carried out.
     Finished,
-    /// The line of this number has no form. Lines are numbered from 1.
+    /// The line of this number is malformed. Lines are numbered from 1.
     BadLine(u32),
     /// The work bound was reached.
     Halted,
@@ -31,9 +31,9 @@ pub enum End {
     TooLong,
 }
 
-/// A line of a script has no form.
+/// A line of a script is malformed.
 #[derive(Clone, Copy, Debug, PartialEq, Eq, Drop, Error)]
-#[error("a line of no form")]
+#[error("a malformed line")]
 pub struct BadLine;
 
 /// The number from 0 to 4294967295 that digits write: 0, where there are none.

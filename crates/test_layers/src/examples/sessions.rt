@@ -136,7 +136,7 @@ fn what_comes_at_rest_is_an_input(alloc: Global, report: &mut Report) -> Result<
     let is_refused = is_wanted(session.submit(Call::Wait), Err(SessionRefusal::NoTurn));
     report.check(is_refused, "a call at rest");
     let is_refused = is_wanted(session.feed(b"no line"), Err(SessionRefusal::BadLine));
-    report.check(is_refused, "a line of no form at rest");
+    report.check(is_refused, "a malformed line at rest");
     let no_bytes = session.feed_input(Input::Frame(ArrayVec::new()));
     let is_refused = is_wanted(no_bytes, Err(SessionRefusal::NoInput));
     report.check(is_refused, "a frame of no bytes at rest");
