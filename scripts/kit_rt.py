@@ -1,4 +1,4 @@
-"""The module beside the kit's rt: what it knows of crates, and what it passes to rattle."""
+"""Loads the module of the kit's rt: its list of crates, and the arguments that it passes to rattle."""
 from __future__ import annotations
 
 import functools
@@ -8,19 +8,19 @@ import sys
 from pathlib import Path
 from typing import Any
 
-# What the check of a crate has of its own: rattle refuses it where it builds what was checked.
+# Options of a check that rattle refuses where it builds what was checked.
 OF_CHECKS = ("--logic-built", "--jobs")
 
 
 def load_rt() -> Any:
-    """What rt itself says of crates."""
+    """The module of rt that reads crates."""
     told = subprocess.run(["rt", "doc"], check=True, capture_output=True, text=True).stdout.strip()
     spec = importlib.util.spec_from_file_location("rtlib", Path(told).parent / "bin/rtlib.py")
     assert spec is not None and spec.loader is not None
     module = importlib.util.module_from_spec(spec)
     sys.modules["rtlib"] = module
     spec.loader.exec_module(module)
-    # A crate's stamp has those of all below it: each is made once.
+    # A crate's stamp has those of all below it: each is computed once.
     module.Crate.stamp = functools.lru_cache(maxsize=None)(module.Crate.stamp)
     return module
 

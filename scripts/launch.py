@@ -1,15 +1,15 @@
-"""Runs the program of a crate on the words that follow, with input, output and the exit status passed through.
+"""Runs the program of a crate with the arguments that follow, and passes on input, output and exit status.
 
-    scripts/launch CRATE READS WORD..
+    scripts/launch CRATE READS ARGUMENT..
 
-Where ./prove has built it, and no source is newer, that program runs. Otherwise the run is carried out unproved, by `rt try`, which builds
-the program anew each time, and a line on standard error says so. READS is what the program reads: `input` for standard input, or `files`
-for the files that its words name, relative to the folder that it is run in. Where a file's first line is malformed since it was written
-as on Windows, that is told on standard error too.
+Where ./prove has built it, and no source is newer, that program runs. Otherwise the run is unproved: `rt try` builds the program each time,
+and a line on standard error says so. READS is what the program reads: `input` for standard input, or `files` for the files that its
+arguments name, relative to the current folder. A first line that is malformed since the file was written on Windows is reported on
+standard error.
 """
 from __future__ import annotations
 
-# A proved program begins in a few milliseconds: what only an unproved run takes is imported there.
+# A proved program starts in a few milliseconds: modules that only an unproved run needs are imported there.
 import os
 import stat
 import sys
@@ -19,13 +19,13 @@ if TYPE_CHECKING:
     from typing import BinaryIO, Iterable, NoReturn, Sequence
 
 ROOT = os.path.dirname(os.path.dirname(os.path.realpath(__file__)))
-# What mote reads of a script at most.
+# The most bytes that mote reads of a script.
 MOST_INPUT = 16_777_217
 BYTE_ORDER_MARK = b"\xef\xbb\xbf"
 
 
 class Launch:
-    """A program that is run: its crate and name, and the command that proves and builds it."""
+    """A program to run: its crate and name, and the command that proves and builds it."""
 
     def __init__(self, crate: str, reads: str, words: Sequence[str]) -> None:
         self.crate = crate
@@ -37,16 +37,16 @@ class Launch:
         self.proving = "./prove" if crate == "mote" else f"./prove {crate}"
 
     def tell(self, text: str) -> None:
-        """Tells something of the run."""
+        """Prints a line on standard error."""
         print(f"{self.name}: {text}", file=sys.stderr, flush=True)
 
     def give_up(self, why: str, status: int = 125) -> NoReturn:
-        """Ends with a status that is none of the program's, which did not run to its end."""
+        """Ends with a status that the program never has, since it did not run to its end."""
         self.tell(why)
         sys.exit(status)
 
     def run(self) -> NoReturn:
-        """Runs the program, proved where that can be done."""
+        """Runs the proved program where there is one; otherwise runs it unproved."""
         if self.is_proved():
             self.tell_of_input()
             os.execv(self.program, [self.program, *self.words])
@@ -55,8 +55,7 @@ class Launch:
     # ---- A proved program ----
 
     def is_proved(self) -> bool:
-        """Whether the program is the one that was proved, of the sources as they are: by times, and by hashes where a time says
-        otherwise."""
+        """Whether the program is the one that was proved, from the present sources: by times, and where a time is newer by hashes."""
         mark = os.path.join(self.folder, "out/proved")
         try:
             with open(mark, encoding="utf-8") as opened:
@@ -73,7 +72,7 @@ class Launch:
         return subprocess.run([os.path.join(ROOT, "prove"), "--is-current", self.crate], check=False).returncode == 0
 
     def tell_of_input(self) -> None:
-        """Tells of what a proved program will read, where it can be read twice: files, and standard input from a file's beginning."""
+        """Checks the input of a proved program, where it can be read twice: files, and standard input from the start of a file."""
         if self.reads == "files":
             self.tell_of_files()
             return
@@ -85,7 +84,7 @@ class Launch:
             pass
 
     def tell_of_files(self) -> None:
-        """Tells of the files that the words name."""
+        """Checks the files that the arguments name."""
         for word in filter(os.path.isfile, self.words):
             try:
                 with open(word, "rb") as opened:
@@ -94,32 +93,32 @@ class Launch:
                 pass
 
     def tell_of_windows(self, what: str, opened: BinaryIO) -> None:
-        """Tells where a file's first line begins with a byte order mark, and where its first line that is neither empty nor a comment ends
-        as on Windows."""
+        """Reports a byte order mark at the start of a file, and a line end of Windows in its first line that is neither empty nor a
+        comment."""
         for number, line in enumerate(opened, 1):
             line = line.removesuffix(b"\n")
             if number == 1 and line.startswith(BYTE_ORDER_MARK):
-                self.tell(f"{what} 1 begins with a byte order mark, as text of Windows does; here none may stand")
+                self.tell(f"{what} 1 begins with a byte order mark, as text of Windows does; here none is allowed")
             if line and not line.startswith(b"#"):
                 if line.endswith(b"\r"):
-                    self.tell(f"{what} {number} ends with byte 13, as lines of Windows do; here a line ends with byte 10 alone")
+                    self.tell(f"{what} {number} ends with byte 13, as lines of Windows do; here a line ends with byte 10 only")
                 return
 
     # ---- An unproved run ----
 
     def run_unproved(self) -> NoReturn:
-        """Has `rt try` carry out the run, and ends as it did."""
+        """Runs the program by `rt try`, and ends with its status."""
         import shutil
         import signal
         if shutil.which("rt") is None:
-            self.give_up("no proved program is built of the sources as they are, and there is no rt in PATH to run them unproved", 127)
+            self.give_up("no proved program is built from the present sources, and there is no rt in PATH to run them unproved", 127)
         if not all(map(is_text, self.words)):
             self.give_up("a word is not text", 64)
         has_input = is_open(0)
         for number in (signal.SIGINT, signal.SIGTERM, signal.SIGHUP):
             if signal.getsignal(number) != signal.SIG_IGN:
                 signal.signal(number, lambda number, _: sys.exit(128 + number))
-        self.tell(f"this run is unproved, and takes half a minute to two minutes, on a busy machine six; {self.proving} proves and builds "
+        self.tell(f"this run is unproved and takes half a minute to two minutes, on a busy machine six; {self.proving} proves and builds "
                   "the program")
         streams = [self.make_file() for _ in range(3)]
         data: list[str] = []
@@ -135,13 +134,13 @@ class Launch:
         self.judge(status, *streams)
 
     def no_room(self) -> NoReturn:
-        """Ends since nothing can be kept."""
+        """Ends since nothing can be stored."""
         folder = os.environ.get("TMPDIR") or "/tmp"
         self.give_up(f"an unproved run keeps its input and output in {folder}, which is full or can't be written; "
                      "TMPDIR names another folder")
 
     def make_file(self) -> BinaryIO:
-        """A file for what goes in or comes out. It has no name in its folder, so nothing is left there however this ends."""
+        """A file for input or output. It has no name in its folder, so nothing is left there however this ends."""
         import signal
         import tempfile
         ending = (signal.SIGINT, signal.SIGTERM, signal.SIGHUP)
@@ -155,8 +154,8 @@ class Launch:
         return file  # type: ignore[return-value]
 
     def keep_input(self, kept: BinaryIO, has_input: bool) -> None:
-        """Keeps what is given on standard input, as much as mote reads: `rt try` takes nothing from a terminal, and no more from a pipe
-        that is silent for two seconds."""
+        """Stores standard input, as much as mote reads: `rt try` reads nothing from a terminal, and stops reading a pipe that is silent
+        for two seconds."""
         left = MOST_INPUT
         while left > 0:
             try:
@@ -175,8 +174,8 @@ class Launch:
         kept.seek(0)
 
     def give_files(self) -> list[str]:
-        """Has `rt try` give the program the files that its words name. A run's files stand below its folder, so one elsewhere has its whole
-        path for a name there, without the first slash."""
+        """The options by which `rt try` gives the program the files that its arguments name. The files of such a run are below its
+        folder, so a file elsewhere gets its whole path as a name there, without the first slash."""
         data: dict[str, str] = {}
         for place, word in enumerate(self.words):
             if os.path.isfile(word):
@@ -187,10 +186,10 @@ class Launch:
         return [part for word, path in data.items() for part in ("--data", f"{word}={path}")]
 
     def try_it(self, data: list[str], streams: Sequence[BinaryIO]) -> int:
-        """Runs `rt try`, and ends it where this is ended."""
+        """Runs `rt try`, and ends it where this process is ended."""
         import subprocess
         stdin, stdout, stderr = streams
-        # An interrupt from the terminal reaches this process alone, which ends the other.
+        # An interrupt from the terminal reaches only this process, which ends the other.
         words = ["env", "--ignore-signal=INT", "rt", "try", *data, "--", *self.words]
         with subprocess.Popen(words, cwd=self.folder, stdin=stdin, stdout=stdout, stderr=stderr) as running:
             try:
@@ -200,7 +199,7 @@ class Launch:
                 raise
 
     def judge(self, status: int, stdin: BinaryIO, stdout: BinaryIO, stderr: BinaryIO) -> NoReturn:
-        """Reads from the last lines that `rt try` wrote whether the program ended: by its status alone, 2 to 6 may be the program's."""
+        """Reads from the last lines of `rt try` whether the program ended. The status isn't enough: 2 to 6 may be the program's."""
         import re
         stderr.seek(0)
         lines = stderr.read().splitlines(keepends=True)
@@ -221,7 +220,7 @@ class Launch:
         self.give_up(f"rt try gave no answer, and ended with status {status}")
 
     def pass_on(self, status: int, lines: Iterable[bytes], stdin: BinaryIO, stdout: BinaryIO) -> NoReturn:
-        """Writes what the program wrote, without what `rt try` says before and after it, and ends with the program's status."""
+        """Writes the program's output, without the lines of `rt try` before and after it, and ends with the program's status."""
         if status == 6 and not has_room(stdin):
             self.no_room()
         write_all(2, b"".join(line for line in lines if not line.startswith(b"rt: ")))
@@ -242,7 +241,7 @@ def times(places: Iterable[str]) -> Iterable[int]:
 
 
 def is_text(word: str) -> bool:
-    """Whether a word is text in UTF-8: `rt try` refuses others with a status of its own."""
+    """Whether an argument is text in UTF-8: `rt try` refuses others with another status."""
     try:
         os.fsencode(word).decode("utf-8")
     except UnicodeDecodeError:
@@ -260,7 +259,7 @@ def is_open(number: int) -> bool:
 
 
 def has_room(kept: BinaryIO) -> bool:
-    """Whether there is room for a further block where this file is."""
+    """Whether the file system of this file has room for another block."""
     try:
         kept.seek(0, os.SEEK_END)
         kept.write(b" " * 8192)
@@ -270,7 +269,7 @@ def has_room(kept: BinaryIO) -> bool:
 
 
 def write_all(number: int, content: bytes) -> bool:
-    """Writes to a stream, and answers whether that could be done."""
+    """Writes to a stream. Returns whether all was written."""
     try:
         while content:
             content = content[os.write(number, content):]

@@ -1,20 +1,20 @@
-"""Which crates ./prove begins when: those with the longest way to what is wanted first."""
+"""The order in which ./prove starts crates: those with the longest way to what is wanted first."""
 from __future__ import annotations
 
 from dataclasses import dataclass
 from typing import Iterator, Mapping, Sequence
 
-# A crate of which no time is known counts a minute.
+# A crate whose time isn't known counts as a minute.
 UNKNOWN_SECONDS = 60
-# A crate is nicer by one for so many seconds that it is off the longest way, up to a tenth of another one's share of a processor,
-# so it never starves.
+# A crate's niceness is 1 for each 30 seconds by which its way is shorter than the longest one, at most 10: it still gets a tenth of
+# another one's share of a processor, so it never starves.
 SECONDS_OF_NICENESS = 30
 MOST_NICE = 10
 
 
 @dataclass(frozen=True)
 class Share:
-    """What a crate is given when it is begun: how many jobs, how many of the places it counts as, and how nice it is to others."""
+    """What a crate gets when it starts: the number of its jobs, the number of places that it counts as, and its niceness."""
     name: str
     jobs: int
     places: int
@@ -22,10 +22,10 @@ class Share:
 
 
 class Schedule:
-    """The crates that are to be proved, each once those that it stands on are."""
+    """The crates that must be proved, each after those below it."""
 
     def __init__(self, below: Mapping[str, Sequence[str]], seconds: Mapping[str, int], most: int) -> None:
-        """What each crate stands on, the lowest first; how long a check of each takes; and how many jobs there may be at once."""
+        """The crates below each crate, the lowest first; the seconds of a check of each; and the most jobs at once."""
         self.below = below
         self.most = most
         self.left = list(below)
@@ -43,14 +43,14 @@ class Schedule:
         return way
 
     def _ready(self) -> list[str]:
-        """Those that are not begun and stand on proved ones alone, those with the longest way first."""
+        """Those that aren't started and for which all crates below are proved, those with the longest way first."""
         found = [name for name in self.left
                  if name not in self.under_way and not any(lower in self.left for lower in self.below[name])]
         return sorted(found, key=lambda name: (-self.way[name], name))
 
     def _share(self, name: str) -> Share:
-        """The one on the longest way takes all jobs and keeps about half of them busy, so it counts half. One that is off it by
-        less than its own time takes two, and the others one: the nicer, the farther they are off."""
+        """The crate on the longest way gets all jobs and keeps about half of them busy, so it counts half. One whose way is shorter by
+        less than its own time gets two, and the others one. A shorter way means a higher niceness."""
         off = max(self.way[it] for it in self.left) - self.way[name]
         if off == 0:
             return Share(name, self.most, (self.most + 1) // 2, 0)
@@ -58,14 +58,14 @@ class Schedule:
         return Share(name, jobs, jobs, min(off // SECONDS_OF_NICENESS, MOST_NICE))
 
     def _has_room(self, share: Share) -> bool:
-        """Half as many again as there may be are begun at once. Those that are farther off than this one, as they were ready first, don't
-        hold it up, but for memory: twice as many are the most."""
+        """Up to one and a half times the most jobs are started at once. Crates with a shorter way that were ready before don't delay this
+        one, except for memory: there are never more than twice the most jobs."""
         used = sum(it.places for it in self.under_way.values()) + share.places
         ahead = sum(it.places for it in self.under_way.values() if self.way[it.name] >= self.way[share.name]) + share.places
         return not self.under_way or used <= self.most * 2 and ahead <= self.most * 3 // 2
 
     def begin(self) -> Iterator[Share]:
-        """Those that are to be begun now."""
+        """Those to start now."""
         for name in self._ready():
             share = self._share(name)
             if not self._has_room(share):

@@ -1,4 +1,4 @@
-"""The crates of a repository, what each stands on, and whether what ./prove built of one is of the sources as they are."""
+"""The crates of a repository, the crates below each, and whether what ./prove built of one is from the present sources."""
 from __future__ import annotations
 
 import hashlib
@@ -9,7 +9,7 @@ import time
 from pathlib import Path
 
 PARTS = ("src", "specs", "proofs")
-# A file's time may lie so much behind the clock: it is that of the last tick.
+# A file's time may be earlier than the clock by this much, in nanoseconds: it is that of the last tick.
 GRAIN = 10_000_000
 
 
@@ -49,16 +49,16 @@ class Sources:
         return self.root / "crates" / name / "out" / self.built_as(name)
 
     def mark(self, name: str) -> Path:
-        """The mark beside it of what was proved and built: a name of the sources, one of what was built, the kit, and then where
-        the sources stand, a place a line. Its time is that at which they were read: a newer source was not proved."""
+        """The mark beside the product: a hash of the sources, one of the product, the kit, and the folders of the sources, a line for
+        each. Its time is that at which the sources were read: a newer source was not proved."""
         return self.root / "crates" / name / "out/proved"
 
     def note(self, name: str) -> Path:
-        """What `rt ci` noted of a program that it proved, and tests/proofs copied: rattle builds the program again of that."""
+        """What `rt ci` stored of a program that it proved, and tests/proofs copied: rattle builds the program again from that."""
         return self.root / "crates" / name / "out/checked"
 
     def with_all_below(self, *wanted: str) -> dict[str, list[str]]:
-        """These crates and all that they stand on, the lowest first, with what each stands on."""
+        """These crates and all below them, the lowest first, each with the crates below it."""
         found: dict[str, list[str]] = {}
 
         def add(name: str) -> None:
@@ -72,18 +72,18 @@ class Sources:
         return found
 
     def places(self, *wanted: str) -> list[str]:
-        """Where the sources of these and of all that they stand on are."""
+        """The folders with the sources of these crates and of all below them."""
         parts = (f"crates/{name}/{part}" for name in self.with_all_below(*wanted) for part in PARTS)
         return ["crates.txt", *(it for it in parts if (self.root / it).is_dir())]
 
     def files(self, name: str) -> list[str]:
-        """The files of a crate and of all that it stands on."""
+        """The files of a crate and of all below it."""
         places = self.places(name)[1:]
         return sorted((os.path.relpath(os.path.join(at, file), self.root) for place in places
                        for at, _, files in os.walk(self.root / place) for file in files), key=os.fsencode)
 
     def name_of_sources(self, name: str) -> str:
-        """A name of the sources of a crate and of all that it stands on, the same exactly where they are the same."""
+        """A hash of the sources of a crate and of all below it."""
         names = self.with_all_below(name)
         told = hashlib.sha256("".join(f"{line}\n" for it, line in self.lines.items() if it in names).encode())
         for file in self.files(name):
@@ -97,13 +97,13 @@ class Sources:
         return all(it.lstat().st_ctime_ns < when for it in [*places, *inner])
 
     def mark_text(self, name: str, product: Path) -> str:
-        """What the mark has to say of what was built of these sources."""
+        """The content of the mark of a product that was built from these sources."""
         lines = [self.name_of_sources(name), f"{sum_of(product)}  -", kit(), *self.places(name)]
         return "".join(f"{line}\n" for line in lines)
 
     def is_current(self, name: str) -> bool:
-        """Whether a program or a library is the one of the sources as they are, by hashes. If so, the mark takes the time at which
-        they were read, so that scripts/launch sees by times alone that none is newer."""
+        """Whether a program or a library was built from the present sources, by hashes. If so, the mark gets the time at which they were
+        read, so that scripts/launch sees by times alone that none is newer."""
         before = time.time_ns() - GRAIN
         product, mark = self.product(name), self.mark(name)
         if not (os.access(product, os.R_OK) and os.access(mark, os.R_OK)):
@@ -117,7 +117,7 @@ class Sources:
         return True
 
     def kit_of(self, name: str) -> str:
-        """The kit that built it, as the mark tells."""
+        """The kit that built it, from the mark."""
         return (self.mark(name).read_text(encoding="utf-8").splitlines() + [""] * 3)[2]
 
 
@@ -127,5 +127,5 @@ def kit() -> str:
 
 
 def sum_of(file: Path) -> str:
-    """A name of what a file holds."""
+    """A hash of a file's content."""
     return hashlib.sha256(file.read_bytes()).hexdigest()

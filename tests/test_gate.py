@@ -246,7 +246,7 @@ def test_skipped(gate: Gate) -> None:
     """What is skipped is told with its reason, and noted."""
     gate.add("test_third.py", "import pytest\n@pytest.mark.skip(reason='no such tool')\ndef test_it(): pass\n")
     ran = gate()
-    assert (ran.returncode, last_lines(ran, 2)) == (0, ["1 skipped, for want of what is told above", "11 passed, 0 failed"]), told(ran)
+    assert (ran.returncode, last_lines(ran, 2)) == (0, ["1 skipped, for the reasons above", "11 passed, 0 failed"]), told(ran)
     assert b"no such tool" in ran.stdout and gate.notes() == "11 passed, 1 skipped"
 
 
@@ -335,7 +335,7 @@ def test_package_that_nobody_may_install(packages: Packages) -> None:
     """It is named, and nothing is asked."""
     ran = packages(ALWAYS, "works", "launch", by=AS_NOBODY)
     assert (ran.returncode, packages.asked().exists()) == (1, False)
-    assert ran.stderr == b"tests/packages: of Debian's packages these are lacking: apt-get install make\n"
+    assert ran.stderr == b"tests/packages: these Debian packages are missing: apt-get install make\n"
 
 
 def test_ci_runs_the_gate() -> None:

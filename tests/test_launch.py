@@ -188,7 +188,7 @@ def test_unproved_run_is_given_files(tree: Tree) -> None:
     here, whole = tree.room, str(tree.room).removeprefix("/")
     tree.run("scenario", "--thorough", "a.runs", "./a.runs", here / "a.runs", "none", "program", "stdin", cwd=here)
     assert tree.is_unproved() and "; ./prove scenario proves and builds the program" in tree.stderr
-    assert tree.stderr.startswith("scenario: this run is unproved, and takes half a minute to two minutes, on a busy machine six")
+    assert tree.stderr.startswith("scenario: this run is unproved and takes half a minute to two minutes, on a busy machine six")
     assert tree.stdout == (f"words a.runs={here}/a.runs --data {whole}/a.runs={here}/a.runs --data {whole}/program={here}/program "
                            f"--data {whole}/stdin={here}/stdin -- --thorough a.runs {whole}/a.runs {whole}/a.runs none {whole}/program "
                            f"{whole}/stdin\n")
@@ -215,7 +215,7 @@ def test_lines_of_windows_proved(proved_tree: Tree) -> None:
     file = proved_tree.room / "script"
     file.write_bytes(WINDOWS)
     proved_tree.run("mote", stdin=file)
-    told = "mote: line 3 ends with byte 13, as lines of Windows do; here a line ends with byte 10 alone\n"
+    told = "mote: line 3 ends with byte 13, as lines of Windows do; here a line ends with byte 10 only\n"
     assert (proved_tree.ran.returncode, proved_tree.ran.stdout, proved_tree.stderr) == (3, b"proved \n" + WINDOWS, told)
     file.write_bytes(REMARK)
     proved_tree.run("mote", stdin=file)

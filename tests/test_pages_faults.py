@@ -120,4 +120,4 @@ def test_maker(tmp_path: Path, maker: str, file: str, before: str, after: str) -
         readme = tree / "README.md"
         readme.write_text(readme.read_text(encoding="utf-8").replace("toarmuts_9.8.7", "toarmuts"), encoding="utf-8")
         ran = run(*command, "--check")
-        assert (ran.returncode, ran.stderr) == (1, b"version: README.md tells none\n")
+        assert (ran.returncode, ran.stderr) == (1, b"version: README.md has no version\n")

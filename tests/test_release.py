@@ -80,7 +80,7 @@ def releases(proofs: None, page_file: Path, shared: Path) -> Path:  # noqa: F811
         shutil.rmtree(room, ignore_errors=True)
         one, two = (copy_tree(room / name, *PROGRAMS, *LIBRARIES, *IN_PAGE) for name in ("one", "another place/two"))
         made = run(one / "scripts/release", room / "first", timeout=3600)
-        if b"these Debian packages are lacking" in made.stderr:
+        if b"these Debian packages are missing" in made.stderr:
             pytest.skip(made.stderr.decode().strip())
         assert made.returncode == 0, told(made)
         succeed("bash", "-c", 'umask 077; "$0" "$1"', two / "scripts/release", room / "second",
