@@ -82,7 +82,7 @@ def check(ran: Completed, case: Case) -> None:
     *(Case([f"-DLOG_CONF_WITH_ANNOTATE={setting}", "--text", ANNOTATED], out="#L 5\n" * setting + "end\n") for setting in (0, 1)),
     # Libraries go after what needs them.
     Case(["-fno-builtin", "-Wl,--as-needed", "-L", "/", "-lm", "--text", ROOT_OF_NINE], out="3\n"),
-    without_effect("PROCESS_CONF_NUMEVENTS=64", BLINKER, "the mote's event queue has 32 places"),
+    without_effect("PROCESS_CONF_NUMEVENTS=64", BLINKER, "the mote's event queue holds 32 events"),
     without_effect("HEAPMEM_CONF_ARENA_SIZE=64", BLINKER, "the heap's size is the option --heap"),
     without_effect("MMEM_CONF_SIZE=64", BLINKER, "the size of managed memory is the option --mmem"),
     without_effect("LINKADDR_CONF_SIZE=2", SOURCES / "frames.c", "addresses have 8 bytes"),

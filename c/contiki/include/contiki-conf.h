@@ -1,5 +1,5 @@
 /*
- * What stands in a platform's contiki-conf.h: the types of the clock, and the settings of a program's own project-conf.h.
+ * The content of a platform's contiki-conf.h: the types of the clock, and the settings of a program's project-conf.h.
  */
 #ifndef CONTIKI_CONF_H
 #define CONTIKI_CONF_H
@@ -19,7 +19,7 @@
 #endif
 #endif
 
-/* Ticks a second. What a script calls a tick is one of these. */
+/* Ticks a second, the ticks of a script. */
 #ifndef CLOCK_CONF_SECOND
 #define CLOCK_CONF_SECOND 128
 #endif

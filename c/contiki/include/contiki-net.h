@@ -1,4 +1,4 @@
-/* Contiki-NG's collective header for networking: here NullNet alone. */
+/* Contiki-NG's collective header for networking: here only NullNet. */
 #ifndef CONTIKI_NET_H
 #define CONTIKI_NET_H
 

@@ -1,5 +1,5 @@
 /*
- * Contiki-NG's names for applications in C on the proved mote. docs/contiki.md tells what each maps to, and how far.
+ * Contiki-NG's names for applications in C on the proved mote. docs/contiki.md says what each maps to, and its limits.
  */
 #ifndef CONTIKI_H
 #define CONTIKI_H
@@ -17,7 +17,7 @@
 #include "sys/rtimer.h"
 #include "sys/pt.h"
 
-/* Sources that use these include them; here they come along, as they do with most platforms. */
+/* Sources that use these include them; here they are included too, as on most platforms. */
 #include "lib/list.h"
 #include "lib/memb.h"
 #include "lib/heapmem.h"

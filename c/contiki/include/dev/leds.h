@@ -1,4 +1,4 @@
-/* LEDs, which nobody sees: a program sets them and asks for them. */
+/* LEDs, which nobody sees: a program sets and reads them. */
 #ifndef LEDS_H_
 #define LEDS_H_
 

@@ -1,4 +1,4 @@
-/* Lines from the serial line: each is told to all processes by an event, with the line as data, a text without its end. */
+/* Lines from the serial line: all processes receive an event with each line as data, a text without its end. */
 #ifndef SERIAL_LINE_H_
 #define SERIAL_LINE_H_
 
@@ -8,6 +8,6 @@
 extern process_event_t serial_line_event_message;
 
 CC_REFUSED("the serial line is ready from the start: leave this call out") void serial_line_init(void);
-CC_REFUSED("bytes come in by the script: serial HEX") int serial_line_input_byte(unsigned char c);
+CC_REFUSED("the script has the bytes: serial HEX") int serial_line_input_byte(unsigned char c);
 
 #endif

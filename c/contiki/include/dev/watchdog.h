@@ -1,4 +1,4 @@
-/* The watchdog: a process that makes no call for ten seconds is told of on standard error, whatever is done here. */
+/* The watchdog: a process that makes no call for ten seconds is reported on standard error, whatever is called here. */
 #ifndef WATCHDOG_H_
 #define WATCHDOG_H_
 

@@ -6,14 +6,14 @@
 #include <stdint.h>
 
 #if !defined(__has_include) || !__has_include(<openssl/evp.h>)
-#error "lib/aes-128.h and lib/ccm-star.h want OpenSSL's libcrypto, and its headers aren't here: install libssl-dev"
+#error "lib/aes-128.h and lib/ccm-star.h need OpenSSL's libcrypto, and its headers are missing: install libssl-dev"
 #endif
 
 #define AES_128_BLOCK_SIZE 16
 #define AES_128_KEY_LENGTH 16
 
 struct aes_128_driver {
-  /* Sets the key, of 16 bytes, of all that is encrypted from then on. false where libcrypto fails. */
+  /* Sets the key, of 16 bytes, for later blocks. false if libcrypto fails. */
   bool (*set_key)(const uint8_t *key);
   /* Encrypts a block of 16 bytes in place. */
   bool (*encrypt)(uint8_t *plaintext_and_result);

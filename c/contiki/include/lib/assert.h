@@ -1,9 +1,9 @@
-/* Assertions. One that fails prints where it stands, as in Contiki-NG, and then the program is stopped. */
+/* Assertions. One that fails prints its file and line, as in Contiki-NG, and stops the program. */
 #include <assert.h>
 
 #include "sys/cc.h"
 
-/* As that of C, the header may be read again after NDEBUG was set or taken back. */
+/* As in C, the header may be included again after NDEBUG was defined or undefined. */
 #undef assert
 #ifdef NDEBUG
 #define assert(e) ((void)0)

@@ -9,8 +9,8 @@
 struct ccm_star_driver {
   /* Sets the key, as aes_128_driver does. */
   void (*set_key)(const uint8_t *key);
-  /* Makes the code of m and a, of mic_len bytes (0, 4, 6, .., 16), at result. Forward, m is then encrypted in place; else it is
-   * decrypted before, and whether the code is right is the caller's to see. */
+  /* Writes the code of m and a, of mic_len bytes (0, 4, 6, .., 16), to result. Forward, m is then encrypted in place; otherwise it is
+   * decrypted first, and the caller must compare the code. */
   void (*aead)(const uint8_t *nonce, uint8_t *m, uint16_t m_len, const uint8_t *a, uint16_t a_len, uint8_t *result, uint8_t mic_len,
                int forward);
 };

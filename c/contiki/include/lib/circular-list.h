@@ -1,2 +1,2 @@
-/* Circular lists: in C alone. Header and source are those of the memory modules. */
+/* Circular lists: plain C, not proved. Header and source are those of the memory modules. */
 #include "../../../modules/include/lib/circular-list.h"

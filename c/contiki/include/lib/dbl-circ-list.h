@@ -1,2 +1,2 @@
-/* Doubly linked circular lists: in C alone. Header and source are those of the memory modules. */
+/* Doubly linked circular lists: plain C, not proved. Header and source are those of the memory modules. */
 #include "../../../modules/include/lib/dbl-circ-list.h"

@@ -1,2 +1,2 @@
-/* Doubly linked lists: in C alone. Header and source are those of the memory modules. */
+/* Doubly linked lists: plain C, not proved. Header and source are those of the memory modules. */
 #include "../../../modules/include/lib/dbl-list.h"

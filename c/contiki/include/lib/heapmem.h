@@ -1,6 +1,6 @@
 /*
- * Heap memory: blocks of any size. The mote says whether there is room, in one heap for all processes; a process has 16 blocks
- * at once. Their bytes are the program's.
+ * Heap memory: blocks of any size. The mote decides whether there is room, in one heap for all processes; a process has at most 16
+ * blocks at once. Their bytes are in the program's memory.
  */
 #ifndef HEAPMEM_H_
 #define HEAPMEM_H_
@@ -22,20 +22,20 @@ typedef struct heapmem_stats {
   size_t chunks;
 } heapmem_stats_t;
 
-/* A block of this size, its bytes all 0; NULL where there is no room, or the size is 0. */
+/* Allocates a block of this size, its bytes all 0; NULL if there is no room, or the size is 0. */
 void *heapmem_alloc(size_t size);
 
 /* The same for num items of this size. */
 void *heapmem_calloc(size_t num, size_t size);
 
-/* Gives a block another size: its first bytes stay. NULL where there is no room: then it is as it was. Without a block it takes one,
- * and with size 0 it frees. */
+/* Resizes a block; its first bytes are preserved. NULL if there is no room: then it is unchanged. With a NULL pointer it allocates, and
+ * with size 0 it frees. */
 void *heapmem_realloc(void *ptr, size_t size);
 
-/* Gives a block back; false where there is none at that place. */
+/* Frees a block; false if there is none at that address. */
 bool heapmem_free(void *ptr);
 
-/* Tells of the whole heap. */
+/* Fills in the figures of the whole heap. */
 void heapmem_stats(heapmem_stats_t *stats);
 
 typedef unsigned char heapmem_zone_t;
@@ -47,7 +47,7 @@ CC_REFUSED("the mote's heap has no zones: use heapmem_alloc") heapmem_zone_t hea
 CC_REFUSED("the mote's heap has no zones: use heapmem_alloc") void *heapmem_zone_alloc(heapmem_zone_t zone, size_t size);
 CC_REFUSED("the mote's heap has no zones: use heapmem_calloc")
 void *heapmem_zone_calloc(heapmem_zone_t zone, size_t nmemb, size_t size);
-CC_REFUSED("the mote tells figures alone: use heapmem_stats") void heapmem_print_debug_info(bool print_chunks);
+CC_REFUSED("the mote has only figures: use heapmem_stats") void heapmem_print_debug_info(bool print_chunks);
 
 /* Blocks begin at multiples of this. */
 static inline size_t

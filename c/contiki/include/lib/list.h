@@ -1,4 +1,4 @@
-/* Lists of structures whose first member is a pointer, which links them: in C alone. Header and source are those of the
+/* Lists of structures whose first member is a pointer, which links them: plain C, not proved. Header and source are those of the
  * memory modules. */
 #include "sys/cc.h"
 

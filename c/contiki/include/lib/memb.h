@@ -1,6 +1,6 @@
 /*
- * Pools of blocks of one size. Each block that is used has one in a pool of the mote, of 12, 28, 60 or 124 bytes, of which all
- * pools of the program share 16 each; its bytes are the program's.
+ * Pools of blocks of one size. For each used block the mote allocates one in a pool of blocks of 12, 28, 60 or 124 bytes. All pools of
+ * the program share the 16 blocks of each. The bytes are in the program's memory.
  */
 #ifndef MEMB_H_
 #define MEMB_H_
@@ -13,7 +13,7 @@
 struct memb {
   unsigned short size;
   unsigned short num;
-  /* For each block: 0 where it is unused, else 1 and the mote's pool and block. The driver's own. */
+  /* For each block 0 if it is unused, otherwise 1 and the mote's pool and block. For the driver only. */
   unsigned char *used;
   void *mem;
 };
@@ -29,16 +29,16 @@ struct memb {
 /* Makes all blocks unused. */
 void memb_init(struct memb *m);
 
-/* Takes the first unused block, its bytes all 0; NULL where every block is used. */
+/* Allocates the first unused block, its bytes all 0; NULL if all blocks are used. */
 void *memb_alloc(struct memb *m);
 
-/* Gives a block back. 0, and -1 where the pointer is to no block of this pool. */
+/* Frees a block: 0; -1 if the pointer is to no block of this pool. */
 int memb_free(struct memb *m, void *ptr);
 
-/* Whether a pointer lies in the pool. */
+/* Whether a pointer is in the pool. */
 int memb_inmemb(struct memb *m, void *ptr);
 
-/* How many blocks are unused. */
+/* The number of unused blocks. */
 size_t memb_numfree(struct memb *m);
 
 #endif

@@ -1,6 +1,6 @@
 /*
- * Managed memory of the original Contiki: blocks that slide together, so that no room is lost to holes. The mote says whether
- * there is room; a process has 16 blocks at once. Their bytes are the program's.
+ * Managed memory of the original Contiki: blocks that slide together, so that no room is lost to holes. The mote decides whether
+ * there is room; a process has at most 16 blocks at once. Their bytes are in the program's memory.
  */
 #ifndef MMEM_H_
 #define MMEM_H_
@@ -15,16 +15,16 @@ struct mmem {
   void *ptr;
 };
 
-/* Where a block's bytes are, until a block is freed that was taken before it. */
+/* The address of a block, valid until a block that was allocated before it is freed. */
 #define MMEM_PTR(m) ((m)->ptr)
 
-/* Takes a block of this size, its bytes all 0, and returns not 0; 0 where there is no room, or the size is 0. */
+/* Allocates a block of this size, its bytes all 0, and returns not 0; 0 if there is no room, or the size is 0. */
 int mmem_alloc(struct mmem *m, unsigned int size);
 
-/* Gives its block back: its ptr is NULL then. */
+/* Frees its block: its ptr is then NULL. */
 void mmem_free(struct mmem *m);
 
-/* There is nothing to be done: memory is ready from the start. */
+/* Does nothing: memory is ready from the start. */
 void mmem_init(void);
 
 #endif

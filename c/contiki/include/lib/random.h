@@ -1,4 +1,4 @@
-/* Numbers that look random, the same in each run. */
+/* Pseudo-random numbers, the same in each run. */
 #ifndef RANDOM_H_
 #define RANDOM_H_
 

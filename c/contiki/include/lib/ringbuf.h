@@ -1,4 +1,4 @@
-/* Ring buffers of bytes, of a size that is a power of two up to 128. One place always stays free. */
+/* Ring buffers of bytes. The size is a power of two up to 128, and the buffer holds one byte less. */
 #ifndef RINGBUF_H_
 #define RINGBUF_H_
 
@@ -19,7 +19,7 @@ ringbuf_init(struct ringbuf *r, uint8_t *data, uint8_t size_power_of_two)
   r->get_ptr = 0;
 }
 
-/* How many bytes it has, and how many places. */
+/* The number of its bytes, and its size. */
 static inline int
 ringbuf_elements(struct ringbuf *r)
 {
@@ -32,7 +32,7 @@ ringbuf_size(struct ringbuf *r)
   return r->mask + 1;
 }
 
-/* 1, or 0 where it is full. */
+/* Appends a byte: 1; 0 if the buffer is full. */
 static inline int
 ringbuf_put(struct ringbuf *r, uint8_t c)
 {
@@ -44,7 +44,7 @@ ringbuf_put(struct ringbuf *r, uint8_t c)
   return 1;
 }
 
-/* The byte that came first, or -1 where there is none. */
+/* Removes and returns the oldest byte; -1 if there is none. */
 static inline int
 ringbuf_get(struct ringbuf *r)
 {

@@ -1,2 +1,2 @@
-/* Indices of a ring: in C alone. Header and source are those of the memory modules. */
+/* Indices of a ring: plain C, not proved. Header and source are those of the memory modules. */
 #include "../../../modules/include/lib/ringbufindex.h"

@@ -1,4 +1,4 @@
-/* Link-layer addresses. In a network the frames carry them; those of one mote alone carry none. */
+/* Link-layer addresses. The frames of a network carry them; those of a single mote don't. */
 #ifndef LINKADDR_H_
 #define LINKADDR_H_
 
@@ -15,7 +15,7 @@ typedef union {
   uint16_t u16[LINKADDR_SIZE / 2];
 } linkaddr_t;
 
-/* The mote's own: four times its number, so 0001.0001.0001.0001 without a network. And the one that means all. */
+/* The mote's address: its number four times, so 0001.0001.0001.0001 without a network. And the address that means all. */
 extern linkaddr_t linkaddr_node_addr;
 extern const linkaddr_t linkaddr_null;
 

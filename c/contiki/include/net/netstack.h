@@ -11,7 +11,7 @@ struct network_driver {
   const char *name;
   void (*init)(void);
   void (*input)(void);
-  /* Sends the frame that nullnet_buf and nullnet_len tell, to one mote, or to all where that is NULL or linkaddr_null. Returns 1, and 0 where
+  /* Sends the frame of nullnet_buf and nullnet_len to one mote, or to all if the address is NULL or linkaddr_null. Returns 1, or 0 if
    * managed memory has no room for it. */
   uint8_t (*output)(const linkaddr_t *localdest);
 };
@@ -19,7 +19,7 @@ struct network_driver {
 extern const struct network_driver nullnet_driver;
 #define NETSTACK_NETWORK nullnet_driver
 
-/* The other layers, which a source might ask: whoever names one gets a compile error with the reason. */
+/* The other layers: a source that names one gets a compile error with the reason. */
 struct no_layer {
   int (*on)(void);
   int (*off)(void);

@@ -1,4 +1,4 @@
-/* Of the frame that came in last: what a callback of NullNet asks for beside its arguments. */
+/* Attributes of the last frame that arrived, for callbacks of NullNet. */
 #ifndef PACKETBUF_H_
 #define PACKETBUF_H_
 
@@ -20,7 +20,7 @@ enum {
 /* Another attribute is 0. */
 packetbuf_attr_t packetbuf_attr(uint8_t type);
 
-/* Of a frame without a header, and before the first one, both are linkaddr_null. */
+/* If the frame has no header, and before the first frame, both are linkaddr_null. */
 const linkaddr_t *packetbuf_addr(uint8_t type);
 
 CC_REFUSED("send by net/nullnet/nullnet.h: nullnet_buf and nullnet_len") int packetbuf_copyfrom(const void *from, uint16_t len);

@@ -6,7 +6,7 @@
 
 extern struct process *const autostart_processes[];
 
-/* 0 in a program whose sources each say what is started, and that has a list of its own. */
+/* 0 in a program with several sources that each have AUTOSTART_PROCESSES, and with its own list. */
 #ifndef AUTOSTART_ENABLE
 #define AUTOSTART_ENABLE 1
 #endif
@@ -17,7 +17,7 @@ extern struct process *const autostart_processes[];
 #define AUTOSTART_PROCESSES(...) extern struct process *const autostart_processes[]
 #endif
 
-/* Starts the processes of a list, or ends them. The program's own list is started without this. */
+/* Starts the processes of a list, or ends them. The program's list is started without this. */
 void autostart_start(struct process *const processes[]);
 void autostart_exit(struct process *const processes[]);
 

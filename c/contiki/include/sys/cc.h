@@ -15,7 +15,7 @@
 #define CC_INLINE inline
 #define CC_DEPRECATED(text) __attribute__((deprecated(text)))
 
-/* Reads or writes a variable once, there where this stands. */
+/* Reads or writes a variable exactly once, here. */
 #define CC_ACCESS_NOW(type, variable) (*(volatile type *)&(variable))
 #define CC_FORMAT(string, first) __attribute__((format(printf, string, first)))
 

@@ -1,11 +1,11 @@
-/* The clock, which goes on with the script's ticks alone: within an activation it stands still. */
+/* The clock. Only the script's ticks advance it: it stands still within an activation. */
 #ifndef CLOCK_H_
 #define CLOCK_H_
 
 #include "contiki-conf.h"
 #include "sys/cc.h"
 
-/* A number that #if may ask, too. */
+/* A number that #if may use, too. */
 #define CLOCK_SECOND ((CLOCK_CONF_SECOND) + 0UL)
 
 /* Whether a is before b. */
@@ -14,7 +14,7 @@
 /* Ticks since the mote was booted. */
 clock_time_t clock_time(void);
 
-/* Whole seconds since then, by the CLOCK_SECOND of the program's own project-conf.h. */
+/* Whole seconds since then, by the CLOCK_SECOND of the program's project-conf.h. */
 static inline unsigned long
 clock_seconds(void)
 {

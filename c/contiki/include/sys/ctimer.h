@@ -1,6 +1,6 @@
 /*
- * Callback timers: one that runs out calls a function, with the process that set it as the current one. A process has four that
- * are set at once.
+ * Callback timers: one that runs out calls a function, with the process that set it as the current one. A process has at most four
+ * set at once.
  */
 #ifndef CTIMER_H_
 #define CTIMER_H_
@@ -17,7 +17,7 @@ struct ctimer {
   struct etimer etimer;
 };
 
-/* Calls f(ptr) that many ticks from now on. */
+/* Calls f(ptr) after this number of ticks. */
 void ctimer_set(struct ctimer *c, clock_time_t t, void (*f)(void *), void *ptr);
 
 /* The same for another process than the current one. */

@@ -1,7 +1,7 @@
 /*
- * Energest: for how long which part was on, in ticks of ENERGEST_SECOND, by the mote's clock. As on Contiki-NG's native platform the
- * processor (CPU) is on from the start, and nothing turns another part on but the program itself. An activation takes no time of the
- * mote's clock, so the time of CPU is the whole time, asleep or not.
+ * Energest: the time for which each part was on, in ticks of ENERGEST_SECOND, by the mote's clock. As on Contiki-NG's native platform
+ * the processor (CPU) is on from the start, and only the program turns another part on. An activation takes no time of the mote's
+ * clock, so the time of CPU is the whole time, asleep or not.
  */
 #ifndef ENERGEST_H_
 #define ENERGEST_H_
@@ -12,7 +12,7 @@
 #include "sys/clock.h"
 #include "sys/rtimer.h"
 
-/* 0, as by default: nothing is counted, and all times are 0. */
+/* 0, the default: nothing is counted, and all times are 0. */
 #ifndef ENERGEST_CONF_ON
 #define ENERGEST_CONF_ON 0
 #endif
@@ -42,7 +42,7 @@ uint64_t energest_clock_ticks(unsigned type);
 void energest_set_clock_ticks(unsigned type, uint64_t ticks);
 void energest_turn(unsigned type, int on);
 
-/* Begins anew: CPU is on, all others are off, and all times are 0. */
+/* Starts again: CPU is on, all others are off, and all times are 0. */
 void energest_init(void);
 
 /* Adds up the times so far of what is on. */
@@ -53,7 +53,7 @@ void energest_flush(void);
 #define ENERGEST_OFF(type) energest_turn((type), 0)
 #define ENERGEST_SWITCH(type_off, type_on) (ENERGEST_OFF(type_off), ENERGEST_ON(type_on))
 
-/* For how long it was on, as it was added up last: when it went off, or at energest_flush. */
+/* The time for which it was on, up to when it last went off, or the last energest_flush. */
 static inline uint64_t
 energest_type_time(energest_type_t type)
 {

@@ -1,6 +1,6 @@
 /*
- * Event timers: one that runs out is told to the process that set it, by PROCESS_EVENT_TIMER with the timer as data. A process
- * has eight that are set at once.
+ * Event timers: if one runs out, the process that set it receives PROCESS_EVENT_TIMER with the timer as data. A process has at most
+ * eight set at once.
  */
 #ifndef ETIMER_H_
 #define ETIMER_H_
@@ -12,11 +12,11 @@
 
 struct etimer {
   struct timer timer;
-  /* The process that is told, or PROCESS_NONE where the timer isn't set. */
+  /* The process that receives the event, or PROCESS_NONE if the timer isn't set. */
   struct process *p;
 };
 
-/* It runs out that many ticks from now on. */
+/* It runs out after this number of ticks. */
 void etimer_set(struct etimer *et, clock_time_t interval);
 
 /* If it has run out: the same interval again, from its end on. */

@@ -1,4 +1,4 @@
-/* Interrupts: the mote has none, so there is nothing to hold off. */
+/* Interrupts: the mote has none, so there is nothing to disable. */
 #ifndef INT_MASTER_H_
 #define INT_MASTER_H_
 

@@ -1,5 +1,5 @@
-/* Local continuations: where a function goes on when it is called next. A `switch` over line numbers, so none may be set within
- * another `switch`, nor two on one line: the compiler tells of the latter, and lc_lost of the former. */
+/* Local continuations: where a function continues when it is called next. It is a `switch` over line numbers, so none may be set within
+ * another `switch`, nor two on one line: the compiler reports the latter, and lc_lost the former. */
 #ifndef LC_H_
 #define LC_H_
 
@@ -7,7 +7,7 @@
 
 typedef unsigned int lc_t;
 
-/* Ends the program: the function has no such line to go on at. */
+/* Ends the program: the function has no such line to continue at. */
 CC_NORETURN void lc_lost(lc_t line);
 
 #define LC_INIT(s) (s) = 0

@@ -1,4 +1,4 @@
-/* The levels of log.h, which a program's project-conf.h may set otherwise. */
+/* The levels of log.h. A program's project-conf.h may set others. */
 #ifndef LOG_CONF_H_
 #define LOG_CONF_H_
 
@@ -31,14 +31,14 @@
 #define LOG_WITH_MODULE_PREFIX 1
 #endif
 
-/* Whether it tells file and line, too. */
+/* Whether it has file and line, too. */
 #ifdef LOG_CONF_WITH_LOC
 #define LOG_WITH_LOC LOG_CONF_WITH_LOC
 #else
 #define LOG_WITH_LOC 0
 #endif
 
-/* Whether an address is told by its last two bytes alone. */
+/* Whether only the last two bytes of an address are printed. */
 #ifdef LOG_CONF_WITH_COMPACT_ADDR
 #define LOG_WITH_COMPACT_ADDR LOG_CONF_WITH_COMPACT_ADDR
 #else

@@ -1,6 +1,6 @@
 /*
- * Logging. A source defines LOG_MODULE, a text, and LOG_LEVEL; what is of that level or below is printed. A macro whose name
- * ends with _ goes on with a line.
+ * Logging. A source defines LOG_MODULE, a text, and LOG_LEVEL; messages of that level or below are printed. A macro whose name
+ * ends with _ continues a line.
  */
 #ifndef LOG_H_
 #define LOG_H_
@@ -73,7 +73,7 @@
 #define LOG_INFO_ENABLED (LOG_LEVEL_INFO <= (LOG_LEVEL))
 #define LOG_DBG_ENABLED (LOG_LEVEL_DBG <= (LOG_LEVEL))
 
-/* For tools that follow a run: nothing, unless a program's project-conf.h has them printed. */
+/* For tools that follow a run. Nothing is printed unless the program's project-conf.h says so. */
 #define LOG_ANNOTATE(...)      \
   do {                         \
     if(LOG_WITH_ANNOTATE) {    \
@@ -90,7 +90,7 @@ CC_REFUSED("the mote has no IPv6: use LOG_INFO_LLADDR and the like") void log_6a
 CC_REFUSED("levels are those of the source: define LOG_LEVEL") void log_set_level(const char *module, int level);
 CC_REFUSED("levels are those of the source: ask LOG_LEVEL") int log_get_level(const char *module);
 
-/* Prints an address as 0102.0304.0506.0708. These are made with the program's source, as LOG_OUTPUT is its own. */
+/* Prints an address as 0102.0304.0506.0708. These are compiled with the program's source, since it may define LOG_OUTPUT. */
 static inline void
 log_lladdr(const linkaddr_t *lladdr)
 {

@@ -1,4 +1,4 @@
-/* Mutexes: a lock that is taken or isn't, at once. Nothing interrupts an activation, so plain reads and writes do. */
+/* Mutexes. A lock never waits. Nothing interrupts an activation, so they are plain reads and writes. */
 #ifndef MUTEX_H_
 #define MUTEX_H_
 
@@ -8,10 +8,10 @@
 #define MUTEX_STATUS_LOCKED 1
 #define MUTEX_STATUS_UNLOCKED 0
 
-/* One that has the status unlocked is free; so is one of bytes 0. */
+/* A mutex with the status unlocked is free; so is one whose bytes are 0. */
 typedef uint_fast8_t mutex_t;
 
-/* Takes the lock: true; false where it is taken already. */
+/* Takes the lock: true; false if it is taken already. */
 static inline bool
 mutex_try_lock(volatile mutex_t *mutex)
 {

@@ -23,9 +23,9 @@ typedef unsigned char process_num_events_t;
 #define PROCESS_BROADCAST NULL
 #define PROCESS_ZERO ((struct process *)-1)
 
-/* The places of the event queue; the profile has no other number of them. */
+/* The size of the event queue, which is fixed. */
 #if defined(PROCESS_CONF_NUMEVENTS) && PROCESS_CONF_NUMEVENTS != 32
-#pragma message "the mote's event queue has 32 places: PROCESS_CONF_NUMEVENTS changes nothing"
+#pragma message "the mote's event queue holds 32 events: PROCESS_CONF_NUMEVENTS changes nothing"
 #undef PROCESS_CONF_NUMEVENTS
 #endif
 #ifndef PROCESS_CONF_NUMEVENTS
@@ -48,11 +48,11 @@ struct process {
   const char *name;
   PT_THREAD((*thread)(struct pt *, process_event_t, process_data_t));
   struct pt pt;
-  /* Its number in the mote, from 4 on. The driver's own. */
+  /* Its number in the mote, from 4 on. For the driver only. */
   unsigned number;
 };
 
-/* A process and where its PROCESS stands, for the driver, which finds all of these in one section of the program. */
+/* A process with the file and line of its PROCESS, for the driver, which finds all of these in one section of the program. */
 struct process_entry {
   struct process *process;
   const char *file;
@@ -91,7 +91,7 @@ struct process_entry {
     PROCESS_WAIT_EVENT_UNTIL(ev == PROCESS_EVENT_CONTINUE);        \
   } while(0)
 
-/* Before PROCESS_BEGIN: what is done at a poll, and when another process ends this one. */
+/* Before PROCESS_BEGIN: the statements for a poll, and for the end by another process. */
 #define PROCESS_POLLHANDLER(handler) \
   if(ev == PROCESS_EVENT_POLL) {     \
     handler;                         \
@@ -113,30 +113,30 @@ extern struct process *process_current;
   process_current = tmp_current; \
   }
 
-/* Starts a process that isn't running: it is given INIT with this data at once. */
+/* Starts a process that isn't running: it receives INIT with this data at once. */
 void process_start(struct process *p, process_data_t data);
 
-/* Posts an event to a process or to all. PROCESS_ERR_FULL where the queue has no free place. */
+/* Posts an event to a process or to all. PROCESS_ERR_FULL if the queue is full. */
 int process_post(struct process *p, process_event_t ev, process_data_t data);
 
-/* Gives a process an event at once. */
+/* Delivers an event to a process at once. */
 void process_post_synch(struct process *p, process_event_t ev, process_data_t data);
 
-/* Ends a process: the others are told at once. One that ends itself goes on to its next wait. */
+/* Ends a process: the others receive EXITED at once. A process that ends itself continues to its next wait. */
 void process_exit(struct process *p);
 
-/* Has a process called with PROCESS_EVENT_POLL. */
+/* Polls a process: it will be called with PROCESS_EVENT_POLL. */
 void process_poll(struct process *p);
 
 int process_is_running(struct process *p);
 
-/* An event number that none has yet, from 140 to 254. */
+/* A new event number, from 140 to 254. */
 process_event_t process_alloc_event(void);
 
 CC_REFUSED("the mote runs the processes: leave this call out") void process_init(void);
 CC_REFUSED("the mote runs the processes: leave this call out") int process_run(void);
-CC_REFUSED("the mote does not tell how many events wait") int process_nevents(void);
-CC_REFUSED("the mote does not tell its list of processes") struct process *process_list_head(void);
+CC_REFUSED("the mote does not report the number of events in the queue") int process_nevents(void);
+CC_REFUSED("the mote does not report its list of processes") struct process *process_list_head(void);
 #define PROCESS_LIST() process_list_head()
 
 #endif

@@ -17,7 +17,7 @@ struct pt_sem {
     (s)->head = (c);      \
   } while(0)
 
-/* Waits until the count is above 0, and takes one of it. */
+/* Waits until the count is above 0, and decreases it by one. */
 #define PT_SEM_WAIT(pt, s)                    \
   do {                                        \
     PT_WAIT_UNTIL((pt), PT_SEM_COUNT(s) > 0); \

@@ -1,4 +1,4 @@
-/* Protothreads: functions that wait in their midst and keep no stack meanwhile. Their local variables are lost at each wait. */
+/* Protothreads: functions that can wait, and have no stack meanwhile. Their local variables are lost at each wait. */
 #ifndef PT_H_
 #define PT_H_
 
@@ -8,7 +8,7 @@ struct pt {
   lc_t lc;
 };
 
-/* What a protothread answers. */
+/* The results of a protothread. */
 #define PT_WAITING 0
 #define PT_YIELDED 1
 #define PT_EXITED 2
@@ -17,7 +17,7 @@ struct pt {
 #define PT_THREAD(name_args) char name_args
 #define PT_INIT(pt) LC_INIT((pt)->lc)
 
-/* PT_YIELD_FLAG is 1 from a call's beginning to its first yield. */
+/* PT_YIELD_FLAG is 1 from the start of a call to its first yield. */
 #define PT_BEGIN(pt)        \
   {                         \
     char PT_YIELD_FLAG = 1; \
@@ -51,7 +51,7 @@ struct pt {
     PT_WAIT_THREAD((pt), (thread)); \
   } while(0)
 
-/* Returns, and begins anew at the next call. */
+/* Returns, and starts again at the next call. */
 #define PT_RESTART(pt) \
   do {                 \
     PT_INIT(pt);       \
@@ -64,7 +64,7 @@ struct pt {
     return PT_EXITED; \
   } while(0)
 
-/* Calls a protothread; not 0 where it goes on. */
+/* Calls a protothread; not 0 if it hasn't ended. */
 #define PT_SCHEDULE(f) ((f) < PT_EXITED)
 
 /* Returns once. */

@@ -1,6 +1,7 @@
 /*
- * Real-time timers. Their clock is the mote's, which moves in ticks of CLOCK_SECOND, and stands still within an activation. No
- * interrupt calls back: the callback timer of a process does, between activations, at the first tick that isn't before the time.
+ * Real-time timers. Their clock is the mote's: it advances in ticks of CLOCK_SECOND, and stands still within an activation. The
+ * callback isn't in an interrupt: a callback timer of the process makes it, between activations, at the first tick that isn't before
+ * the time.
  */
 #ifndef RTIMER_H_
 #define RTIMER_H_
@@ -18,7 +19,7 @@ typedef uint32_t rtimer_clock_t;
 #define RTIMER_SECOND 32768u
 #define RTIMER_ARCH_SECOND RTIMER_SECOND
 
-/* How far a is after b, and whether it is before b; the clock wraps round. */
+/* The time from b to a, and whether a is before b; the clock wraps round. */
 #define RTIMER_CLOCK_DIFF(a, b) ((int32_t)((a) - (b)))
 #define RTIMER_CLOCK_LT(a, b) (RTIMER_CLOCK_DIFF(a, b) < 0)
 
@@ -39,13 +40,13 @@ struct rtimer {
   rtimer_clock_t time;
   rtimer_callback_t func;
   void *ptr;
-  /* The callback timer of the process that set it. The driver's own. */
+  /* The callback timer of the process that set it. For the driver only. */
   struct ctimer ctimer;
 };
 
 #define RTIMER_TIME(task) ((task)->time)
 
-/* The clock in ticks of RTIMER_SECOND, by the program's own CLOCK_SECOND. */
+/* The clock in ticks of RTIMER_SECOND, by the program's CLOCK_SECOND. */
 static inline rtimer_clock_t
 rtimer_arch_now(void)
 {
@@ -54,12 +55,12 @@ rtimer_arch_now(void)
 }
 #define RTIMER_NOW() rtimer_arch_now()
 
-/* Sets the timer by a callback timer, that many ticks of the clock from now on. */
+/* Sets the timer by a callback timer, for this number of ticks of the clock from now on. */
 int rtimer_set_after(struct rtimer *task, rtimer_clock_t time, clock_time_t left, rtimer_callback_t func, void *ptr);
 
 /*
- * Calls func(task, ptr) at that time, or at once after this activation where it isn't ahead. Answers RTIMER_OK. The duration means
- * nothing, as in Contiki-NG. It takes one of the process's four callback timers, and is gone where that process ends.
+ * Calls func(task, ptr) at that time, or right after this activation if that time has passed. Returns RTIMER_OK. The duration is
+ * ignored, as in Contiki-NG. It uses one of the process's four callback timers, and is lost when that process ends.
  */
 static inline int
 rtimer_set(struct rtimer *task, rtimer_clock_t time, rtimer_clock_t duration, rtimer_callback_t func, void *ptr)

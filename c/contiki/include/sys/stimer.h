@@ -1,4 +1,4 @@
-/* Passive timers as those of timer.h, in seconds: those of the program's own CLOCK_SECOND, so they are made with its source. */
+/* Passive timers as in timer.h, in seconds. They depend on the program's CLOCK_SECOND, so they are compiled with its source. */
 #ifndef STIMER_H_
 #define STIMER_H_
 
@@ -18,21 +18,21 @@ stimer_elapsed(struct stimer *t)
   return clock_seconds() - t->start;
 }
 
-/* Whether its end isn't ahead. One that is more than half of all seconds away counts as ahead. */
+/* Whether it has run out. An end that is more than half of all seconds away counts as ahead. */
 static inline bool
 stimer_expired(struct stimer *t)
 {
   return clock_seconds() - (t->start + t->interval) < (~0UL >> 1);
 }
 
-/* The seconds that are left. Of no use once it has run out. */
+/* The seconds that are left. Undefined once it has run out. */
 static inline unsigned long
 stimer_remaining(struct stimer *t)
 {
   return t->start + t->interval - clock_seconds();
 }
 
-/* It runs out that many seconds from now on. */
+/* It runs out after this number of seconds. */
 static inline void
 stimer_set(struct stimer *t, unsigned long interval)
 {

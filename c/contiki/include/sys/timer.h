@@ -1,4 +1,4 @@
-/* Passive timers: asked, they tell by the clock whether they have run out. */
+/* Passive timers: the program asks whether they have run out. */
 #ifndef TIMER_H_
 #define TIMER_H_
 
@@ -11,7 +11,7 @@ struct timer {
   clock_time_t interval;
 };
 
-/* It runs out that many ticks from now on. */
+/* It runs out after this number of ticks. */
 void timer_set(struct timer *t, clock_time_t interval);
 
 /* If it has run out: the same interval again, from its end on. */
@@ -22,7 +22,7 @@ void timer_restart(struct timer *t);
 
 bool timer_expired(struct timer *t);
 
-/* The ticks that are left. Of no use once it has run out. */
+/* The ticks that are left. Undefined once it has run out. */
 clock_time_t timer_remaining(struct timer *t);
 
 #endif

@@ -2,9 +2,9 @@
  * Pools of blocks of one size: memb.h of Contiki-NG, over proved calls. For x86-64 and aarch64, and for Cortex-M as docs/boards.md
  * says.
  *
- * To be kept by the caller: a pool is one that MEMB declared, or NULL; or its flags and its memory are good for num of them, and
- * overlap nothing else. No two threads use one pool at once, and no signal handler uses one that a thread uses. Any pointer to a
- * block may be given, NULL too. Each call needs less than 1 KB of stack.
+ * Duties of the caller: a pool is declared by MEMB, or NULL; or its flags and its memory are valid for num blocks, and overlap no other
+ * object. No two threads use one pool at once, and no signal handler uses one that a thread uses. Any pointer may be passed for a
+ * block, also NULL. Each call needs less than 1 KB of stack.
  */
 #ifndef MEMB_H_
 #define MEMB_H_
@@ -13,7 +13,7 @@
 
 TOARMUTS_BEGIN
 
-/* A pool: num blocks of size bytes each, and a flag of each that tells whether it is used. */
+/* A pool: num blocks of size bytes each, and for each a flag: whether it is used. */
 struct memb {
   unsigned short size;
   unsigned short num;
@@ -35,16 +35,16 @@ struct memb {
 /* Makes all blocks unused, and sets their bytes to 0. */
 void memb_init(struct memb *m);
 
-/* Takes the unused block of lowest number, its bytes all 0. NULL where every block is used. */
+/* Allocates the unused block with the lowest number, its bytes all 0. NULL if all blocks are used. */
 void *memb_alloc(struct memb *m);
 
-/* Gives a block back: 0; -1, and nothing changes, where the pointer is not the first byte of a used block. */
+/* Frees a block: 0; -1, and nothing changes, if the pointer is not the first byte of a used block. */
 int memb_free(struct memb *m, void *ptr);
 
-/* Whether a pointer lies in the pool's memory: 1 or 0. */
+/* Whether a pointer is in the pool's memory: 1 or 0. */
 int memb_inmemb(struct memb *m, void *ptr);
 
-/* How many blocks are unused. */
+/* The number of unused blocks. */
 size_t memb_numfree(struct memb *m);
 
 TOARMUTS_END

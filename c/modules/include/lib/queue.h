@@ -1,4 +1,4 @@
-/* Queues: lists whose items leave in the order in which they came: queue.h of Contiki-NG, over list.h. */
+/* Queues, first in, first out: queue.h of Contiki-NG, over list.h. */
 #ifndef QUEUE_H_
 #define QUEUE_H_
 

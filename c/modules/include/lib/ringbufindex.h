@@ -1,9 +1,9 @@
 /*
- * Indices of a ring: ringbufindex.h of Contiki-NG, in plain C. The items are the caller's own, in an array of as many places. It is
- * tested, and not proved.
+ * Indices of a ring: ringbufindex.h of Contiki-NG, in plain C. The caller has the items, in an array of the ring's size. It is tested,
+ * and not proved.
  *
- * To be kept by the caller: a ring is no NULL, and its size a power of 2 up to 128. It holds one item less. One thread or signal
- * handler may put, and one other may get, at the same time: each writes one of both indices alone.
+ * Duties of the caller: a ring is not NULL, and its size is a power of 2 up to 128. It holds one item less. One thread or signal
+ * handler may put, and one other may get, at the same time: each writes only one of the two indices.
  */
 #ifndef RINGBUFINDEX_H_
 #define RINGBUFINDEX_H_
@@ -20,23 +20,23 @@ struct ringbufindex {
 /* Makes an empty ring of this size. */
 void ringbufindex_init(struct ringbufindex *r, uint8_t size);
 
-/* Has the item count that was written at ringbufindex_peek_put: 1; 0, and nothing changes, where the ring is full. */
+/* Appends the item that was written at ringbufindex_peek_put: 1; 0, and nothing changes, if the ring is full. */
 int ringbufindex_put(struct ringbufindex *r);
 
-/* Where the next item must be written; -1 where the ring is full. */
+/* The index at which the next item must be written; -1 if the ring is full. */
 int ringbufindex_peek_put(const struct ringbufindex *r);
 
-/* Takes the oldest item out: its place; -1 where there is none. */
+/* Removes the oldest item and returns its index; -1 if there is none. */
 int ringbufindex_get(struct ringbufindex *r);
 
-/* Where the oldest item is; -1 where there is none. */
+/* The index of the oldest item; -1 if there is none. */
 int ringbufindex_peek_get(const struct ringbufindex *r);
 
-/* How many places there are, and how many items. */
+/* The size of the ring, and the number of items. */
 int ringbufindex_size(const struct ringbufindex *r);
 int ringbufindex_elements(const struct ringbufindex *r);
 
-/* Whether no item can be put, and whether there is none: not 0 or 0. */
+/* Whether the ring is full, and whether it is empty: not 0, or 0. */
 int ringbufindex_full(const struct ringbufindex *r);
 int ringbufindex_empty(const struct ringbufindex *r);
 

@@ -1,4 +1,4 @@
-/* Stacks: lists whose last item leaves first: stack.h of Contiki-NG, over list.h. */
+/* Stacks, last in, first out: stack.h of Contiki-NG, over list.h. */
 #ifndef STACK_H_
 #define STACK_H_
 

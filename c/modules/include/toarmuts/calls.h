@@ -1,6 +1,6 @@
 /*
- * The proved calls: what crates/modules_c exports. Their contracts stand there. A slice is a pointer and a length; a pointer is
- * never NULL here, not even before no bytes. Numbers have 64 bits on every processor, since the proved `usize` has.
+ * The proved calls, which crates/modules_c exports with their contracts. A slice is a pointer and a length; a pointer is never NULL
+ * here, also where the length is 0. Numbers have 64 bits on every processor, as the proved `usize` has.
  */
 #ifndef TOARMUTS_CALLS_H
 #define TOARMUTS_CALLS_H
@@ -14,7 +14,7 @@ uint64_t toarmuts_memb_alloc(bool *used, uint64_t num);
 bool toarmuts_memb_free(bool *used, uint64_t num, uint64_t block);
 uint64_t toarmuts_memb_numfree(const bool *used, uint64_t num);
 
-/* A row of managed memory: where a handle's block begins, and how many bytes it has; 0 where there is no block. */
+/* A row of managed memory: the offset of a handle's block, and its number of bytes; 0 if there is no block. */
 struct toarmuts_managed_row {
   uint64_t place;
   uint64_t size;
@@ -27,20 +27,20 @@ bool toarmuts_mmem_free(struct toarmuts_managed_row *rows, uint64_t num, uint64_
 uint64_t toarmuts_mmem_place(const struct toarmuts_managed_row *rows, uint64_t num, uint64_t size, uint64_t handle);
 uint64_t toarmuts_mmem_avail(const struct toarmuts_managed_row *rows, uint64_t num, uint64_t size);
 
-/* A row of the heap: where a block begins, how many bytes are kept for it, and how many it has. The rows are in the order of
-   their places. */
+/* A row of the heap: the offset of a block, the number of bytes reserved for it, and the number that it has. The rows are sorted by
+   offset. */
 struct toarmuts_heap_row {
   uint64_t place;
   uint64_t room;
   uint64_t size;
 };
 
-/* How a call on the heap went. */
+/* The result of a call on the heap. */
 enum toarmuts_heap_status {
   TOARMUTS_HEAP_DONE = 0,     /* as it was asked for */
-  TOARMUTS_HEAP_NO_TABLE = 1, /* the rows are none: somebody else wrote to them */
+  TOARMUTS_HEAP_NO_TABLE = 1, /* the rows are invalid: somebody else wrote to them */
   TOARMUTS_HEAP_NO_BLOCK = 2, /* no block begins there */
-  TOARMUTS_HEAP_NO_ROOM = 3,  /* there is no gap for the bytes */
+  TOARMUTS_HEAP_NO_ROOM = 3,  /* no gap is large enough */
   TOARMUTS_HEAP_NO_ROW = 4    /* there is no row for another block */
 };
 
@@ -51,7 +51,7 @@ struct toarmuts_heap_stats {
   uint64_t chunks;
 };
 
-/* The last of num rows is a spare one when toarmuts_heapmem_alloc is called, and after toarmuts_heapmem_free, where they are done. */
+/* The last of num rows is unused when toarmuts_heapmem_alloc is called, and after toarmuts_heapmem_free, if they return DONE. */
 uint8_t toarmuts_heapmem_alloc(struct toarmuts_heap_row *rows, uint64_t num, uint8_t *bytes, uint64_t size, uint64_t wanted,
                                uint64_t *place);
 uint8_t toarmuts_heapmem_realloc(struct toarmuts_heap_row *rows, uint64_t num, uint8_t *bytes, uint64_t size, uint64_t *place,

@@ -1,5 +1,5 @@
 /*
- * What the headers of the memory modules share. The proved calls are built for x86-64 and aarch64. For Cortex-M their module is
+ * Definitions that the headers of the memory modules share. The proved calls are built for x86-64 and aarch64. For Cortex-M their module is
  * rewritten and tested, and no proof covers that: docs/boards.md.
  */
 #ifndef TOARMUTS_COMMON_H
@@ -27,15 +27,14 @@
 #define TOARMUTS_ASSERT(condition, text) __extension__ _Static_assert(condition, text)
 #endif
 
-/* Blocks begin at multiples of this, the alignment of max_align_t on x86-64 and aarch64, so that any object may lie in one. */
+/* Blocks begin at multiples of this, the alignment of max_align_t on x86-64 and aarch64, so a block may hold any object. */
 #define TOARMUTS_ALIGNMENT 16
 
-/* The least multiple of the alignment not below n. */
+/* n, rounded up to a multiple of the alignment. */
 #define TOARMUTS_ALIGNED(n) (((n) + (TOARMUTS_ALIGNMENT - 1)) / TOARMUTS_ALIGNMENT * TOARMUTS_ALIGNMENT)
 
 /*
- * Bytes aligned so. They are a char array in a union, so that a compiler takes them for memory of any type: an object of any type may
- * be kept there.
+ * Bytes with this alignment. They are a char array in a union, so that a compiler allows an object of any type there.
  */
 #define TOARMUTS_BYTES(name, size)                                               \
   union {                                                                        \

@@ -1,10 +1,10 @@
 /*
- * Managed memory by handles, under this project's names: what lib/mmem.h stands on. Blocks of any sizes in one memory, which move
- * together where the room after the last one is too short. For x86-64 and aarch64, and for Cortex-M as docs/boards.md says.
+ * Managed memory by handles, under this project's names; lib/mmem.h uses it. Blocks of any sizes in one memory, which move together
+ * if the gap after the last one is too short. For x86-64 and aarch64, and for Cortex-M as docs/boards.md says.
  *
- * To be kept by the caller: a memory that is given is no NULL. Its rows and mem are good for as many rows and bytes as num and size
- * say, and overlap nothing else; where that number is 0, NULL is fine. No two threads use one memory at once, and no signal handler
- * uses one that a thread uses. Rows of any content are answered. Each call needs less than 1 KB of stack.
+ * Duties of the caller: a memory is not NULL. Its rows and mem are valid for num rows and size bytes, and overlap no other object; with
+ * a number of 0, NULL is allowed. No two threads use one memory at once, and no signal handler uses one that a thread uses. The calls
+ * return for rows of any content. Each call needs less than 1 KB of stack.
  */
 #ifndef TOARMUTS_MANAGED_H
 #define TOARMUTS_MANAGED_H
@@ -13,10 +13,10 @@
 
 TOARMUTS_BEGIN
 
-/* How a call for a block went. */
+/* The result of a call for a block. */
 enum toarmuts_managed_status {
   TOARMUTS_MANAGED_ALLOCATED = 0, /* the handle has a block */
-  TOARMUTS_MANAGED_NO_TABLE = 1,  /* the rows are none: a block lies outside the memory, or two of them share a byte */
+  TOARMUTS_MANAGED_NO_TABLE = 1,  /* the rows are invalid: a block is outside the memory, or two of them share a byte */
   TOARMUTS_MANAGED_NO_HANDLE = 2, /* there is no such handle */
   TOARMUTS_MANAGED_IN_USE = 3,    /* the handle had a block already */
   TOARMUTS_MANAGED_NO_BYTES = 4,  /* no bytes were asked for */
@@ -32,8 +32,8 @@ struct toarmuts_managed {
 };
 
 /*
- * Declares a memory of this size, rounded up to a multiple of 16, for this number of blocks. No handle has one. At least 1 of each,
- * which the compiler checks.
+ * Declares a memory of this size, rounded up to a multiple of 16, for this number of blocks. No handle has one. Both must be at least
+ * 1, which the compiler checks.
  */
 #define TOARMUTS_MANAGED(name, size, handles)                                          \
   TOARMUTS_ASSERT((size) >= 1, "TOARMUTS_MANAGED: a memory has at least 1 byte");      \
@@ -42,22 +42,22 @@ struct toarmuts_managed {
   static TOARMUTS_BYTES(name##_mem, TOARMUTS_ALIGNED(size));                           \
   static struct toarmuts_managed name = {sizeof name##_mem.bytes, handles, name##_rows, name##_mem.bytes}
 
-/* Takes all blocks away. */
+/* Frees all blocks. */
 void toarmuts_managed_init(struct toarmuts_managed *m);
 
 /*
- * Gives a handle a block, its bytes all 0, and tells how that went. Anything but ALLOCATED changes nothing. A block takes its
- * size, rounded up to a multiple of 16. Each block may move; pointers into it are stale.
+ * Allocates a block for a handle, its bytes all 0, and returns the result. Nothing changes unless that is ALLOCATED. A block uses its
+ * size, rounded up to a multiple of 16. Each block may move; old pointers into it are invalid.
  */
 enum toarmuts_managed_status toarmuts_managed_alloc(struct toarmuts_managed *m, size_t handle, size_t size);
 
-/* Takes a handle's block away: true; false, and nothing changes, where it has none. No block moves. */
+/* Frees a handle's block: true; false, and nothing changes, if it has none. No block moves. */
 bool toarmuts_managed_free(struct toarmuts_managed *m, size_t handle);
 
-/* Where a handle's block begins, a multiple of 16, until the next toarmuts_managed_alloc; NULL where it has none in the memory. */
+/* The address of a handle's block, a multiple of 16, valid until the next toarmuts_managed_alloc; NULL if it has none in the memory. */
 void *toarmuts_managed_pointer(const struct toarmuts_managed *m, size_t handle);
 
-/* How many bytes are free; 0 where the rows are none. */
+/* The number of free bytes; 0 if the rows are invalid. */
 size_t toarmuts_managed_available(const struct toarmuts_managed *m);
 
 TOARMUTS_END

@@ -1,6 +1,6 @@
 /*
- * The memory of lib/mmem.h and of lib/heapmem.h. The library has one of each, in members of their own: a program that needs
- * another size compiles mmem-memory.c or heapmem-memory.c with its own configuration, and the linker takes that one.
+ * The memory of lib/mmem.h and of lib/heapmem.h. The library has one of each, in separate members: a program that needs another size
+ * compiles mmem-memory.c or heapmem-memory.c with its configuration, and the linker uses that one.
  */
 #ifndef TOARMUTS_MEMORY_H
 #define TOARMUTS_MEMORY_H
@@ -22,7 +22,7 @@ struct toarmuts_mmem_memory {
 
 extern const struct toarmuts_mmem_memory toarmuts_mmem_memory;
 
-/* A zone of the heap, and how many bytes its blocks take: one whose name is NULL is none. */
+/* A zone of the heap, and the number of bytes of its blocks. Its name is NULL if it is unused. */
 struct toarmuts_heap_zone {
   const char *name;
   size_t size;

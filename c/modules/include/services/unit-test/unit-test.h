@@ -1,6 +1,6 @@
 /*
- * Unit tests as Contiki-NG has them: each test is a function, and is registered with a description. A test succeeds at its end, or
- * where it says so; it fails, and ends, at an assertion that doesn't hold. It is plain C.
+ * Unit tests as in Contiki-NG: each test is a function, and is registered with a description. A test succeeds at its end, or where it
+ * says so. At an assertion that doesn't hold it fails and ends. It is plain C.
  *
  *   UNIT_TEST_REGISTER(sums, "Sums");
  *   UNIT_TEST(sums)
@@ -22,7 +22,7 @@ extern "C" {
 
 typedef enum { unit_test_failure = 0, unit_test_success = 1 } unit_test_result_t;
 
-/* A test, and how it went. */
+/* A test and its result. */
 typedef struct unit_test {
   const char *const descr;
   unit_test_result_t result;
@@ -32,7 +32,7 @@ typedef struct unit_test {
   const char *const test_file;
 } unit_test_t;
 
-/* The time of a test: that of rtimer.h in a program of Contiki-NG's kind, else microseconds of the processor. */
+/* The time of a test: that of rtimer.h in a program for the command contiki, otherwise microseconds of the processor. */
 #ifdef RTIMER_NOW
 #define UNIT_TEST_NOW() RTIMER_NOW()
 #else
@@ -40,7 +40,7 @@ typedef struct unit_test {
 #endif
 uint32_t unit_test_now(void);
 
-/* What prints a report. A program may name a function of its own here, of the same type. */
+/* The function that prints a report. A program may name another one of the same type here. */
 #ifndef UNIT_TEST_PRINT_FUNCTION
 #define UNIT_TEST_PRINT_FUNCTION unit_test_print_report
 #endif
@@ -93,7 +93,7 @@ uint32_t unit_test_now(void);
     UNIT_TEST_PRINT_REPORT(name);                 \
   } while(0)
 
-/* Prints the report of a test that ran, and tells whether it succeeded. */
+/* Prints the report of a test that ran, and returns whether it succeeded. */
 #define UNIT_TEST_PRINT_REPORT(name) UNIT_TEST_PRINT_FUNCTION(&unit_test_##name)
 #define UNIT_TEST_PASSED(name) (unit_test_##name.result == unit_test_success)
 
@@ -102,10 +102,10 @@ void unit_test_print_report(const unit_test_t *utp);
 
 void UNIT_TEST_PRINT_FUNCTION(const unit_test_t *utp);
 
-/* This project's own: counts a test that ran, and tells of one that failed on standard error. */
+/* An addition of this project: counts a test that ran, and reports one that failed on standard error. */
 void unit_test_note(const unit_test_t *utp);
 
-/* How many tests ran, and how many of them failed. */
+/* The number of tests that ran, and of those that failed. */
 unsigned unit_test_runs(void);
 unsigned unit_test_failures(void);
 
