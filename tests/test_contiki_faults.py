@@ -69,9 +69,9 @@ FAULTS = {
     "recursion": (-11, "", faulty("CONTINUE (133)", 3, 0, "a crash: the stack is full, as by endless recursion (SIGSEGV)")),
     "undefined": (1, "", faulty("LINE (138)", 4, 1, "undefined behaviour: the sanitizer's report is below")),
     "no_process": (1, "", at_init(0, "a process that PROCESS didn't declare")),
-    "late_block": (1, "", faulty("MSG (134)", 4, 1, "a block was freed during an activation of its owner, and takes room until that "
-                                 "goes on", "4 (Freer)")),
-    "ends_caller": (1, "", faulty("MSG (134)", 3, 1, "process_exit of Caller, which is in an activation of its own", "4 (Callee)")),
+    "late_block": (1, "", faulty("MSG (134)", 4, 1, "a block was freed during an activation of its owner, and stays allocated until "
+                                 "that continues", "4 (Freer)")),
+    "ends_caller": (1, "", faulty("MSG (134)", 3, 1, "process_exit of Caller, which is in an activation", "4 (Callee)")),
 }
 # Those that are no matter for the sanitizers.
 PLAIN = ("null_pointer", "recursion", "stack_etimer", "stack_ctimer", "stack_mmem")

@@ -130,7 +130,7 @@ def test_failed_assertion(contiki: Contiki, tmp_path: Path) -> None:
 
 # ---- Slips ----
 
-NO_BEGIN = ("a wait stands outside PROCESS_BEGIN() and PROCESS_END(), or one of these is missing; a function that waits has PT_BEGIN and "
+NO_BEGIN = ("a wait is outside PROCESS_BEGIN() and PROCESS_END(), or one of these is missing; a function that waits needs PT_BEGIN and "
             "PT_END")
 WAITS = program_of("PROCESS_WAIT_EVENT();")
 # A slip of which the compiler alone says too little, and what the command says of it.
@@ -138,7 +138,7 @@ SLIPS: dict[str, tuple[str, list[str]]] = {
     "no begin": (WAITS.replace("  PROCESS_BEGIN();\n", ""), [NO_BEGIN]),
     "a function": (program_of("wait();", "static void wait(void) { PROCESS_WAIT_EVENT(); }"), [NO_BEGIN]),
     "no end": (WAITS.replace("  PROCESS_END();\n", ""), ["a block isn't closed: look for a missing PROCESS_END()"]),
-    "one line": (program_of("PROCESS_WAIT_EVENT(); PROCESS_PAUSE();"), ["two waits stand on one line: give each a line of its own"]),
+    "one line": (program_of("PROCESS_WAIT_EVENT(); PROCESS_PAUSE();"), ["two waits are on one line: write each on a separate line"]),
     # Two equal cases in a switch of the program's own are no slip with waits.
     "own switch": (program_of("switch(ev) { case 1: break; case 1: break; }"), []),
 }

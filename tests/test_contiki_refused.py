@@ -35,12 +35,12 @@ STATEMENTS = {
     "MEMB(large, char[125], 1); memb_init(&large);": "a block of a pool has at most 124 bytes",
     "MEMB(many, char, 65); memb_init(&many);": "pools have 64 blocks in all",
 }
-NO_BUTTONS = "the mote has no buttons, sensors and pins: let lines of the serial line stand for them (dev/serial-line.h)"
+NO_BUTTONS = "the mote has no buttons, sensors and pins: use lines of the serial line instead (dev/serial-line.h)"
 NULLNET_ALONE = "frames are those of NullNet: use net/nullnet/nullnet.h"
 NO_IP = "the mote has no IPv6, and nothing above it: send frames by net/nullnet/nullnet.h"
-ONLY_AES = "the mote has AES (lib/aes-128.h) and CCM* (lib/ccm-star.h) alone: call a library of the host's, and name it by -l"
-C_ALONE = "it is C alone: put it and its source beside yours"
-OVER_ENERGEST = "it is C alone, over sys/energest.h: put it and its source beside yours"
+ONLY_AES = "the mote has only AES (lib/aes-128.h) and CCM* (lib/ccm-star.h): call a library of the host, and name it by -l"
+C_ALONE = "it is plain C: put it and its source beside yours"
+OVER_ENERGEST = "it is plain C, over sys/energest.h: put it and its source beside yours"
 NO_TIMES = "the mote has no radio and no sleep whose times a module could print: use sys/energest.h"
 # Headers that aren't there, and what is told of them.
 HEADERS: dict[str, str | None] = {
@@ -53,7 +53,7 @@ HEADERS: dict[str, str | None] = {
     **dict.fromkeys(["powertrace.h", "sys/compower.h"], NO_TIMES),
     **dict.fromkeys(["net/net-debug.h", "os/sys/log.h"], "use sys/log.h"),
     "os/lib/dbl-list.h": "use lib/dbl-list.h",
-    "dev/uart0.h": "bytes come in by the script, as lines (dev/serial-line.h), and go out by printf",
+    "dev/uart0.h": "the script has the input, as lines (dev/serial-line.h), and printf writes the output",
     "net/nbr-table.h": "there is no table of neighbours: use lib/list.h and lib/memb.h",
     "sys/mt.h": "use protothreads (sys/pt.h)",
     "contiki-version.h": "contiki.h has what there is: leave it out",

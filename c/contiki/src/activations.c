@@ -1,8 +1,8 @@
 /*
- * Activations. A process that is told something is called; each call that it makes is handed to the mote, which goes on to the next
- * turn. The turn of this very process with its answer is the call's result. Any other turn until then is an activation within, of a
- * process that is given something at once, and that one is called from here: plain recursion, as in Contiki-NG itself. It is right
- * since activations nest, which is a law of the mote.
+ * Activations. A process that receives something is called. Each of its calls is submitted to the mote, which works on to the next
+ * turn. The turn of this process with the reply is the call's result. Any other turn before it is a nested activation, of a process
+ * that receives something at once, and that one is called from here: plain recursion, as in Contiki-NG itself. This is right since
+ * activations nest, which is a law of the mote.
  */
 #define _XOPEN_SOURCE 700
 #include "driver.h"
@@ -26,8 +26,8 @@ present_activation(void)
 static const struct toarmuts_call *errand;
 static struct toarmuts_turn errand_answer;
 
-/* Calls that processes make as soon as they have the answer that they await: others freed blocks of theirs, or stopped timers. Each
- * process has at most 44 of both. Few programs need room for them. */
+/* Calls that processes make as soon as they have the reply that they await: others freed their blocks, or stopped their timers. Each
+ * process has at most 44 of both. Few programs need this table. */
 struct late_call {
   const struct process *owner;
   uint32_t kind, number;
@@ -41,11 +41,11 @@ hand_in(const struct toarmuts_call *call)
 {
   uint32_t status = answer_turn(call);
   if(status != 0) {
-    stop("the mote takes no call of kind %u: status %u", call->kind, status);
+    stop("the mote rejects a call of kind %u: status %u", call->kind, status);
   }
 }
 
-/* A process that another one sends makes that one's call, in its own name. */
+/* Makes the call that another process asked this one to make. */
 static void
 run_errand(void)
 {
@@ -54,7 +54,7 @@ run_errand(void)
   errand_answer = *mote_call(call);
 }
 
-/* Whether this place is on the stack of main, which has a wide gap below it, so nothing else lies so near. */
+/* Whether this address is on the stack of main. Below it is a wide gap, so no other memory is so near. */
 bool
 is_on_stack(const void *place)
 {
@@ -62,8 +62,8 @@ is_on_stack(const void *place)
 }
 
 /*
- * Whether it is there below a frame: what is there is lost at the wait. A program may take a turn on a stack of its own, a thread's or
- * a context's: what is near that is anything.
+ * Whether it is on the stack below a frame: such an object is lost at the wait. A program may run a turn on another stack, of a thread
+ * or a context: nothing is known of the memory near that.
  */
 bool
 is_lost(const void *place, const void *frame)
@@ -71,7 +71,8 @@ is_lost(const void *place, const void *frame)
   return is_on_stack(frame) && is_on_stack(place) && (uintptr_t)place < (uintptr_t)frame;
 }
 
-/* The end of an activation: `exit` where the process ends in it, else `wait`. The last one that ends may stay in the mote for frames. */
+/* The end of an activation: `exit` if the process ends in it, otherwise `wait`. The last process that ends may stay in the mote for
+ * frames. */
 static void
 end_activation(const struct activation *present, bool ends)
 {
@@ -95,7 +96,7 @@ end_activation(const struct activation *present, bool ends)
   }
 }
 
-/* An activation, from what a process is told to its wait or its exit. */
+/* An activation, from what a process receives to its wait or its exit. */
 void
 run_activation(const struct toarmuts_turn *turn)
 {
@@ -108,7 +109,7 @@ run_activation(const struct toarmuts_turn *turn)
   activation = &present;
   process_current = present.process;
   if(errand != NULL && (turn->event == ERRAND_EVENT || turn->event == PROCESS_EVENT_INIT)) {
-    /* One that was started for this exits again. */
+    /* A process that was started for this exits again. */
     ends = turn->event == PROCESS_EVENT_INIT;
     run_errand();
   } else {
@@ -119,7 +120,7 @@ run_activation(const struct toarmuts_turn *turn)
   process_current = caller;
 }
 
-/* Takes the first call that is left for a process; false where none is. */
+/* Removes the first call that is left for a process; false if there is none. */
 static bool
 take_late_call(const struct process *p, struct toarmuts_call *call)
 {
@@ -212,8 +213,8 @@ is_of_blocks(uint32_t kind)
 }
 
 /*
- * Timers and blocks have names of their process's own. Where another process is active, it gives the owner an event at once, and
- * that one makes the call. One that has ended has blocks, and no timers: for a call on a block it is started.
+ * The numbers of timers and blocks belong to one process. If another process is active, it sends the owner an event at once, and the
+ * owner makes the call. A process that has ended has blocks, and no timers: for a call on a block it is started.
  */
 const struct toarmuts_turn *
 ask_for(struct process *owner, const struct toarmuts_call *call)
@@ -228,13 +229,13 @@ ask_for(struct process *owner, const struct toarmuts_call *call)
   }
   if(errand != NULL) {
     errand = NULL;
-    stop("a timer or a block of %s must change, and can't: that isn't running, or is in an activation of its own", name_of(owner));
+    stop("a timer or a block of %s must change, and can't: the process isn't running, or is in an activation", name_of(owner));
   }
   return &errand_answer;
 }
 
-/* A process's block is freed, or its timer stopped: by itself, or by another one while it awaits an answer. Then it does so after that;
- * meanwhile no time passes. */
+/* Frees a process's block, or stops its timer. If another process asks for that while the owner awaits a reply, the owner does it after
+ * the reply; meanwhile no time passes. */
 void
 give_back(struct process *owner, uint32_t kind, uint32_t number)
 {

@@ -1,6 +1,6 @@
 /*
- * What a program prints: whatever it writes on standard output, by whatever function of C. It is gathered, and becomes a `print`
- * where a line ends, where 64 bytes are there, and before the process makes another call or waits.
+ * What a program prints: all that it writes on standard output, by any function of C. It is buffered, and becomes a `print` at a line
+ * end, at 64 bytes, and before the process makes another call or waits.
  */
 #define _GNU_SOURCE
 #include "driver.h"
@@ -11,13 +11,13 @@
 static char gathered[CHUNK];
 static uint32_t gathered_length;
 
-/* The run is over: what the C library still wants to write at the program's end is nobody's. */
+/* The run is over: what the C library still writes at the program's end is dropped. */
 static bool is_closed;
 
-/* Whether stdio hands something in. */
+/* Whether stdio is writing something. */
 static volatile sig_atomic_t is_gathering;
 
-/* Takes what is gathered into a `print`. */
+/* Makes a `print` of the buffered bytes. */
 static struct toarmuts_call
 take_gathered(void)
 {
@@ -27,7 +27,7 @@ take_gathered(void)
   return call;
 }
 
-/* What a program has stdio keep, by setvbuf, is taken first. This stands before each call of the mote, where mostly nothing waits. */
+/* Bytes that stdio buffers, by setvbuf, come first. This is called before each call of the mote; mostly there is nothing to print. */
 void
 flush_console(void)
 {
@@ -40,7 +40,7 @@ flush_console(void)
   }
 }
 
-/* The run ends in a handler of signals: what is gathered is the last call, unless stdio is handing in more. */
+/* The run ends in a handler of signals: the buffered bytes are the last call, unless stdio is writing more. */
 void
 keep_console(void)
 {
@@ -50,7 +50,7 @@ keep_console(void)
   }
 }
 
-/* Takes what a function of stdio writes. */
+/* Receives what a function of stdio writes. */
 static ssize_t
 gather(void *cookie, const char *text, size_t length)
 {
@@ -72,8 +72,8 @@ close_console(void)
   is_closed = true;
 }
 
-/* From now on standard output is the mote's console, and standard input, where the script may be, is empty for the program; the GNU
- * C library lets a program set both. */
+/* From now on standard output is the mote's console, and standard input is empty for the program, since the script may be there. The
+ * GNU C library lets a program set both. */
 void
 open_console(void)
 {
@@ -87,7 +87,7 @@ open_console(void)
   stdin = nothing;
 }
 
-/* A print was left half-way: the next one begins on a console of its own. */
+/* A print was interrupted: the next one begins on a new console. */
 void
 renew_console(void)
 {

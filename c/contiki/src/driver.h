@@ -1,5 +1,4 @@
-/* What the parts of the driver share. These names are hidden, and `contiki` makes them the driver's alone: a program may have the
- * same. */
+/* What the parts of the driver share. `contiki` makes these names local to the driver: a program may have the same ones. */
 #ifndef DRIVER_H_
 #define DRIVER_H_
 
@@ -9,7 +8,8 @@
 
 #include <sys/types.h>
 
-/* The GNU C library's other names for `read` and `write`: a program that includes no header of Unix may have functions of these. */
+/* The GNU C library's other names for `read` and `write`: a program that includes no header of Unix may define functions of these
+ * names. */
 ssize_t __read(int file, void *bytes, size_t length);
 ssize_t __write(int file, const void *bytes, size_t length);
 
@@ -23,7 +23,7 @@ enum {
   ERRAND_EVENT = 255 /* the driver's own: a process makes a call for another one */
 };
 
-/* The exit statuses that mote has, and one of its own. */
+/* The exit statuses of mote, and one of the driver. */
 enum {
   STATUS_FINISHED = 0,
   STATUS_STOPPED = 1,
@@ -39,7 +39,7 @@ enum {
 
 /* activations.c: whose turn it is. */
 
-/* An activation of a process: from what it is told to its next wait. Those that it is called from stand around it. */
+/* An activation of a process: from what it receives to its next wait. It is nested in the activations that called it. */
 struct activation {
   struct process *process;
   struct toarmuts_turn turn;
@@ -52,7 +52,7 @@ struct activation {
 extern struct activation *activation;
 const struct activation *present_activation(void);
 
-/* How many rounds have begun that gave an event or a callback to somebody here. */
+/* The number of rounds that delivered an event or a callback. */
 extern uint64_t rounds_begun;
 
 /* The frame of main, below which the stack grows down. */
@@ -65,7 +65,7 @@ void run_activation(const struct toarmuts_turn *turn);
 /* 0, or why the call was refused. */
 unsigned refusal_of(const struct toarmuts_turn *answer);
 
-/* Makes a call of numbers alone in the name of a process. */
+/* Makes a call that has only numbers, for a process. */
 const struct toarmuts_turn *ask_for(struct process *owner, const struct toarmuts_call *call);
 #define ASK_FOR(owner, call_kind, ...) ask_for(owner, &(struct toarmuts_call){.kind = (call_kind), .numbers = {__VA_ARGS__}})
 
@@ -74,7 +74,7 @@ bool has_late_calls(void);
 
 /* mote.c: the one mote. For the motes of a network, network/motes.c and network/member.c have these calls. */
 
-/* Whose turn was the last one. */
+/* The process of the last turn. */
 extern const struct process *last_process;
 
 bool next_turn(struct toarmuts_turn *turn);
@@ -84,7 +84,7 @@ uint32_t last_line(uint8_t *line, size_t room, size_t *length);
 clock_time_t clock_now(void);
 void close_mote(void);
 
-/* In a network the number of the mote at work; 0 where none is, and without a network. */
+/* In a network the number of the mote that works; 0 if none does, and without a network. */
 unsigned present_mote(void);
 
 /* Where there is no network. */
@@ -170,7 +170,7 @@ CC_NORETURN void finish(int status);
 CC_NORETURN CC_FORMAT(1, 2) void stop(const char *format, ...);
 CC_NORETURN CC_FORMAT(2, 3) void give_up(int status, const char *format, ...);
 
-/* What a program calls a process, or nothing where that is NULL. */
+/* The program's name for a process; empty if it is NULL. */
 static inline const char *
 name_of(const struct process *p)
 {

@@ -1,6 +1,6 @@
 /*
- * How a run ends that doesn't end well. What is told on standard error names the process, what it was told, and the line of the
- * transcript where it was told that.
+ * How a run ends at a fault. The message on standard error names the process, what it received, and the line of the transcript where
+ * it received that.
  */
 #define _XOPEN_SOURCE 700
 #include "driver.h"
@@ -14,10 +14,10 @@
 
 enum { REPORT_ROOM = 512, STACK_ROOM = 1 << 16, STACK_NEAR = 1 << 20, PATIENCE = 10 };
 
-/* Whether the sanitizers are in the program: they tell of crashes themselves, and call back before they end it. */
+/* Whether the sanitizers are in the program: they report crashes themselves, and call back before they end it. */
 extern void __sanitizer_set_death_callback(void (*callback)(void)) __attribute__((weak));
 
-/* A text that is put together without the C library's help, so that a handler of signals may do it. */
+/* A text that is built without the C library, so that a handler of signals may do it. */
 struct report {
   char text[REPORT_ROOM];
   size_t length;
@@ -43,12 +43,12 @@ add_number(struct report *report, uint64_t number)
   add_text(report, digits + at);
 }
 
-/* What an event from INIT on is called. */
+/* The names of the events from INIT on. */
 static const char *const event_names[] = {
   "INIT", "POLL", "EXIT", "SERVICE_REMOVED", "CONTINUE", "MSG", "EXITED", "TIMER", "COM", "LINE", "PACKET",
 };
 
-/* What the active process was told. */
+/* What the active process received. */
 static void
 add_stimulus(struct report *report, const struct toarmuts_turn *turn)
 {
@@ -71,7 +71,7 @@ add_process_name(struct report *report, const struct process *p)
   add_text(report, ")");
 }
 
-/* Which mote of a network is at work. */
+/* The mote of a network that works. */
 static void
 add_mote(struct report *report, const char *end)
 {
@@ -121,7 +121,7 @@ tell_now(const char *what)
   write_report(&report);
 }
 
-/* The same after all of the transcript, whose writing isn't interrupted by this, with what was printed with no line end yet. */
+/* The same after the whole transcript, with what was printed without a line end. The transcript's writing isn't interrupted. */
 static void
 tell(const char *what)
 {
@@ -132,7 +132,7 @@ tell(const char *what)
 
 static bool is_over;
 
-/* From here on nothing is told any more. */
+/* From here on nothing more is reported. */
 static void
 end_run(void)
 {
@@ -155,7 +155,7 @@ tell_halt(void)
   write_report(&report);
 }
 
-/* Ends the program with the transcript as far as it has come. */
+/* Ends the program with the transcript so far. */
 void
 finish(int status)
 {
@@ -174,7 +174,7 @@ halt(void)
   exit(STATUS_HALTED);
 }
 
-/* What was printed with no line end yet is kept, too. */
+/* What was printed without a line end is written, too. */
 static void
 keep_prints(void)
 {
@@ -198,7 +198,7 @@ stop(const char *format, ...)
   exit(STATUS_STOPPED);
 }
 
-/* Ends it for a reason that no process has to do with. */
+/* Ends it for a reason outside of any process. */
 void
 give_up(int status, const char *format, ...)
 {
@@ -215,7 +215,7 @@ give_up(int status, const char *format, ...)
   exit(status);
 }
 
-/* Where the stack ends that grows down, roughly; 0 where it is not bounded. */
+/* Roughly the lower end of the stack; 0 if it has no limit. */
 static uintptr_t stack_end;
 
 static void
@@ -233,7 +233,7 @@ is_end_of_stack(const void *place)
   return stack_end != 0 && (uintptr_t)place - (stack_end - STACK_NEAR) < 2 * (uintptr_t)STACK_NEAR;
 }
 
-/* A crash: it is told, and then takes its course. */
+/* A crash: it is reported, and then ends the program. */
 static void
 handle_crash(int number, siginfo_t *info, void *context)
 {
@@ -259,7 +259,7 @@ handle_crash(int number, siginfo_t *info, void *context)
   raise(number);
 }
 
-/* The run is interrupted: where a process is active, that is told. */
+/* The run is interrupted: the active process is reported, if there is one. */
 static void
 handle_end(int number)
 {
@@ -275,14 +275,14 @@ handle_end(int number)
   raise(number);
 }
 
-/* The signal SIGALRM comes after ten seconds. It isn't `alarm` that says so, which a program may have as a function of its own. */
+/* Asks for the signal SIGALRM in ten seconds. It doesn't use `alarm`, since a program may define a function of that name. */
 static void
 begin_patience(void)
 {
   setitimer(ITIMER_REAL, &(struct itimerval){.it_value = {.tv_sec = PATIENCE}}, NULL);
 }
 
-/* A process that makes no call for ten seconds and more is told of once. */
+/* A process that makes no call for ten seconds is reported once. */
 static void
 handle_alarm(int number)
 {
@@ -296,8 +296,8 @@ handle_alarm(int number)
   begin_patience();
 }
 
-/* With the address sanitizer a pointer to a local variable that is gone is noticed, too, as one that was posted. The motes of a network
- * may have variables of one name. */
+/* The address sanitizer also finds a pointer to a local variable that is gone, as one that was posted. The motes of a network may have
+ * variables of the same name. */
 __attribute__((visibility("default"))) const char *__asan_default_options(void);
 
 const char *
@@ -308,7 +308,7 @@ __asan_default_options(void)
 
 static bool is_undefined;
 
-/* The sanitizer of undefined behaviour calls this before it tells of some; that of gcc calls nothing when it ends the program. */
+/* The sanitizer of undefined behaviour calls this before its report; that of gcc calls nothing when it ends the program. */
 __attribute__((visibility("default"))) void __ubsan_on_report(void);
 
 void
@@ -345,7 +345,7 @@ handle_crashes(int number)
   sigaction(number, &action, NULL);
 }
 
-/* Signals from outside. One that is passed over stays so. */
+/* Signals from outside. One that is ignored stays so. */
 static void
 handle_ends(void)
 {
@@ -365,7 +365,7 @@ watch_for_faults(void)
   stack_t place = {.ss_sp = stack, .ss_size = sizeof stack};
   atexit(handle_exit);
   handle_ends();
-  /* Where nobody reads any more, a write fails, as for mote. */
+  /* If nobody reads the output, a write fails, as in mote. */
   signal(SIGPIPE, SIG_IGN);
   sigaction(SIGALRM, &(struct sigaction){.sa_handler = handle_alarm, .sa_flags = SA_ONSTACK | SA_RESTART}, NULL);
   begin_patience();

@@ -7,7 +7,7 @@
 #include "sys/node-id.h"
 
 enum {
-  CONTROL = 0x41,        /* a data frame, where one PAN stands for both; the low byte */
+  CONTROL = 0x41,        /* a data frame with one PAN for both; the low byte */
   ASKED = 0x20,          /* an acknowledgement is asked for */
   PENDING = 0x10,        /* the sender has more */
   CONTROL_TO_ALL = 0xd8, /* a short receiver, a long sender, the version of 2006; the high byte */
@@ -21,19 +21,19 @@ enum {
   RSSI = -60
 };
 
-/* The PAN of all motes, and the one, as the short address, by which all are meant. */
+/* The PAN of all motes, and the number for all PANs and all short addresses. */
 static const uint8_t pan[] = {0xcd, 0xab}, all[SHORT_SIZE] = {0xff, 0xff};
 
 static bool has_joined;
 
-/* Of the next frame: from 1 on, and 1 again after 255. */
+/* The number of the next frame: from 1 on, and 1 again after 255. */
 static uint8_t sequence = 1;
 
-/* Of the frame that came in last. */
+/* Attributes of the last frame that arrived. */
 static linkaddr_t sender, receiver;
 static bool has_come_in;
 
-/* The mote is the one of this number in a network: its frames have headers, and its random numbers are its own. */
+/* Sets the mote's number in a network: its frames have headers, and its random numbers differ from those of the others. */
 void
 join_network(uint16_t number)
 {
@@ -99,7 +99,7 @@ write_header(uint8_t *header, const linkaddr_t *to)
   sequence = sequence == UINT8_MAX ? 1 : sequence + 1;
 }
 
-/* The length of the header that a frame begins with; 0 where that is none of the above. */
+/* The length of a frame's header; 0 if it has none of the above. */
 static size_t
 length_of_header(const uint8_t *frame, size_t length)
 {
@@ -120,7 +120,7 @@ is_for_this_mote(const uint8_t *frame, size_t header)
   return is_of_pan && linkaddr_cmp(&receiver, &linkaddr_node_addr);
 }
 
-/* Reads who sent a frame and to whom, and the length of its header: 0 where it has none. False where the frame is for another mote. */
+/* Reads a frame's sender and receiver, and the length of its header: 0 if it has none. False if the frame is for another mote. */
 bool
 take_header(const uint8_t *frame, size_t length, size_t *header)
 {

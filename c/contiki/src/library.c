@@ -1,4 +1,4 @@
-/* Contiki-NG's library, as far as it has nothing to do with the mote: assert.h, random.h, crc16.h, leds.h, node-id.h. */
+/* The parts of Contiki-NG's library that don't use the mote: assert.h, random.h, crc16.h, leds.h, node-id.h. */
 #include "driver.h"
 
 #include "dev/leds.h"
@@ -10,7 +10,7 @@ process_event_t serial_line_event_message = TOARMUTS_EVENT_SERIAL_LINE;
 
 uint16_t node_id = 1;
 
-/* assert.h: what Contiki-NG prints, and then the end. */
+/* assert.h: prints what Contiki-NG prints, and ends the program. */
 void
 _xassert(const char *file, int lineno)
 {
@@ -18,7 +18,7 @@ _xassert(const char *file, int lineno)
   stop("an assertion failed: %s:%d", file, lineno);
 }
 
-/* random.h: a linear congruential generator, of which the upper bits are told. */
+/* random.h: a linear congruential generator. Its upper bits are returned. */
 
 static uint64_t random_state = 1;
 

@@ -1,29 +1,29 @@
-/* Runs a program's processes on a mote over a script, and writes the transcript: the words of mote, without its applications. */
+/* Runs a program's processes on a mote with a script, and writes the transcript. It has the options of mote. */
 #define _XOPEN_SOURCE 700
 #include "driver.h"
 
 #include <stdlib.h>
 #include <unistd.h>
 
-#define USAGE                                                                                                                \
-  "Runs processes of Contiki-NG's kind on the proved mote, and writes the transcript.\n\n"                                   \
-  "The script is the file SCRIPT, or standard input. Arguments:\n\n"                                                         \
-  "  [--mmem N] [--heap N] [--quota N] [--header N] [--quiet]  as for mote\n"                                                \
-  "  [--text]                                                  only what the processes print\n"                              \
-  "  [--test]                                                  the same; status 1 where a unit test fails, or none is run\n" \
-  "  [--names]                                                 only the names of the processes\n"                            \
+#define USAGE                                                                                                            \
+  "Runs processes for Contiki-NG on the proved mote, and writes the transcript.\n\n"                                     \
+  "The script is the file SCRIPT, or standard input. Arguments:\n\n"                                                     \
+  "  [--mmem N] [--heap N] [--quota N] [--header N] [--quiet]  as for mote\n"                                            \
+  "  [--text]                                                  only what the processes print\n"                          \
+  "  [--test]                                                  the same; status 1 if a unit test fails or none is run\n" \
+  "  [--names]                                                 only the names of the processes\n"                        \
   "  [SCRIPT]\n"
 
 struct words {
   struct toarmuts_configuration configuration;
   bool is_text;        /* only what is printed */
-  bool is_test;        /* unit tests tell the status */
+  bool is_test;        /* unit tests decide the status */
   bool asks_for_names; /* nothing is run */
   bool asks_for_help;
   const char *script; /* the script's name, or NULL for standard input */
 };
 
-/* Words. */
+/* Arguments. */
 
 static uint32_t
 read_number(const char *option, const char *text)
@@ -36,7 +36,7 @@ read_number(const char *option, const char *text)
   return (uint32_t)number;
 }
 
-/* Reads an option that takes a number; false where it is none. */
+/* Reads an option with a number; false if it is none. */
 static bool
 read_size(struct toarmuts_configuration *configuration, const char *option, const char *value)
 {
@@ -55,7 +55,7 @@ read_size(struct toarmuts_configuration *configuration, const char *option, cons
   return true;
 }
 
-/* Of a word as --mmem=8 the value, which is cut off; else NULL. */
+/* Cuts the value off an argument as --mmem=8; NULL if there is none. */
 static char *
 cut_value(char *word)
 {
@@ -67,7 +67,7 @@ cut_value(char *word)
   return sign + 1;
 }
 
-/* An option stands once, as for mote. */
+/* Refuses a repeated option, as mote does. */
 static void
 check_once(char **first, char **option)
 {
@@ -109,7 +109,7 @@ read_words(char **word)
   return words;
 }
 
-/* Hands in one line after another, with all that follows of it. */
+/* Submits one line after another, and executes all that follows. */
 static void
 run_script(int script)
 {
@@ -125,7 +125,7 @@ run_script(int script)
     case TOARMUTS_BAD_LINE:
       end_at_bad_line(number, line, length, "tick N, serial HEX and frame HEX");
     default:
-      stop("the mote takes no more inputs");
+      stop("the mote accepts no more inputs");
     }
   }
   if(reading == READ_TOO_MUCH) {
@@ -138,7 +138,7 @@ run_script(int script)
 unsigned unit_test_runs(void) __attribute__((weak));
 unsigned unit_test_failures(void) __attribute__((weak));
 
-/* The status of a script that was carried out, by the program's unit tests. */
+/* The status after the script, by the program's unit tests. */
 static int
 test_status(void)
 {

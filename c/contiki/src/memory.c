@@ -1,9 +1,9 @@
 /*
  * Memory: memb.h, heapmem.h and mmem.h.
  *
- * The mote says which block is taken, whether there is room, and what is refused. The bytes are the program's own: an array for a
- * pool, and blocks of malloc for the other two, which a sanitizer watches. They stand for the mote's bytes since those change by
- * the owner's own calls alone, which is a law of the mote; where the mote reads them, as to send a frame, they are written first.
+ * The mote decides which block is allocated, whether there is room, and what is refused. The bytes are in the program's memory: an
+ * array for a pool, and blocks of malloc for the other two, which a sanitizer watches. They may replace the mote's bytes since only the
+ * owner's calls change those, which is a law of the mote. Before the mote reads bytes, as to send a frame, they are written to it.
  */
 #include "driver.h"
 
@@ -24,7 +24,7 @@
 #define ASAN_UNPOISON_MEMORY_REGION(place, size) ((void)(place), (void)(size))
 #endif
 
-/* Bytes of the program's or of the driver's, all 0. */
+/* Allocates bytes for the program or the driver, all 0. */
 void *
 take_bytes(size_t size)
 {
@@ -35,12 +35,13 @@ take_bytes(size_t size)
   return bytes;
 }
 
-/* A block that is freed while its owner awaits an answer is in the mote until that has it. What depends on that is not answered. */
+/* A block that is freed while its owner awaits a reply stays in the mote until the owner has the reply. Meanwhile no figures that
+ * depend on it are returned. */
 bool
 check_late(bool depends)
 {
   if(depends && has_late_calls()) {
-    stop("a block was freed during an activation of its owner, and takes room until that goes on: nothing can be told of memory now");
+    stop("a block was freed during an activation of its owner, and stays allocated until that continues: the mote has no figures now");
   }
   return depends;
 }
@@ -49,7 +50,7 @@ check_late(bool depends)
 
 enum { POOLS = 4, POOL_BLOCKS = 16 };
 
-/* The bytes of a block that a pool of the mote has. */
+/* The bytes of a block in a pool of the mote. */
 static const unsigned short usable[POOLS] = {12, 28, 60, 124};
 
 static void *
@@ -79,7 +80,7 @@ give_block_back(struct memb *m, unsigned i)
   ASAN_POISON_MEMORY_REGION(memb_place(m, i), m->size);
 }
 
-/* `memb-alloc`, of the first pool whose blocks are long enough and that has one: its number and the block's, as memb.h has them. */
+/* `memb-alloc`, in the first pool with an unused block that is long enough: the numbers of the pool and the block, as in memb.h. */
 static unsigned char
 take_block(const struct memb *m)
 {
@@ -143,7 +144,7 @@ memb_inmemb(struct memb *m, void *ptr)
   return (uintptr_t)ptr >= start && (uintptr_t)ptr - start < (uintptr_t)m->size * m->num;
 }
 
-/* Contiki-NG counts the blocks of this pool alone, so the mote, which counts those of all, isn't asked. */
+/* Contiki-NG counts only the blocks of this pool, and the mote those of all pools: so it isn't asked. */
 size_t
 memb_numfree(struct memb *m)
 {
@@ -166,7 +167,7 @@ struct heap_block {
 /* Those of each process. */
 static struct heap_block (*heap_blocks)[HEAP_BLOCKS];
 
-/* A place in the table for a block of the active process. */
+/* A slot in the table for a block of the active process. */
 static unsigned
 free_heap_block(void)
 {
@@ -186,7 +187,7 @@ free_heap_block(void)
   return slot;
 }
 
-/* The block whose bytes begin there, of whatever process, or NULL. */
+/* The block at this address, of any process, or NULL. */
 static struct heap_block *
 find_heap_block(const void *ptr, struct process **owner, unsigned *slot)
 {
@@ -226,7 +227,7 @@ heapmem_calloc(size_t num, size_t size)
   return size != 0 && num > UINT32_MAX / size ? NULL : heapmem_alloc(num * size);
 }
 
-/* `heap-realloc`. The bytes always move, so that a sanitizer finds a pointer to where they were. */
+/* `heap-realloc`. The bytes always move, so that a sanitizer finds a pointer to the old ones. */
 void *
 heapmem_realloc(void *ptr, size_t size)
 {
@@ -289,10 +290,10 @@ enum { HANDLES = 16 };
 /* Those of each process. */
 static struct mmem *(*handles)[HANDLES];
 
-/* All blocks, in the order in which they were taken. */
+/* All blocks, in the order in which they were allocated. */
 static struct mmem *managed_blocks;
 
-/* A handle of the active process that has no block: the lowest one. */
+/* The lowest handle of the active process that has no block. */
 unsigned
 free_handle(void)
 {
@@ -310,7 +311,7 @@ free_handle(void)
   return handle;
 }
 
-/* A struct mmem that has a block stays where it is: on the stack of a thread it would be lost at the wait. */
+/* A struct mmem with a block must not be on the stack of a thread: it would be lost at the wait. */
 void
 check_blocks(const struct process *p, const void *frame)
 {
@@ -347,7 +348,7 @@ mmem_alloc(struct mmem *m, unsigned int size)
   return 1;
 }
 
-/* The blocks after one that goes move, as in the original: pointers to their bytes are stale, and a sanitizer finds their use. */
+/* The blocks after a freed one move, as in the original: pointers to their bytes are invalid, and a sanitizer finds their use. */
 static void
 slide(struct mmem *m)
 {

@@ -7,7 +7,7 @@
 const struct process *last_process;
 static struct toarmuts_mote mote;
 
-/* Whether the mote is being asked, or what it told is being shown. */
+/* Whether a call of the library runs, or its result is being shown. */
 static volatile sig_atomic_t is_at_work;
 
 /* Boots the mote with the program's processes as its applications. */
@@ -24,14 +24,14 @@ open_mote(const struct toarmuts_configuration *configuration)
   }
 }
 
-/* Gives its memory back, in whatever state it is. */
+/* Frees its memory, in any state. */
 void
 close_mote(void)
 {
   toarmuts_close(&mote);
 }
 
-/* `toarmuts_next`, in which a signal finds the mote at work. */
+/* `toarmuts_next`. A handler of signals sees that the mote works meanwhile. */
 static uint32_t
 next_step(uint32_t *step, struct toarmuts_turn *turn)
 {
@@ -78,7 +78,7 @@ answer_turn(const struct toarmuts_call *call)
   return status;
 }
 
-/* Makes a call whose answer nobody awaits, since the run ends here: also in a handler of signals, unless the mote is at work. */
+/* Makes a call whose reply nobody awaits, since the run ends here: also in a handler of signals, unless the mote works. */
 void
 make_last_call(const struct toarmuts_call *call)
 {
@@ -87,7 +87,7 @@ make_last_call(const struct toarmuts_call *call)
   }
 }
 
-/* Carries out all turns up to the mote's rest. */
+/* Executes all turns up to the mote's rest. */
 void
 run_to_rest(void)
 {
@@ -97,14 +97,14 @@ run_to_rest(void)
   }
 }
 
-/* Hands in a line of the script. */
+/* Submits a line of the script. */
 uint32_t
 feed_line(const char *line, size_t length)
 {
   return toarmuts_feed(&mote, (const uint8_t *)line, length);
 }
 
-/* The clock, without a call of the program: for the driver's own accounts. */
+/* The clock, without a call of the program: for the driver. */
 clock_time_t
 clock_now(void)
 {

@@ -32,7 +32,7 @@ uint16_t nullnet_len;
 
 static nullnet_input_callback input_callback;
 
-/* The process whose activations frames come in, or NULL; whether there was one; and the one that is to follow it, or NULL. */
+/* The process that receives frames, or NULL; whether there was one; and the one that must follow it, or NULL. */
 static const struct process *receiver, *follower;
 static bool had_receiver;
 
@@ -68,8 +68,8 @@ forget_receiver(const struct process *p)
 }
 
 /*
- * The callback outlives the process that set it. Where the others are told that this one has ended, the mote still has it as the
- * receiver: so the first of them gives itself an event, and becomes the receiver then. True where a process was told that event.
+ * The callback outlives the process that set it. When the others receive EXITED, the mote still has that process as the receiver: so
+ * the first of them posts itself an event, and becomes the receiver then. True if a process received that event.
  */
 bool
 receive_again(void)
@@ -89,7 +89,7 @@ receive_again(void)
   return false;
 }
 
-/* The active process has ended another one: where that was the receiver or was to be, and nobody else is, it is the receiver now. */
+/* The active process has ended another one. If that was or should become the receiver, and there is no other, it is the receiver now. */
 void
 follow_receiver(void)
 {
@@ -98,7 +98,7 @@ follow_receiver(void)
   }
 }
 
-/* Whether frames are for a callback, not for the process's thread. */
+/* Whether frames are for a callback, and not for the process's thread. */
 bool
 takes_frames(void)
 {
@@ -106,8 +106,8 @@ takes_frames(void)
 }
 
 /*
- * The last process that ends stays in the mote where frames are for a callback: they come in within its activations. It becomes the
- * receiver, if there is none.
+ * The last process that ends stays in the mote if frames are for a callback, which needs its activations. It becomes the receiver, if
+ * there is none.
  */
 bool
 stays_for_frames(const struct process *p)
@@ -119,7 +119,7 @@ stays_for_frames(const struct process *p)
   return receiver == p;
 }
 
-/* Reads the front frame; false where there is none of this length. */
+/* Reads the first frame; false if there is none of this length. */
 static bool
 read_frame(uint8_t *bytes, size_t length)
 {
@@ -145,7 +145,7 @@ call_back(const uint8_t *bytes, size_t length)
   }
 }
 
-/* `packet-read`, `packet-done`: the frame is read and given back, and then the callback is called. */
+/* `packet-read`, `packet-done`: reads and frees the frame, and then calls the callback. */
 void
 take_frame(size_t length)
 {
@@ -172,7 +172,7 @@ write_frame(unsigned handle, const uint8_t *bytes, size_t length)
   }
 }
 
-/* The bytes of the program's that a frame can have after its header. */
+/* The number of the program's bytes that a frame can have after its header. */
 static void
 check_frame(size_t header)
 {
@@ -184,7 +184,7 @@ check_frame(size_t header)
   }
 }
 
-/* `mmem-alloc`, `mmem-write`, `packet-send`, `mmem-free`: the mote sends what lies in a managed block. */
+/* `mmem-alloc`, `mmem-write`, `packet-send`, `mmem-free`: the mote sends the content of a managed block. */
 static uint8_t
 output(const linkaddr_t *localdest)
 {
@@ -207,7 +207,7 @@ output(const linkaddr_t *localdest)
   return 1;
 }
 
-/* The network is there from the start, and frames come in by events of the mote. */
+/* The network exists from the start, and frames arrive as events of the mote. */
 static void
 do_nothing(void)
 {

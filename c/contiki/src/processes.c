@@ -11,29 +11,29 @@ struct process *process_current;
 struct process *processes[MOST_PROCESSES];
 unsigned process_count;
 
-/* How many of the first processes aren't started with the program, and which of these the mote has booted. */
+/* The number of first processes that aren't started with the program, and which of these the mote has booted. */
 static unsigned not_started;
 static bool has_booted[MOST_PROCESSES];
 
-/* What process_start hands to the INIT event that follows at once. */
+/* The data that process_start passes to the INIT event, which follows at once. */
 static process_data_t start_data;
 
 /* The processes that run, the one that was started last first. */
 static struct process *running[MOST_PROCESSES];
 static unsigned running_count;
 
-/* Which processes have ended themselves by process_exit, or ended long ago, so that the mote's own EXITED isn't told; and the one that
- * the others are being told of. */
+/* Which processes have ended themselves by process_exit, or ended before, so that the mote's EXITED isn't delivered; and the one whose
+ * EXITED is being delivered. */
 static bool has_left[MOST_PROCESSES];
 static struct process *leaving;
 
-/* The process whose thread has ended, and that stays in the mote, where frames come in within its activations; or NULL. */
+/* The process whose thread has ended, and that stays in the mote since frames need its activations; or NULL. */
 static struct process *staying;
 
-/* What process_start hands to the thread of that one, to begin it anew; and whether it does so now. */
+/* The data that process_start passes to the thread of that one, to start it again; and whether it does so now. */
 static bool begins_anew;
 
-/* Which processes were polled and haven't been told POLL since: that outlives the end of a process, if it is started again. */
+/* Which processes were polled and haven't received POLL since. This outlives the end of a process that is started again. */
 static bool is_polled[MOST_PROCESSES];
 
 /* Who is who. */
@@ -71,14 +71,14 @@ compare_entries(const void *a, const void *b)
 }
 
 /*
- * Numbers the processes. The mote starts all its applications, so one that isn't to be started with the program exits in its
- * first turn; these come first, as nobody else is there yet to hear of it, by file and line, on one line by name. Then come the
- * others, in the order in which they are started.
+ * Numbers the processes. The mote starts all its applications, so a process that isn't started with the program exits in its first
+ * turn. These are first, while no other process can receive EXITED: by file and line, then by name. After them are the others, in the
+ * order of their start.
  */
 void
 number_processes(void)
 {
-  /* Static, so that no sanitizer tells of a leak where there are too many. */
+  /* Static, so that no sanitizer reports a leak if there are too many. */
   static struct process_entry *entries;
   size_t count = (size_t)(__stop_process_entries - __start_process_entries);
   if(autostart_processes == NULL) {
@@ -113,7 +113,7 @@ process_of(uint64_t number)
   return number >= FIRST_PROCESS && number < FIRST_PROCESS + process_count ? processes[number - FIRST_PROCESS] : NULL;
 }
 
-/* Its place among the processes, or their number where it is none of them. What it points to isn't looked at: it may be any pointer. */
+/* Its index among the processes, or their number if it is none of them. It may be any pointer: it isn't dereferenced. */
 static unsigned
 place_among(const struct process *p)
 {
@@ -130,7 +130,7 @@ is_process(const struct process *p)
   return place_among(p) < process_count;
 }
 
-/* The place of one that must be there. */
+/* The index of a process that must be there. */
 unsigned
 index_of(const struct process *p)
 {
@@ -142,15 +142,15 @@ index_of(const struct process *p)
 }
 
 /*
- * Data of events. The mote carries a number. Small numbers stand for themselves, as no object lies there; each pointer has a
- * number from 65,536 on, for good, so that an event carries exactly the pointer.
+ * Data of events. The mote carries a number. A small number is the data itself, since no object has such an address. Each pointer gets
+ * a number from 65,536 on, for the whole run, so that an event carries exactly the pointer.
  */
 
 enum { FIRST_POINTER = 65536 };
 
 static void **pointers;
 static uint32_t pointer_count, pointer_room;
-/* Numbers of pointers, less FIRST_POINTER and plus 1, at places that their hashes tell; twice as many places as pointers. */
+/* A hash table of the pointers' numbers, less FIRST_POINTER and plus 1. It has twice as many slots as there are pointers. */
 static uint32_t *places;
 
 static uint32_t
@@ -227,7 +227,7 @@ runs_alone(const struct process *p)
   return running_count == 0 || (running_count == 1 && running[0] == p);
 }
 
-/* The thread of the last process that ran has ended. Nobody is left to hear of that, and later ones aren't told. */
+/* The thread of the last process that ran has ended. Nobody is left to receive that, and later processes don't. */
 void
 note_staying(struct process *p)
 {
@@ -249,7 +249,7 @@ note_started(struct process *p)
   has_left[index_of(p)] = false;
 }
 
-/* Whether it stands in an activation. */
+/* Whether it is in an activation. */
 bool
 is_active(const struct process *p)
 {
@@ -260,7 +260,7 @@ is_active(const struct process *p)
   return open != NULL;
 }
 
-/* Whether it has ended itself, and goes on to its next wait. */
+/* Whether it has ended itself, and continues to its next wait. */
 static bool
 has_ended_itself(const struct process *p)
 {
@@ -271,7 +271,7 @@ has_ended_itself(const struct process *p)
   return open != NULL;
 }
 
-/* Whether it stands in its EXIT event. */
+/* Whether it is in its EXIT event. */
 static bool
 is_told_exit(const struct process *p)
 {
@@ -282,9 +282,9 @@ is_told_exit(const struct process *p)
   return open != NULL;
 }
 
-/* An activation: what the process is told, as Contiki-NG has it. */
+/* An activation: what the process receives, in Contiki-NG's terms. */
 
-/* The line that was told last, until the next one is. */
+/* The line that was received last, until the next one is. */
 static process_data_t
 line_of(const struct toarmuts_turn *turn)
 {
@@ -310,7 +310,7 @@ data_of_event(const struct toarmuts_turn *turn, struct process *p)
   }
 }
 
-/* INIT. True where the mote starts a process that isn't to be started with the program. */
+/* INIT. True if the mote starts a process that isn't started with the program. */
 static bool
 ends_at_boot(struct process *p)
 {
@@ -324,7 +324,7 @@ ends_at_boot(struct process *p)
   return ends;
 }
 
-/* EXIT. The others were told before, the kernel's processes among them. */
+/* EXIT. The others have received EXITED before, also the kernel's processes. */
 static void
 note_killed(struct process *p)
 {
@@ -345,7 +345,7 @@ call_thread(struct process *p, process_event_t ev, process_data_t data)
   return !PT_SCHEDULE(p->thread(&p->pt, ev, data));
 }
 
-/* The thread of the process that stays is begun anew; true where it ends at once. */
+/* Starts the thread of the process that stays again; true if it ends at once. */
 static bool
 begin_anew(struct process *p)
 {
@@ -357,7 +357,7 @@ begin_anew(struct process *p)
   return call_thread(p, PROCESS_EVENT_INIT, data);
 }
 
-/* The process that stays: frames are for it alone, and a post from process_start. */
+/* The process that stays: it receives only frames, and a post from process_start. */
 static bool
 activate_staying(const struct toarmuts_turn *turn, struct process *p)
 {
@@ -370,7 +370,7 @@ activate_staying(const struct toarmuts_turn *turn, struct process *p)
   return false;
 }
 
-/* Calls the process's thread, or its callback; true where it has ended. */
+/* Calls the process's thread, or its callback; true if it has ended. */
 bool
 activate(struct activation *present)
 {
@@ -420,7 +420,7 @@ put_data(struct toarmuts_call *call, process_data_t data)
   call->number = number_of(data);
 }
 
-/* Ends the program where the kernel alone may give this event. */
+/* Ends the program if only the kernel may send this event. */
 static void
 refuse_event(const struct toarmuts_turn *answer, process_event_t ev)
 {
@@ -455,7 +455,7 @@ process_post(struct process *p, process_event_t ev, process_data_t data)
   return refusal_of(answer) == 0 ? PROCESS_ERR_OK : PROCESS_ERR_FULL;
 }
 
-/* `post-synch`: the receiver's activation lies within. */
+/* `post-synch`: the receiver's activation is nested. */
 void
 process_post_synch(struct process *p, process_event_t ev, process_data_t data)
 {
@@ -465,7 +465,7 @@ process_post_synch(struct process *p, process_event_t ev, process_data_t data)
   refuse_event(mote_call(&call), ev);
 }
 
-/* `poll`. One that isn't running isn't polled. */
+/* `poll`. A process that isn't running isn't polled. */
 void
 process_poll(struct process *p)
 {
@@ -474,7 +474,7 @@ process_poll(struct process *p)
   }
 }
 
-/* The process that stays is begun anew: in an activation of its own at once, else by an event that is given to it. */
+/* Starts the process that stays again: at once in its activation, otherwise by an event. */
 static void
 start_staying(struct process *p)
 {
@@ -488,13 +488,13 @@ start_staying(struct process *p)
   begins_anew = true;
   MOTE_ASK(TOARMUTS_CALL_POST_SYNCH, p->number, ERRAND_EVENT);
   if(begins_anew) {
-    stop("process_start of %s, which is in an activation of its own", name_of(p));
+    stop("process_start of %s, which is in an activation", name_of(p));
   }
 }
 
 /*
- * `start`. Nothing happens where it is running. Its INIT event comes at once, so the data waits here for it. Contiki-NG would begin
- * one anew that has ended itself, before its thread has come to its next wait.
+ * `start`. Nothing happens if it is running. Its INIT event comes at once, so the data is stored for it here. Contiki-NG would restart a
+ * process that has ended itself before its thread has reached its next wait.
  */
 void
 process_start(struct process *p, process_data_t data)
@@ -516,7 +516,7 @@ process_start(struct process *p, process_data_t data)
   start_data = NULL;
 }
 
-/* One that has ended is started once more, makes a call and exits. The others' threads aren't told of that. */
+/* Starts a process that has ended: it makes a call and exits. The threads of the others don't receive EXITED for that. */
 void
 start_for_errand(struct process *p)
 {
@@ -525,8 +525,8 @@ start_for_errand(struct process *p)
 }
 
 /*
- * A process ends itself: the others are told at once, by an event of the driver's, and what the mote tells them when it exits at its
- * next wait isn't told again.
+ * A process ends itself: the others receive EXITED at once, by an event of the driver. The mote's EXITED, when the process exits at its
+ * next wait, isn't delivered again.
  */
 static void
 leave(struct process *p)
@@ -545,7 +545,7 @@ leave(struct process *p)
   leaving = outer;
 }
 
-/* `kill`, or for the active process `exit` at its next wait. One that is at its end already isn't ended again. */
+/* `kill`, or for the active process `exit` at its next wait. A process that is ending isn't ended again. */
 void
 process_exit(struct process *p)
 {
@@ -562,13 +562,13 @@ process_exit(struct process *p)
   }
   refusal = refusal_of(MOTE_ASK(TOARMUTS_CALL_KILL, number));
   if(refusal == TOARMUTS_REFUSAL_BUSY && !is_at_end) {
-    stop("process_exit of %s, which is in an activation of its own", name_of(p));
+    stop("process_exit of %s, which is in an activation", name_of(p));
   } else if(refusal == 0) {
     follow_receiver();
   }
 }
 
-/* `is-running`. One that ends itself doesn't run any more, though the mote has it so until its next wait. */
+/* `is-running`. A process that has ended itself doesn't run, though in the mote it does until its next wait. */
 int
 process_is_running(struct process *p)
 {

@@ -5,7 +5,7 @@
 
 enum { SCRIPT_LIMIT = 16777216, PART = 65536 };
 
-/* The next byte of the script, or EOF. The transcript is written as far as it has come before more of the script is waited for. */
+/* The next byte of the script, or EOF. The transcript so far is written before it waits for more of the script. */
 static int
 next_byte(int script)
 {
@@ -27,7 +27,7 @@ next_byte(int script)
   return at < length ? (unsigned char)part[at++] : EOF;
 }
 
-/* Reads the next line, without its end. Of one that is too long it reads a byte too many, which the mote refuses. */
+/* Reads the next line, without its end. Of a line that is too long it reads one byte too many, so that the mote refuses it. */
 enum reading
 read_line(int script, char *line, size_t *length)
 {

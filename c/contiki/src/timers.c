@@ -1,9 +1,9 @@
 /*
  * Clock and timers: clock.h, timer.h, etimer.h and ctimer.h.
  *
- * A struct etimer has one of its process's eight event timers in the mote, and keeps it as long as no other timer needs it. The
- * mote says when it runs out. The struct keeps start and interval as Contiki-NG's does; where the mote's timer has the same two
- * numbers, a reset and a restart are the mote's own, and else the timer is set for what is left. Callback timers go the same way.
+ * A struct etimer has one of its process's eight event timers in the mote, until another timer needs it. The mote decides when it runs
+ * out. The struct has start and interval as in Contiki-NG. If the mote's timer has the same two numbers, a reset and a restart are calls
+ * of the mote; otherwise the timer is set for the ticks that are left. Callback timers work the same way.
  */
 #include "driver.h"
 
@@ -15,15 +15,15 @@ struct cell {
   clock_time_t start;    /* as the mote has it */
   clock_time_t interval; /* as the mote has it */
   uint64_t set_in;       /* the round in which it was armed last */
-  bool is_armed;         /* and neither stopped nor told since */
-  unsigned waiting;      /* events that wait in the queue, of times before it was armed last */
+  bool is_armed;         /* and neither stopped nor received since */
+  unsigned waiting;      /* events in the queue from before it was armed last */
 };
 
 /* Those of each process. */
 static struct cell (*event_cells)[EVENT_TIMERS];
 static struct cell (*callback_cells)[CALLBACK_TIMERS];
 
-/* Whether a timer on the stack was ever set. Few programs have one, and only then are all looked at before each wait. */
+/* Whether a timer on the stack was ever set. Few programs have one, and only then all timers are checked before each wait. */
 static bool has_any_on_stack;
 
 /* Makes the cells of the program's processes. */
@@ -34,7 +34,7 @@ make_cells(void)
   callback_cells = take_bytes(process_count * sizeof *callback_cells);
 }
 
-/* The clock: the call `clock`, so that a program that waits for it without end is halted. */
+/* The clock, by the call `clock`, so that a program that waits for it in an endless loop is halted. */
 
 clock_time_t
 clock_time(void)
@@ -42,7 +42,7 @@ clock_time(void)
   return MOTE_ASK(TOARMUTS_CALL_CLOCK, 0)->number;
 }
 
-/* timer.h: the clock alone. */
+/* timer.h: only the clock. */
 
 void
 timer_set(struct timer *t, clock_time_t interval)
@@ -65,7 +65,7 @@ timer_restart(struct timer *t)
   t->start = clock_time();
 }
 
-/* Whether an interval is over, as Contiki-NG counts: one that begins a tick ahead isn't, while its start may be any earlier time. */
+/* Whether an interval is over, as in Contiki-NG. One that begins a tick ahead isn't; its start may be any earlier time. */
 static bool
 has_elapsed(clock_time_t now, clock_time_t start, clock_time_t interval)
 {
@@ -86,7 +86,7 @@ timer_remaining(struct timer *t)
 
 /* Cells: which of the mote's timers a timer has. */
 
-/* The ticks that an interval has left, as Contiki-NG counts them: 0 where it is over, also where it began before the clock did. */
+/* The ticks that an interval has left, as in Contiki-NG: 0 if it is over, also if it began before the clock did. */
 static clock_time_t
 left_of(clock_time_t start, clock_time_t interval)
 {
@@ -108,8 +108,8 @@ is_due(const struct cell *cell)
 }
 
 /*
- * Whether an armed timer has run out, as far as the driver can tell: a round that begins takes those that are due from the list, as
- * many as the event queue has room for.
+ * Whether an armed timer has run out, as far as the driver knows: a round removes due timers from the list, as many as the event queue
+ * has room for.
  */
 static bool
 has_run_out(const struct cell *cell)
@@ -126,7 +126,7 @@ checked_interval(clock_time_t interval)
   return (uint32_t)interval;
 }
 
-/* The place of a timer among a process's cells, or their number. */
+/* The index of a timer among a process's cells, or their number. */
 static unsigned
 slot_of(const void *timer, const struct cell *cells, unsigned count)
 {
@@ -143,7 +143,7 @@ is_free(const struct cell *cell)
   return !cell->is_armed && cell->waiting == 0;
 }
 
-/* The timer's own place, else one that no timer had, else one whose timer isn't set. Where all are set, the message says how to go on. */
+/* The timer's cell; otherwise one that no timer had; otherwise one whose timer isn't set. If all are set, the message says what to do. */
 static unsigned
 take_slot(const void *timer, struct cell *cells, unsigned count, const char *what, const char *way_round)
 {
@@ -163,7 +163,7 @@ take_slot(const void *timer, struct cell *cells, unsigned count, const char *wha
   return slot;
 }
 
-/* Notes that the mote's timer begins anew. */
+/* Notes that the mote's timer starts again. */
 static void
 note_armed(struct cell *cell, clock_time_t start, clock_time_t interval)
 {
@@ -174,7 +174,7 @@ note_armed(struct cell *cell, clock_time_t start, clock_time_t interval)
   has_any_on_stack |= is_on_stack(cell->timer);
 }
 
-/* Notes that a timer is asked whether it ran out. Who does so without end waits for it in a loop, and without a call of the mote. */
+/* Counts the questions whether a timer ran out. An endless loop of them waits for it without a call of the mote. */
 static void
 note_question(void)
 {
@@ -188,7 +188,7 @@ note_question(void)
 
 /* etimer.h */
 
-/* The timer of a cell has run out, was stopped, or its event was told: its flag goes. */
+/* The timer of a cell has run out, was stopped, or its event was received: its flag is cleared. */
 static void
 note_expired(struct cell *cell)
 {
@@ -199,7 +199,7 @@ note_expired(struct cell *cell)
   }
 }
 
-/* Where an armed timer may have run out already, the mote is asked: then its event waits in the queue. */
+/* If an armed timer may have run out, the mote is asked: then its event is in the queue. */
 static void
 settle(struct process *owner, unsigned slot)
 {
@@ -210,7 +210,7 @@ settle(struct process *owner, unsigned slot)
   }
 }
 
-/* Where the timer is armed for a process, the mote's timer is stopped. Its event, if one waits, comes all the same. */
+/* Stops the mote's timer, if the timer is armed for a process. An event that is already in the queue is still delivered. */
 static void
 disarm(const struct etimer *et, struct process *owner)
 {
@@ -226,7 +226,7 @@ disarm(const struct etimer *et, struct process *owner)
   }
 }
 
-/* Takes a timer for the current process, and from any other; answers its place. */
+/* Gives the current process a timer that another one may have had. Returns its index. */
 static unsigned
 take_timer(struct etimer *et)
 {
@@ -261,7 +261,7 @@ etimer_set(struct etimer *et, clock_time_t interval)
   arm_to_end(et, slot);
 }
 
-/* `timer-reset`, where the mote's timer has the same start and interval, else `timer-set`. */
+/* `timer-reset`, if the mote's timer has the same start and interval; otherwise `timer-set`. */
 void
 etimer_reset(struct etimer *et)
 {
@@ -269,7 +269,7 @@ etimer_reset(struct etimer *et)
   struct cell *cell = &event_cells[index_of(process_current)][slot];
   bool is_same = cell->start == et->timer.start && cell->interval == et->timer.interval;
   if(!is_over(et)) {
-    /* It hasn't run out: it goes on, or is set again if it was stopped. */
+    /* It hasn't run out: it continues, or is set again if it was stopped. */
     if(cell->is_armed) {
       et->p = process_current;
     } else {
@@ -299,7 +299,7 @@ etimer_reset_with_new_interval(struct etimer *et, clock_time_t interval)
   arm_to_end(et, slot);
 }
 
-/* `timer-restart`, where the mote's timer has the same interval, else `timer-set`. */
+/* `timer-restart`, if the mote's timer has the same interval; otherwise `timer-set`. */
 void
 etimer_restart(struct etimer *et)
 {
@@ -315,7 +315,7 @@ etimer_restart(struct etimer *et)
   }
 }
 
-/* `timer-set`, if it is set; it keeps its place on the mote's list. One whose event waits in the queue isn't set any more. */
+/* `timer-set`, if it is set; its position on the mote's list stays. A timer whose event is in the queue isn't set any more. */
 void
 etimer_adjust(struct etimer *et, int td)
 {
@@ -347,15 +347,15 @@ etimer_stop(struct etimer *et)
 }
 
 /*
- * By the flag that the struct has, as Contiki-NG does. It is taken away when the event is told; before that the mote is asked with
- * `timer-expired`, if the timer may have run out. Of a timer whose process has ended it is as it was.
+ * By the flag in the struct, as in Contiki-NG. It is cleared when the event is received; before that the mote is asked by
+ * `timer-expired`, if the timer may have run out. If the timer's process has ended, the flag is unchanged.
  */
 bool
 etimer_expired(struct etimer *et)
 {
   unsigned slot;
   note_question();
-  /* Bytes that nothing set may be there: then it isn't expired, as in Contiki-NG. */
+  /* The struct may be uninitialised: then it isn't expired, as in Contiki-NG. */
   if(!is_process(et->p)) {
     return et->p == PROCESS_NONE;
   }
@@ -378,7 +378,7 @@ etimer_start_time(struct etimer *et)
   return et->timer.start;
 }
 
-/* An event timer's event is told: of the timer as it was armed last, or of an earlier time. */
+/* An event timer's event is received: from when the timer was armed last, or from before. */
 struct etimer *
 etimer_told(struct process *p, unsigned slot)
 {
@@ -393,7 +393,7 @@ etimer_told(struct process *p, unsigned slot)
 
 /* ctimer.h */
 
-/* `callback-stop`, where the timer is set for a process. */
+/* `callback-stop`, if the timer is set for a process. */
 static void
 disarm_callback(const struct ctimer *c, struct process *owner)
 {
@@ -468,7 +468,7 @@ ctimer_stop(struct ctimer *c)
   c->etimer.p = PROCESS_NONE;
 }
 
-/* The mote has no call that asks this, so the driver's own account tells. */
+/* The mote has no call for this question, so the driver answers it from its own notes. */
 bool
 ctimer_expired(struct ctimer *c)
 {
@@ -484,8 +484,8 @@ ctimer_expired(struct ctimer *c)
 }
 
 /*
- * A callback timer has run out. The mote tells only of one that was neither set nor stopped since. One that mote.h set is told to
- * the thread; true where that has ended.
+ * A callback timer has run out. The mote reports only one that was neither set nor stopped since. For a timer that was set by mote.h the
+ * thread is called; true if that has ended.
  */
 bool
 ctimer_told(struct process *p, unsigned slot)
@@ -505,7 +505,7 @@ ctimer_told(struct process *p, unsigned slot)
 
 /* All timers. */
 
-/* Whether it runs out later, and hasn't been told. */
+/* Whether it runs out later, and its event wasn't received. */
 static bool
 is_pending(const struct cell *cell)
 {
@@ -551,7 +551,7 @@ etimer_next_expiration_time(void)
   return end == NEVER ? 0 : end;
 }
 
-/* A timer that is set stays where it is: on the stack of a thread, or of a callback, it would be lost at the wait. */
+/* A timer that is set must not be on the stack of a thread or a callback: it would be lost at the wait. */
 void
 check_timers(const void *frame)
 {
@@ -585,7 +585,7 @@ forget_event_timers(const struct process *p)
   }
 }
 
-/* `timer-stop` for the event timers of a process whose thread has ended, and that stays in the mote. Its callback timers go on. */
+/* `timer-stop` for the event timers of a process whose thread has ended, and that stays in the mote. Its callback timers continue. */
 void
 stop_event_timers(const struct process *p)
 {

@@ -1,4 +1,4 @@
-/* The transcript on standard output, through a room of its own, so that a program that crashes doesn't take its end along. */
+/* The transcript on standard output, through its own buffer, so that its end isn't lost when a program crashes. */
 #include "driver.h"
 
 #include <errno.h>
@@ -8,14 +8,14 @@
 
 enum { ROOM = 1 << 16, LINE_ROOM = 680, SPEAKER_ROOM = 12, PIECE = 4096, PATIENCE = 1000 };
 
-/* The number of lines of the transcript, also of those that are left out. */
+/* The number of lines of the transcript, with those that are left out. */
 static uint64_t line_count;
 
 static bool shows_prints_alone; /* the turns that print or send, and what was sent */
 static bool shows_text;         /* only what was printed */
-static unsigned only_mote;      /* the mote of a network whose lines alone are shown, or 0 */
+static unsigned only_mote;      /* the only mote of a network whose lines are shown, or 0 */
 
-/* In a network: the mote whose lines follow, what stands before each of them, and whether they are left out. */
+/* In a network: the mote whose lines follow, the prefix of each line, and whether they are left out. */
 static unsigned speaker;
 static char speaker_text[SPEAKER_ROOM];
 static size_t speaker_length;
@@ -24,10 +24,10 @@ static bool is_left_out;
 static char room[ROOM];
 static size_t used;
 
-/* Whether the room is being changed or written, and the signal that came meanwhile and is to end the run, or 0. */
+/* Whether the buffer is being changed or written, and the signal that arrived meanwhile and must end the run, or 0. */
 static volatile sig_atomic_t is_busy, late_signal;
 
-/* A signal ends the run: what nobody takes is dropped, so that it does end. */
+/* A signal ends the run: output that nobody reads is dropped, so that the run ends. */
 static bool is_hasty;
 
 void
@@ -61,7 +61,7 @@ shown_lines(void)
   return line_count;
 }
 
-/* Whether a signal that ends the run comes while the buffer is being changed: then it comes again after that. */
+/* Whether a signal that ends the run arrives while the buffer is being changed: then it is raised again after that. */
 bool
 delays_signal(int number)
 {
@@ -97,7 +97,7 @@ write_piece(const char *bytes, size_t length)
   return __poll(&out, 1, PATIENCE) > 0 ? __write(STDOUT_FILENO, bytes, MIN(length, PIECE)) : (ssize_t)length;
 }
 
-/* Calls nothing but poll and write, since a handler of signals may call this. Nobody may take what is written: a signal ends that. */
+/* Calls only poll and write, since a handler of signals may call this. If nobody reads the output, a signal ends the wait. */
 static void
 write_room(void)
 {
@@ -134,7 +134,7 @@ put_bytes(const void *bytes, size_t length)
   end_busy();
 }
 
-/* The line of what happened last, with so many bytes of the speaker's number in front. */
+/* The line of the last entry, with a prefix of n bytes, the number of its mote. */
 static void
 put_line(size_t front)
 {
@@ -142,14 +142,14 @@ put_line(size_t front)
   size_t length;
   uint32_t status = last_line(line + front, LINE_ROOM - 1, &length);
   if(status != 0) {
-    stop("the mote tells no line: status %u", status);
+    stop("the mote returns no line: status %u", status);
   }
   memcpy(line, speaker_text, front);
   line[front + length] = '\n';
   put_bytes(line, front + length + 1);
 }
 
-/* What a mote prints. In a network each line begins with its number, and a line that was begun ends where another mote prints. */
+/* What a mote prints. In a network each line begins with its number, and an unfinished line ends when another mote prints. */
 static void
 put_text(const uint8_t *bytes, size_t length)
 {
@@ -173,7 +173,7 @@ put_text(const uint8_t *bytes, size_t length)
   }
 }
 
-/* A turn, with the call that answered it. */
+/* A turn, with its call. */
 void
 show_turn(const struct toarmuts_call *call)
 {
@@ -191,7 +191,7 @@ show_turn(const struct toarmuts_call *call)
   }
 }
 
-/* Whether an entry that is no turn stands in a quiet transcript. */
+/* Whether an entry that is no turn is in a quiet transcript. */
 static bool
 is_kept(void)
 {
@@ -230,7 +230,7 @@ show_text(const char *text)
   }
 }
 
-/* The end of a network's transcript, where an input took all its rounds. */
+/* The end of a network's transcript, if an input took all its rounds. */
 void
 show_halt(void)
 {

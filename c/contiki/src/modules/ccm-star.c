@@ -15,7 +15,7 @@ make_block(uint8_t *block, uint8_t flags, const uint8_t *nonce, uint16_t number)
   block[15] = (uint8_t)number;
 }
 
-/* Adds bytes to the block that is encrypted next, whose first ones may be taken: how many then are. */
+/* Adds bytes to the block that is encrypted next, after those that it has. Returns the new number. */
 static size_t
 add_bytes(uint8_t *x, size_t taken, const uint8_t *bytes, size_t length)
 {
@@ -29,7 +29,7 @@ add_bytes(uint8_t *x, size_t taken, const uint8_t *bytes, size_t length)
   return taken;
 }
 
-/* What is left of a block is 0. */
+/* Fills the rest of a block with 0. */
 static void
 pad(uint8_t *x, size_t taken)
 {

@@ -1,4 +1,4 @@
-/* energest.h, in ticks of the clock: a program's own CLOCK_SECOND is known in its sources alone. */
+/* energest.h, in ticks of the clock: only the program's sources know its CLOCK_SECOND. */
 #define ENERGEST_CONF_ON 1
 #include "sys/energest.h"
 

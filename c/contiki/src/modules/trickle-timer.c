@@ -5,7 +5,7 @@
 
 static void begin_interval(struct trickle_timer *tt);
 
-/* A random number below a bound, which may be above what random_rand tells. */
+/* A random number below a bound, which may be greater than those of random_rand. */
 static clock_time_t
 random_below(clock_time_t bound)
 {
@@ -13,7 +13,7 @@ random_below(clock_time_t bound)
   return number % bound;
 }
 
-/* The interval is over: the next one has twice its length, if that isn't too much. */
+/* The interval is over: the next one has twice its length, up to the greatest. */
 static void
 end_interval(void *ptr)
 {

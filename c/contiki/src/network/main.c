@@ -1,4 +1,4 @@
-/* Runs the programs of a network's motes over a script, and writes the transcript. The command `contiki` compiles the programs. */
+/* Runs the programs of a network's motes with a script, and writes the transcript. The command `contiki` compiles the programs. */
 #define _XOPEN_SOURCE 700
 #include "network.h"
 
@@ -18,7 +18,7 @@ struct words {
 
 static const char *setup_name;
 
-/* Words. The command has looked at them before. */
+/* Arguments. The command has checked them. */
 
 static struct words
 read_words(char **word)
@@ -62,7 +62,7 @@ end_at_bad_setup(uint64_t number, const char *why)
   finish(STATUS_BAD_LINE);
 }
 
-/* Reads a line into its room, without its end; false at the end of the file. Of a longer one the length is above the limit. */
+/* Reads a line into its buffer, without its end; false at the end of the file. If a line is too long, the length is above the limit. */
 static bool
 read_setup_line(FILE *file, char *line, size_t *length)
 {
@@ -75,7 +75,7 @@ read_setup_line(FILE *file, char *line, size_t *length)
   return *length > 0 || c == '\n';
 }
 
-/* Takes a line; NULL, or why it is malformed. */
+/* Reads a line; NULL, or why it is malformed. */
 static const char *
 take_line(struct network_setup *setup, uint64_t number, char *line, size_t length)
 {
@@ -124,7 +124,7 @@ digit_of(char c)
   return c >= '0' && c <= '9' ? c - '0' : c >= 'a' && c <= 'f' ? c - 'a' + 10 : c >= 'A' && c <= 'F' ? c - 'A' + 10 : -1;
 }
 
-/* Reads bytes, each as two digits; how many, or 0 where there are too many or none. */
+/* Reads bytes of two digits each. Returns their number, or 0 if there are too many or none. */
 static size_t
 read_bytes(const char *text, uint8_t *bytes, size_t most)
 {
@@ -142,7 +142,7 @@ read_bytes(const char *text, uint8_t *bytes, size_t most)
   return digits / 2;
 }
 
-/* `serial HEX` or `frame HEX`, for a mote; false where it is neither. */
+/* `serial HEX` or `frame HEX`, for a mote; false if it is neither. */
 static bool
 take_mote_input(uint32_t mote, char *text)
 {
@@ -157,7 +157,7 @@ take_mote_input(uint32_t mote, char *text)
   return true;
 }
 
-/* Hands in what a line says; false where it is malformed. */
+/* Submits the input of a line; false if it is malformed. */
 static bool
 take_input(char *line, size_t motes)
 {

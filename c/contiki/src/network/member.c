@@ -1,4 +1,4 @@
-/* A program of a network: what its driver calls is done by the command. */
+/* A program of a network: the command does what its driver calls. */
 #include "network.h"
 
 #include <stdarg.h>
@@ -82,7 +82,7 @@ join(const struct network_host *host, uint16_t number, const void *stack)
   return process_count;
 }
 
-/* The bounds of the static data, where the command `contiki` had the linker gather it. */
+/* The bounds of the static data, if the command `contiki` had the linker gather it. */
 extern char __start_mote_data[] __attribute__((weak, visibility("hidden")));
 extern char __stop_mote_data[] __attribute__((weak, visibility("hidden")));
 

@@ -1,7 +1,7 @@
 /*
- * The motes of a network, and whose turn it is. A mote rests before another one works, so of its activations nothing is on the stack
- * then, and its static data is all that is its own. The motes of a program take turns in the program's one copy, where the data of the
- * one that works is put; or each mote has a copy of the shared object, as the sanitizers want it, which know where each variable is.
+ * The motes of a network, and their turns. A mote rests before another one works, so none of its activations is on the stack then, and
+ * its state is only its static data. The motes of a program share one copy of it, in which the data of the one that works is put. With
+ * the sanitizers, which know the address of each variable, each mote has a copy of the shared object instead.
  */
 #define _GNU_SOURCE
 #include "network.h"
@@ -27,7 +27,7 @@ struct copy {
 
 struct mote {
   struct copy *copy;
-  char *data; /* while another one's is in place */
+  char *data; /* stored here while another mote's is in place */
 };
 
 static struct program *programs;
@@ -43,15 +43,15 @@ static unsigned present_number;
 
 const struct process *last_process;
 
-/* The line of what happened last, if it was asked for, and where it begins. */
+/* The line of the last entry, if it was fetched, and where it begins. */
 static uint8_t line_text[LINE_ROOM];
 static size_t line_length, line_begin;
 static bool has_line;
 
-/* Whether the network is being asked, or what it told is being shown. */
+/* Whether a call of the library runs, or its result is being shown. */
 static volatile sig_atomic_t is_at_work;
 
-/* Where a mote that halts within an activation is left. */
+/* Where to jump when a mote halts within an activation. */
 static jmp_buf left;
 
 void *
@@ -119,7 +119,7 @@ copy_file(const char *from, const char *to)
   }
 }
 
-/* The copy of a program that a mote takes: that of all its motes, or, where a folder for copies is given, one of its own. */
+/* The copy of a program for a mote: that of all its motes, or, if there is a folder for copies, a separate one. */
 static struct copy *
 copy_for(struct program *program, size_t number, const char *copies)
 {
@@ -163,7 +163,7 @@ switch_to(unsigned number)
   present_number = number;
 }
 
-/* Gives a mote its data, as its program has it at the start. */
+/* Initialises a mote's data, as its program has it at the start. */
 static void
 make_mote(struct mote *mote, struct copy *copy)
 {
@@ -210,7 +210,7 @@ clock_now(void)
   return happening.clock;
 }
 
-/* Fetches the line of what happened last. A mote's own line loses the number in front: the transcript puts it there. */
+/* Fetches the line of the last entry. The number before a mote's line is removed, since the transcript writes it. */
 static uint32_t
 fetch_line(void)
 {
@@ -273,7 +273,7 @@ is_halt(void)
   return last_line(line, sizeof line, &length) == 0 && length == 4 && memcmp(line, "halt", 4) == 0;
 }
 
-/* An entry that is no turn. A mote that halts is named, and where it halts within an activation that is left. */
+/* An entry that is no turn. A mote that halts is reported, and its activation, if it is in one, is left. */
 static void
 take_entry(void)
 {
@@ -301,7 +301,7 @@ end_exhausted(void)
   finish(STATUS_HALTED);
 }
 
-/* Works on to the next turn; what else happens is shown. False at rest. */
+/* Works on to the next turn; other entries are shown. False at rest. */
 static bool
 next_happening(struct toarmuts_turn *turn)
 {
@@ -331,7 +331,7 @@ next_happening(struct toarmuts_turn *turn)
   }
 }
 
-/* A halted mote's activations are left, perhaps within a print. */
+/* Leaves a halted mote's activations, perhaps within a print. */
 static void
 leave_activations(void)
 {
@@ -356,7 +356,7 @@ run_network(void)
   present_number = 0;
 }
 
-/* What programs call. */
+/* The functions that programs call. */
 
 static CC_NORETURN void
 stop_with(const char *what)
@@ -374,7 +374,7 @@ static const struct network_host host = {
   next_happening, answer_turn, clock_now, shown_lines, flush_console, tell_now, stop_with, give_up_with,
 };
 
-/* Inputs, and the beginning. */
+/* Inputs, and the start. */
 
 /* Makes the motes that are set up, each by the program that it runs, and notes the number of their processes. */
 void
@@ -391,7 +391,7 @@ make_motes(struct network_setup *setup, const char *copies, const void *stack)
   }
 }
 
-/* The first mote that can't be booted with its sizes and this number of processes. */
+/* The first mote that can't boot with its sizes and this number of processes. */
 static size_t
 first_bad_mote(const struct network_setup *setup)
 {
@@ -435,7 +435,7 @@ static void
 check_input(uint32_t status)
 {
   if(status != 0) {
-    stop("the network takes no more inputs");
+    stop("the network accepts no more inputs");
   }
 }
 

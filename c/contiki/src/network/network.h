@@ -1,13 +1,13 @@
 /*
- * A network: many motes in one process. A program is a shared object, with a driver of its own, of which each mote has static data. What
- * all motes share is in the command: the library, the transcript, signals. Both sides know each other by the two structs below.
+ * A network: many motes in one process. A program is a shared object with its own driver, and each mote has its own static data. The
+ * command has what all motes share: the library, the transcript, signals. The two structs below are the interface between both.
  */
 #ifndef NETWORK_H_
 #define NETWORK_H_
 
 #include "../driver.h"
 
-/* What the command does for a program. */
+/* The functions of the command for a program. */
 struct network_host {
   bool (*next_turn)(struct toarmuts_turn *turn);
   uint32_t (*answer_turn)(const struct toarmuts_call *call);
@@ -19,14 +19,14 @@ struct network_host {
   CC_NORETURN void (*give_up)(int status, const char *what);
 };
 
-/* What a program does for the command, of the mote whose static data is in place. */
+/* The functions of a program for the command, for the mote whose static data is in place. */
 struct network_program {
   /* Becomes the mote of this number; returns the number of its processes. */
   unsigned (*join)(const struct network_host *host, uint16_t number, const void *stack);
   void (*run_activation)(const struct toarmuts_turn *turn);
   const struct toarmuts_turn *(*mote_call)(const struct toarmuts_call *call);
   struct activation **activation;
-  /* Its static data. Where it isn't gathered, both are NULL, and each mote needs a copy of the shared object. */
+  /* Its static data. If it isn't gathered, both are NULL, and each mote needs a copy of the shared object. */
   char *data, *data_end;
 };
 
@@ -39,20 +39,20 @@ struct network_program {
 struct network_setup {
   struct toarmuts_network_sizes sizes;
   struct toarmuts_network_mote *motes;
-  const char **programs; /* of each mote the names of its sources */
-  uint64_t *lines;       /* of each mote the number of its line */
+  const char **programs; /* for each mote the names of its sources */
+  uint64_t *lines;       /* for each mote the number of its line */
   size_t mote_count;
   struct toarmuts_link *links;
   size_t link_count, link_room;
 };
 
-/* Why a mote's line is malformed, where it can't be booted with these sizes and its processes. */
+/* Why a mote's line is malformed, if it can't boot with these sizes and its processes. */
 #define NO_SIZES "malformed: no mote has these sizes"
 
-/* Reads a line, which it cuts up; NULL, or why it is malformed. */
+/* Reads a line, and changes it; NULL, or why it is malformed. */
 const char *take_setup_line(struct network_setup *setup, uint64_t number, char *line);
 
-/* Cuts the first word off a text, up to a space. NULL where nothing is left. */
+/* Cuts the first word off a text, up to a space. NULL if nothing is left. */
 char *cut_word(char **text);
 
 /* Reads digits, with no 0 in front of another one, as a number below 2^32. */

@@ -1,4 +1,4 @@
-/* The first file of a network: its motes and links, as docs/network.md has them. A mote's words are the sources of its program. */
+/* The first file of a network: its motes and links, as in docs/network.md. The words of a mote's line are the sources of its program. */
 #include "network.h"
 
 #include <stdlib.h>
@@ -13,7 +13,7 @@ struct span {
   uint32_t first, last;
 };
 
-/* How the links of a line carry frames. The next one of a lot has the next seed. */
+/* Delay and losses of the links of a line. With `lot`, each further link has the next seed. */
 struct carriage {
   uint32_t delay, loss, number;
   uint64_t seed;
@@ -92,7 +92,7 @@ size_of(struct toarmuts_configuration *configuration, const char *option)
                                            : NULL;
 }
 
-/* Takes an option and its number; NULL, or why it is malformed. */
+/* Reads an option and its number; NULL, or why it is malformed. */
 static const char *
 take_size(struct toarmuts_configuration *configuration, const char *option, const char *value)
 {
@@ -104,7 +104,7 @@ take_size(struct toarmuts_configuration *configuration, const char *option, cons
   return NULL;
 }
 
-/* Takes a mote's words: sizes, and the sources, which are put together with a space between them. */
+/* Reads the words of a mote's line: sizes, and the sources, which are joined by spaces. */
 static const char *
 take_mote_words(struct toarmuts_configuration *configuration, char *sources, char **text)
 {
@@ -121,7 +121,7 @@ take_mote_words(struct toarmuts_configuration *configuration, char *sources, cha
   return why;
 }
 
-/* Whether a mote of no processes can be booted with these sizes. */
+/* Whether a mote with no processes can boot with these sizes. */
 static bool
 are_sizes(const struct toarmuts_configuration *configuration)
 {
