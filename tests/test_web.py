@@ -103,13 +103,13 @@ def test_mistakes(mote_page: Opened, applications: str, inputs: str, editor: str
 
 NETWORK_MISTAKES: List[Tuple[str, int, str]] = [
     ("mote 1 relay\nmote 3 relay\n", 2, "the next mote has number 2."),
-    ("mote 1 relay\nmote 2 nobody\n", 2, "words are names of applications and sizes, and last calls and what it calls."),
+    ("mote 1 relay\nmote 2 nobody\n", 2, "write names of applications and sizes, and last calls and a list of calls."),
     ("# one\nmote 1..2 relay\n\nlink 1 2 delay 0\n", 4, "write link A B delay D, of motes in lines above."),
     ("mote 1 relay\nmotes 2\n", 2,
      "a line begins with mote, link, line, ring, mesh, grid, room, rounds, tick or the number of a mote."),
     ("mote 1 relay\ntick 1\ntick 1x\n", 3, "write tick N."),
-    ("mote 1 relay\ntick 1\n2 frame 01\n", 3, "write 2 serial HEX or 2 frame HEX, of a mote that there is."),
-    ("mote 1..2 relay\ntick 1\nlink 1 2 delay 1\n", 3, "motes, links and limits come before the first input."),
+    ("mote 1 relay\ntick 1\n2 frame 01\n", 3, "write 2 serial HEX or 2 frame HEX, for a mote that exists."),
+    ("mote 1..2 relay\ntick 1\nlink 1 2 delay 1\n", 3, "motes, links and limits must be before the first input."),
 ]
 
 
@@ -342,7 +342,7 @@ def test_hand(mote_page: Opened) -> None:  # noqa: F811
     turns = ["starts: it receives INIT", refused, *["goes on: its call was done"] * 3]
     assert [it["turn"] for it in said[:5]] == [f"Process 4 {turn}. Which call does it make?" for turn in turns]
     assert said[5]["turn"] == "Process 5 starts: it receives INIT. Which call does it make?"
-    assert said[6]["turn"] == "Process 4 is told that process 5 has ended (EXITED). Which call does it make?" and said[7]["turn"] is None
+    assert said[6]["turn"] == "Process 4 receives EXITED: process 5 has ended. Which call does it make?" and said[7]["turn"] is None
     assert [it["fault"] for it in said[2:6]] == ["", "there is no call “frobnicate”", "write post PROCESS CODE PAYLOAD", ""]
     assert told["state"] == "Clock 0. The mote rests: nothing happens until an input arrives."
     lines = ["4 synch 129 - -> timer-set 9 1", "4 answer refused 7 -> print 68690a", "4 answer done -> wait", "5 synch 129 - -> exit",

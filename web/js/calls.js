@@ -1,11 +1,11 @@
-// Calls as a person writes them, by the rules of rules.json.
+// Calls as the reader writes them, by the rules of rules.json.
 const MOST_DATA = RULES.limits.bytes_of_data;
 const MOST_PAYLOAD = RULES.limits.bytes_of_a_line;
 const PAYLOAD = { NONE: 0, NUMBER: 1, LINE: 2 };
 const CALLS = new Map(RULES.calls.map((call, place) => [call.name, { ...call, kind: place + 1 }]));
 const ARGUMENTS = new Map(RULES.arguments.map((argument) => [argument.name, argument]));
 
-// What is wrong with a call, in words.
+// Says why a call is malformed.
 class BadCall extends Error {}
 
 // Hex in place of a text in quotes: "hi\n".
@@ -55,7 +55,7 @@ function readCall(line) {
   return made;
 }
 
-// What a call does and what it takes, in words.
+// The description of a call and of its arguments.
 function aboutCall(line) {
   const call = CALLS.get(line.trim().split(" ")[0]);
   if (!call) return null;

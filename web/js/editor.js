@@ -1,4 +1,4 @@
-// The editors, by CodeMirror: lines with numbers, and marks with words at the lines that are mistaken.
+// The editors, by CodeMirror: lines with numbers, and messages at malformed lines.
 const CALL_NAMES = new RegExp(`(?:${RULES.calls.map(({ name }) => name).sort((a, b) => b.length - a.length).join("|")})(?![\\w-])`);
 const GUTTERS = ["CodeMirror-linenumbers", "mistakes"];
 
@@ -34,7 +34,7 @@ CodeMirror.defineSimpleMode("network", {
   ],
 });
 
-// What can be completed: the first words of a network's lines where a line begins, and else the names of calls.
+// The completions: the first words of a network's lines at the start of a line, otherwise the names of calls.
 const CALL_HINTS = RULES.calls.map((call) => ({ text: call.name, displayText: `${formOf(call)}: ${call.about}` }));
 const LINE_HINTS = NETWORK_LINES.filter(([form]) => /^[a-z]/.test(form))
   .map(([form, about]) => ({ text: `${form.split(" ")[0]} `, displayText: `${form}: ${about}` }));

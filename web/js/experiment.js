@@ -1,6 +1,6 @@
-// An experiment { applications, script, mmem, heap, header, quota, quiet } and its run. Runs of names and lists are those of the library;
-// where it takes an application or a line of the script for malformed, the program `scenario` is asked: it knows rows, quotes
-// and names of events, too, and says what is wrong in words.
+// An experiment { applications, script, mmem, heap, header, quota, quiet } and its run. The library runs names and lists. If an application
+// or a line of the script is malformed for it, the program `scenario` runs the experiment: it also reads rows, quotes and names of
+// events, and explains what is wrong.
 const DEFAULT_SIZES = { mmem: 4096, heap: 4096, header: 16, quota: null };
 const SIZES = Object.keys(DEFAULT_SIZES);
 const FILE_NAME = "experiment";
@@ -24,7 +24,7 @@ function applicationsIn(text) {
   return lines.filter(({ text: line }) => !isNothing(line) && !isRowOf(line));
 }
 
-// What a picture calls the applications: names, `calls`, `rows`.
+// The names of the applications in a picture: names, `calls`, `rows`.
 const nameOf = (text) => (/^(calls|rows)\b/.test(text) ? text.split(" ")[0] : text.replace(/^app /, "").trim());
 const namesOf = (experiment) => applicationsIn(experiment.applications).map(({ text }) => nameOf(text));
 
@@ -32,10 +32,10 @@ const namesOf = (experiment) => applicationsIn(experiment.applications).map(({ t
 const unusualSizes = (experiment) => SIZES.filter((name) => experiment[name] !== DEFAULT_SIZES[name]);
 const optionsOf = (experiment) => unusualSizes(experiment).flatMap((name) => [`--${name}`, String(experiment[name])]);
 
-// The mote of an experiment, as a picture takes it.
+// The mote of an experiment, for a picture.
 const moteOf = (experiment) => ({ names: namesOf(experiment), options: optionsOf(experiment) });
 
-// The experiment as the lines of a scenario file, each with its place: { text, editor, line }.
+// The experiment as the lines of a scenario file, each with its position: { text, editor, line }.
 function scenarioLines(experiment) {
   const applications = linesIn(experiment.applications).map((text, place) => ({
     text: isNothing(text) || /^(app|calls|rows|on)\b/.test(text) ? text : `app ${text}`, editor: "applications", line: place + 1,
@@ -50,7 +50,7 @@ function scenarioLines(experiment) {
 
 const scenarioText = (experiment) => scenarioLines(experiment).map(({ text }) => `${text}\n`).join("");
 
-// How a transcript ended: { name, line }, the line that of the script which is malformed.
+// How a transcript ended: { name, line }, where line is the malformed one of the script.
 function endOf(transcript) {
   const last = textOf(transcript.slice(Math.max(0, transcript.length - 40))).trimEnd().split("\n").at(-1);
   const bad = /^bad line (\d+)$/.exec(last);
@@ -72,7 +72,7 @@ function runScenario(program, experiment) {
   return { fault: fault(placed[2], at.editor, at.line) };
 }
 
-// What is wrong with an experiment that the library refuses for its sizes, its memory or the number of its applications.
+// Says why the library refuses an experiment: its sizes, its memory or the number of its applications.
 function faultOf(answer, applications) {
   switch (answer.name) {
     case "BAD_SIZES":

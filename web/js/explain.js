@@ -1,4 +1,4 @@
-// What a line of a transcript tells, in sentences.
+// Explains a line of a transcript in sentences.
 const EVENTS = new Map(RULES.events.map(({ code, name }) => [code, name.toUpperCase().replaceAll("-", " ")]));
 const REFUSALS = new Map(RULES.refusals.map(({ number, about }) => [number, about]));
 const TURN_LINE = /^(\d+) (event|synch|poll|callback|answer) (.*) -> (.*)$/;
@@ -24,7 +24,7 @@ function eventInWords(code, payload, origin) {
   const special = {
     129: () => "starts: it receives INIT",
     131: () => "ends: it receives EXIT",
-    135: () => `is told that process ${payload} has ended (EXITED)`,
+    135: () => `receives EXITED: process ${payload} has ended`,
     136: () => `receives TIMER: its event timer ${payload} has run out`,
     138: () => `receives a line from the serial line: ${value}`,
     139: () => `receives PACKET: a frame of ${plural(payload, "byte")} is held`,
@@ -68,7 +68,7 @@ function lineInWords(line, names) {
   return `The script has more than ${RULES.limits.bytes_of_a_script.toLocaleString("en")} bytes: the run ends here.`;
 }
 
-// A sentence on a line of a network's own.
+// A sentence on a line of the network.
 function networkLineInWords(line) {
   if (/^(?:bad|too)/.test(line)) return lineInWords(line, []);
   return `${networkWords(line).replace(/^./, (letter) => letter.toUpperCase())}.`;

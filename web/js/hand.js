@@ -1,10 +1,10 @@
-// A mote whose applications are played by the reader: what was done, and the lines that came of it.
+// A mote whose applications are played by the reader: the actions, and the lines of the transcript.
 const MOST_LISTED = RULES.limits.calls_of_a_list;
 const BAD_SIZES = "No mote boots with these sizes: look at “Memory sizes”.";
 const MALFORMED = ["BAD_LINE", "NO_INPUT"];
 
 class HandMote {
-  // Throws an Error where no mote boots with these sizes, or BadCall and the like later on.
+  // Throws an Error if no mote boots with these sizes, or BadCall for a later action.
   constructor(library, sizes, processes, actions = []) {
     Object.assign(this, { library, sizes, processes, actions: [], lines: [], turn: null, step: null });
     this.mote = new Mote(library, sizes, processes);
@@ -31,7 +31,7 @@ class HandMote {
   // Makes a call for the process whose turn it is. Throws BadCall.
   call(text) {
     const call = readCall(text), status = this.mote.answer(call);
-    if (status !== 0) throw new BadCall(`The mote takes no such call (${STATUS[status]}).`);
+    if (status !== 0) throw new BadCall(`The mote rejects this call (${STATUS[status]}).`);
     this.actions.push({ call: text.trim(), process: this.turn.process });
     this.lines.push(this.mote.line());
     this.goOn();
@@ -41,7 +41,7 @@ class HandMote {
   feed(line) {
     const status = this.mote.feed(line);
     if (MALFORMED.includes(STATUS[status])) throw new BadCall(`“${line}” is malformed.`);
-    if (status !== 0) throw new BadCall(`The mote takes no input now (${STATUS[status]}).`);
+    if (status !== 0) throw new BadCall(`The mote accepts no input now (${STATUS[status]}).`);
     this.actions.push({ feed: line });
     this.goOn();
   }
@@ -61,7 +61,7 @@ class HandMote {
     return this.mote.clock();
   }
 
-  // What was done as an experiment: a list of calls for each process, and a script. Throws BadCall.
+  // The actions as an experiment: a list of calls for each process, and a script. Throws BadCall.
   asExperiment() {
     const lists = Array.from({ length: this.processes }, () => []), script = [];
     for (const { call, feed, process } of this.actions) {

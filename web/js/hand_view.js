@@ -2,7 +2,7 @@
 const QUESTION = "Which call does it make?";
 
 class HandView {
-  // `sizes` returns those of the experiment; `take` is given an experiment; `tell` resolves with words for lines.
+  // `sizes` returns those of the experiment; `take` receives an experiment; `tell` resolves with words for lines.
   constructor({ library, sizes, take, tell }) {
     const view = new TranscriptView(byId("hand-lines"), byId("hand-about"));
     Object.assign(this, { library, sizes, take, tell, view, hand: null, drawn: 0 });
@@ -41,7 +41,7 @@ class HandView {
     this.attempt(() => this.hand.feed(line));
   }
 
-  // Does something and draws; what is wrong with it is shown.
+  // Does something and draws, and shows its fault if there is one.
   attempt(work) {
     byId("hand-fault").textContent = "";
     try {
@@ -82,7 +82,7 @@ class HandView {
     const help = byId("call-help"), told = aboutCall(byId("call").value);
     help.replaceChildren();
     if (!told) {
-      help.textContent = "Type a call, as timer-set 0 10, or print \"hello\". An empty box lists all calls.";
+      help.textContent = "Type a call, for example timer-set 0 10, or print \"hello\". An empty box lists all calls.";
       return;
     }
     element("code", "", told.form, help);

@@ -8,7 +8,7 @@ const STEPS = ["TURN", "ENTRY", "REST", "HALT"];
 const LAST_STATUS_OF_A_RUN = 4;
 const FIRST_ROOM = 2 ** 20;
 const LONGEST_LINE = 639;
-// Stands for a number that has more than 32 bits: no mote has such a size.
+// Replaces a number of more than 32 bits: no mote has such a size.
 const NO_SIZE = 0xffffffff;
 const isUint32 = (number) => Number.isInteger(number) && number >= 0 && number <= 0xffffffff;
 
@@ -26,14 +26,14 @@ class Library {
     this.instance = new Instance(module, most);
   }
 
-  // Writes a configuration { mmem, heap, header, quota, quiet } to a block; `quota` is null where each may take all.
+  // Writes a configuration { mmem, heap, header, quota, quiet } to a block; `quota` is null if there is none.
   putConfiguration(at, { mmem, heap, header, quota, quiet }) {
     const view = this.instance.view(at, CONFIGURATION.size);
     const members = [mmem, heap, header, quota === null ? 0 : 1, quota ?? 0, quiet ? 1 : 0];
     members.forEach((member, place) => view.setUint32(4 * place, isUint32(member) ? member : NO_SIZE, true));
   }
 
-  // Runs applications (a text, a line for each) over a script (bytes). Returns the answer's members, and the transcript or null.
+  // Runs applications (a text, a line for each) with a script (bytes). Returns the outcome's members, and the transcript or null.
   run(configuration, applications, script) {
     const first = this.runWithRoom(configuration, applications, script, FIRST_ROOM);
     return first.name === "NO_ROOM" ? this.runWithRoom(configuration, applications, script, first.length) : first;
@@ -61,7 +61,7 @@ class Library {
   }
 }
 
-// A mote asked step by step. Its calls return a status; 0: it was done.
+// A mote that runs step by step. Its calls return a status; 0: it was done.
 class Mote {
   constructor(library, configuration, applications) {
     const { instance } = library;

@@ -1,18 +1,18 @@
-// A network { network: its script, only: the number of the mote whose lines alone are shown, or null, quiet }, and its run by the program
+// A network { network: its script, only: the number of the only mote whose lines are shown, or null, quiet }, and its run by the program
 // `network`.
 const NETWORK = { DONE: 0, BAD_LINE: 2, HALTED: 3, TOO_LONG: 4, NO_MOTE: 64 };
 const NETWORK_ENDS = {
   [NETWORK.DONE]: "FINISHED", [NETWORK.BAD_LINE]: "BAD_LINE", [NETWORK.HALTED]: "EXHAUSTED", [NETWORK.TOO_LONG]: "TOO_LONG",
 };
 const NETWORK_LINES = [
-  ["mote N WORD..", "The next mote, or motes N..M: names of applications, sizes as --mmem 64, and at the end calls and what it calls."],
+  ["mote N WORD..", "The next mote, or motes N..M: names of applications, sizes as --mmem 64, and at the end calls and a list of calls."],
   ["link A B delay D", "What mote A sends, mote B hears D ticks later; D is at least 1."],
   ["line N..M delay D", "Links both ways between each mote and the next."],
   ["ring N..M delay D", "The same, and between the last and the first; at least three motes."],
   ["mesh N..M delay D", "Links both ways between each two motes."],
   ["grid N..M width W delay D", "Rows of W motes, with links both ways between neighbours."],
-  [".. every N", "After a delay: of the frames on the link, each N-th is lost."],
-  [".. lot C seed S", "After a delay: of 65,536 frames about C are lost."],
+  [".. every N", "After a delay: each N-th frame on the link is lost."],
+  [".. lot C seed S", "After a delay: about C of 65,536 frames are lost."],
   ["room N", "The number of frames that can be in flight (default: 1,024)."],
   ["rounds N", "The number of rounds that one line can take (default: 16,777,216)."],
   ["tick N", "The clock goes on by N ticks."],
@@ -55,17 +55,17 @@ const numberOfMotes = (motes) => motes.at(-1)?.last ?? 0;
 // How the line of the next mote is written.
 function moteRule(line, next) {
   const isNext = /^mote (\d+)/.exec(line)?.[1] === String(next);
-  return isNext ? "words are names of applications and sizes, and last calls and what it calls." : `the next mote has number ${next}.`;
+  return isNext ? "write names of applications and sizes, and last calls and a list of calls." : `the next mote has number ${next}.`;
 }
 
-// What is wrong with a line that the program takes for malformed, as far as its first words say.
+// Says why a line is malformed, as far as its first words show.
 function malformedLine(script, number) {
   const lines = linesIn(script), word = (lines[number - 1] ?? "").split(" ")[0], before = lines.slice(0, number - 1);
   const next = numberOfMotes(motesIn(before.join("\n"))) + 1;
-  if (/^\d+$/.test(word)) return `write ${word} serial HEX or ${word} frame HEX, of a mote that there is.`;
+  if (/^\d+$/.test(word)) return `write ${word} serial HEX or ${word} frame HEX, for a mote that exists.`;
   if (word === "tick") return "write tick N.";
   if (!SETUP_WORDS.includes(word)) return `a line begins with ${SETUP_WORDS.join(", ")}, tick or the number of a mote.`;
-  if (before.some((line) => INPUT_LINE.test(line))) return "motes, links and limits come before the first input.";
+  if (before.some((line) => INPUT_LINE.test(line))) return "motes, links and limits must be before the first input.";
   const form = NETWORK_LINES.find(([it]) => it.startsWith(`${word} `))[0];
   if (word === "mote") return moteRule(lines[number - 1], next);
   return /^(?:room|rounds)$/.test(word) ? `write ${form}.` : `write ${form}, of motes in lines above.`;
@@ -94,7 +94,7 @@ function networkClocks(lines) {
   });
 }
 
-// The lines of each mote, by its number: their places among all lines, from 0 on, and their texts without the number.
+// The lines of each mote, by its number: their positions among all lines, from 0 on, and their texts without the number.
 function linesOfMotes(lines) {
   const found = new Map();
   for (const [place, line] of lines.entries()) {
@@ -108,12 +108,12 @@ function linesOfMotes(lines) {
   return found;
 }
 
-// A line of the network's own, in a few words.
+// A line of the network, in a few words.
 function networkWords(line) {
   const [kind, from, to] = line.split(" ");
   if (kind === "=") return `the clock goes on to ${Number(from).toLocaleString("en")}`;
   if (kind === "lost") return `the frame from mote ${from} to ${to} is lost: the link's rule`;
-  if (kind === "full") return `the frame from mote ${from} to ${to} finds no room on its way`;
+  if (kind === "full") return `the frame from mote ${from} to ${to} finds no room in flight`;
   if (kind === "missed") return `${from === "-" ? "an input" : `the frame from mote ${from}`} arrives at mote ${to}, which was halted`;
   if (kind === "halt") return "the network halts: its last line took all its rounds";
   return line;

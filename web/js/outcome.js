@@ -1,4 +1,4 @@
-// What is said of a run: how it ended, how long it took, and what is wrong.
+// The report of a run: how it ended, the time that it took, and its fault.
 const ENDS = {
   FINISHED: "The script was run to its end", BAD_LINE: "The run ended at a malformed line of the script", HALTED: "The mote halted",
   TOO_LONG: "The script is too long: the run ended there", EXHAUSTED: "The network halted, since its last line took all its rounds",
@@ -13,7 +13,7 @@ function outcomeInWords({ end, lines, took, rows }) {
   return `${ENDS[end.name]}: ${plural(lines.length, "line")} in ${milliseconds(took)}${folded}.`;
 }
 
-// Where a fault is, and what.
+// A fault, with its position.
 function faultInWords({ message, editor, line }) {
   const places = { applications: `Applications, line ${line}: `, script: `Inputs, line ${line}: `, network: `Network, line ${line}: ` };
   return `${places[editor] ?? ""}${message}`;

@@ -6,7 +6,7 @@ const TYPING_PAUSE = 150;
 const PAUSE_BEFORE_PROGRESS = 300;
 const SAVES = ["save-transcript", "save-scenario", "save-picture"];
 const view = new TranscriptView(byId("lines"), byId("line-about"));
-// The run that is shown, with its experiment; of a network also the mote that pictures are of. `picture` is its SVG.
+// The run that is shown, with its experiment; for a network also the mote of the pictures. `picture` is its SVG.
 const shown = { experiment: null, run: null, picture: null, mote: null };
 let runner, tabs, hand, typing = 0, isRunning = false, isWaiting = false, progressTimer = 0;
 
@@ -104,7 +104,7 @@ function showLines(experiment, ran) {
 
 // ---- The panels ----
 
-// The first lines of a transcript, at most so many: they are a transcript, too.
+// The first lines of a transcript, up to a number: they are a transcript, too.
 function frontOf(transcript, most) {
   const lines = linesIn(textOf(transcript));
   return lines.length <= most ? transcript : utf8.encode(lines.slice(0, most).map((line) => `${line}\n`).join(""));
@@ -115,10 +115,10 @@ function pictureOptions() {
   return [...clocks, ...(byId("unfolded").checked ? ["--unfolded"] : [])];
 }
 
-// The mote of a network that pictures are of: the one whose lines are shown, else that of the chosen line, else the first one.
+// The mote of a network for pictures: the one whose lines are shown; otherwise that of the chosen line; otherwise the first one.
 const moteOfPictures = () => shown.experiment.only ?? view.chosenMote ?? 1;
 
-// What pictures are of: { mote, transcript, page }, and the number in a network. Throws an Error where there is no such mote.
+// The data of pictures: { mote, transcript, page }, and the number in a network. Throws an Error if there is no such mote.
 async function pictured() {
   const { experiment, run: ran } = shown;
   if (!isNetwork(experiment)) return { mote: moteOf(experiment), transcript: ran.transcript, page: ran.page };
@@ -142,7 +142,7 @@ async function drawPicture() {
   byId("drawing").innerHTML = drawn.svg ?? "";
 }
 
-// Carries out what shows a picture or the explorer; what is wrong is told above the picture.
+// Shows a picture or the explorer; a fault is shown above the picture.
 async function attempt(work) {
   try {
     await work();
@@ -158,7 +158,7 @@ async function drawExplorer() {
   if (shown.run === ran) byId("page").srcdoc = page;
 }
 
-// What is chosen of a network, and what pictures of it are of.
+// The choice of a network's mote, and the mote of the pictures.
 function showChoice(panel) {
   const isOfNetwork = Boolean(shown.run) && isNetwork(shown.experiment), isPicture = ["picture", "explorer"].includes(panel);
   byId("choice").hidden = !isOfNetwork || !(isPicture || panel === "transcript");
@@ -179,7 +179,7 @@ function showPanel(panel) {
 
 // ---- Inputs, files, links ----
 
-// The other kind begins with what was written of it, or with an example.
+// The other kind starts with its last text, or with an example.
 function showOtherKind() {
   const isOfMany = byId("many-motes").checked, { experiment } = EXAMPLES.find((it) => isNetwork(it.experiment));
   if (isOfMany && editors.network.text === "") editors.network.text = experiment.network;
@@ -211,9 +211,9 @@ async function copyLink() {
   history.replaceState(null, "", link);
   try {
     await navigator.clipboard.writeText(location.href);
-    byId("saved").textContent = "The link is copied. It holds the whole experiment, and is in the address bar.";
+    byId("saved").textContent = "The link is copied. It has the whole experiment, and is in the address bar.";
   } catch {
-    byId("saved").textContent = "The link is in the address bar: copy it from there. It holds the whole experiment.";
+    byId("saved").textContent = "The link is in the address bar: copy it from there. It has the whole experiment.";
   }
 }
 
@@ -298,7 +298,7 @@ function makeHand(modules) {
     take: (experiment) => {
       tabs.choose("transcript");
       byId("example").value = "";
-      byId("lesson").textContent = "What you have just played, as lists of calls.";
+      byId("lesson").textContent = "The calls that you have made, as lists.";
       showExperiment(experiment);
     },
     tell: (lines, sizes) => runner.ask("tell", { experiment: { ...DEFAULT_SIZES, ...sizes, applications: "" }, lines }),

@@ -27,7 +27,7 @@ class Runner {
     else resolve(done);
   }
 
-  // Resolves with what the worker returns; rejects with Stopped, or with an error in words.
+  // Resolves with the worker's result; rejects with Stopped, or with an error that has a message.
   ask(task, given) {
     const id = ++this.tasks;
     this.show("Starting");

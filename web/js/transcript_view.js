@@ -1,4 +1,4 @@
-// A transcript as a table. Its rows are made when they come near what can be seen, so it may have any number of lines.
+// A transcript as a table. Its rows are made when they are close to the visible part, so it may have any number of lines.
 const ROWS_OF_A_PART = 200;
 const ROW_HEIGHT = 26;
 
@@ -10,7 +10,7 @@ function element(name, look, text, parent) {
   return made;
 }
 
-const CHOOSE = "Choose a line, by a click or with ↑ and ↓, to read what it tells.";
+const CHOOSE = "Choose a line, by a click or with ↑ and ↓, to read what it means.";
 const EMPTY = "The transcript is empty.";
 const KINDS_OF_LINES = [
   [/^>/, "input"], [/^note/, "note"], [/^(halt|bad|too)/, "end"], [/^=/, "passed"], [/^(lost|full|missed)/, "unheard"], [/^/, "turn"],
@@ -28,8 +28,8 @@ class TranscriptView {
     host.addEventListener("click", (event) => this.takeClick(event));
   }
 
-  // Shows { lines, words, clocks, answers, rows, names, motes }. `rows` is null where each line has a row; `motes` are those of a network
-  // whose lines have the numbers of motes in front, else null.
+  // Shows { lines, words, clocks, answers, rows, names, motes }. `rows` is null if each line has a row; `motes` are those of a network,
+  // whose lines begin with the numbers of motes, otherwise null.
   show(told) {
     Object.assign(this, { motes: null }, told, { chosen: -1 });
     this.rows = told.rows ?? told.lines.map((_, first) => ({ first, count: 1, period: 0 }));
@@ -109,7 +109,7 @@ class TranscriptView {
     element("td", "line", this.lines[place], made);
   }
 
-  // The words of a line, as the program has them where it has any.
+  // The words of a line, from the program if it has any.
   fillWords(cell, text, names, told) {
     const turn = TURN_LINE.exec(text), [first, call, reply] = (told ?? (turn ? `${turn[3]}\t${turn[4]}\t` : text)).split("\t");
     if (!turn) {
@@ -123,7 +123,7 @@ class TranscriptView {
     if (reply) element("span", reply.includes("✗") ? "refused" : "reply", reply, cell);
   }
 
-  // The element of a row, which is made where it isn't there.
+  // The element of a row, which is made if it isn't there.
   rowElement(row) {
     const part = this.host.querySelectorAll("tbody")[Math.floor(row / ROWS_OF_A_PART)];
     this.fill(part);

@@ -1,7 +1,7 @@
-// The worker: it runs experiments, and tells their lines in words and as a picture. Its first message has the modules; each further one is
+// The worker: it runs experiments, and shows their lines in words and as a picture. Its first message has the modules; each further one is
 // { id, task, .. }, to which it posts { id, phase } and at last { id, done } or { id, failed }.
 const MOST_UNFOLDED = 20000;
-// Of so many motes of a network, lines are put into words; of others they are shown as they are.
+// The number of motes of a network whose lines are put into words; those of others are shown as they are.
 const MOST_MOTES_IN_WORDS = 256;
 let modules = null;
 let tools = null;
@@ -42,7 +42,7 @@ function tellNetwork(motes, lines) {
   return { words, answers, clocks: networkClocks(lines) };
 }
 
-// What a transcript tells: of one mote, or of all motes of a network.
+// A transcript in words: of one mote, or of all motes of a network.
 function tellRun(experiment, transcript, lines) {
   if (!isNetwork(experiment)) return tellLines(moteOf(experiment), transcript);
   const motes = motesIn(experiment.network);
@@ -62,7 +62,7 @@ const TASKS = {
     return { ...ran, took, lines, rows: lines.length > MOST_UNFOLDED ? foldedRows(lines) : null, ...told };
   },
 
-  // The lines of one mote of a network: those that a picture is made of.
+  // The lines of one mote of a network, for a picture.
   mote({ experiment, number }, tell) {
     tell(`Running the network for mote ${number}`);
     const { transcript, fault: found } = runNetwork(tools.network, { ...experiment, only: number });

@@ -41,7 +41,7 @@ class Broadcast(Call):
 
 @dataclass(frozen=True, eq=False, repr=False)
 class PostSynch(Call):
-    """Gives a process an event at once; the reply follows its activation."""
+    """Delivers an event to a process at once; the reply follows its activation."""
 
     process: int
     code: int
@@ -57,14 +57,14 @@ class Poll(Call):
 
 @dataclass(frozen=True, eq=False, repr=False)
 class Start(Call):
-    """Puts a process at the head of the process list and gives it INIT."""
+    """Puts a process at the head of the process list and sends it INIT."""
 
     process: int
 
 
 @dataclass(frozen=True, eq=False, repr=False)
 class Kill(Call):
-    """Ends another process, which is given EXIT."""
+    """Ends another process, which receives EXIT."""
 
     process: int
 
@@ -146,7 +146,7 @@ class Print(Call):
 
 @dataclass(frozen=True, eq=False, repr=False)
 class Wait(Call):
-    """Ends the activation; the process goes on running."""
+    """Ends the activation; the process continues to run."""
 
 
 @dataclass(frozen=True, eq=False, repr=False)
@@ -156,7 +156,7 @@ class Exit(Call):
 
 @dataclass(frozen=True, eq=False, repr=False)
 class MmemAlloc(Call):
-    """Gives a handle a block of managed memory, its bytes all 0."""
+    """Allocates a block of managed memory for a handle, its bytes all 0."""
 
     handle: int
     size: int
@@ -164,7 +164,7 @@ class MmemAlloc(Call):
 
 @dataclass(frozen=True, eq=False, repr=False)
 class MmemFree(Call):
-    """Takes a handle's block away."""
+    """Frees a handle's block."""
 
     handle: int
 
@@ -202,7 +202,7 @@ class MmemAvail(Call):
 
 @dataclass(frozen=True, eq=False, repr=False)
 class HeapAlloc(Call):
-    """Makes a block of heap memory, its bytes all 0."""
+    """Allocates a block of heap memory, its bytes all 0."""
 
     heap_block: int
     size: int
@@ -210,7 +210,7 @@ class HeapAlloc(Call):
 
 @dataclass(frozen=True, eq=False, repr=False)
 class HeapRealloc(Call):
-    """Gives a block of heap memory another length; further bytes are 0."""
+    """Resizes a block of heap memory; further bytes are 0."""
 
     heap_block: int
     size: int
@@ -218,7 +218,7 @@ class HeapRealloc(Call):
 
 @dataclass(frozen=True, eq=False, repr=False)
 class HeapFree(Call):
-    """Takes a block of heap memory away."""
+    """Frees a block of heap memory."""
 
     heap_block: int
 
@@ -248,14 +248,14 @@ class HeapStats(Call):
 
 @dataclass(frozen=True, eq=False, repr=False)
 class MembAlloc(Call):
-    """Takes the unused block of lowest number of a pool, its bytes all 0."""
+    """Allocates the unused block of a pool with the lowest number, its bytes all 0."""
 
     pool: int
 
 
 @dataclass(frozen=True, eq=False, repr=False)
 class MembFree(Call):
-    """Gives a pool's block back."""
+    """Frees a block of a pool."""
 
     pool: int
     block: int
@@ -290,7 +290,7 @@ class MembNumFree(Call):
 
 @dataclass(frozen=True, eq=False, repr=False)
 class ListAdd(Call):
-    """Takes a block to the end of a list."""
+    """Moves a block to the end of a list."""
 
     chain: int
     block: int
@@ -298,7 +298,7 @@ class ListAdd(Call):
 
 @dataclass(frozen=True, eq=False, repr=False)
 class ListPush(Call):
-    """Takes a block to the front of a list."""
+    """Moves a block to the front of a list."""
 
     chain: int
     block: int
@@ -306,7 +306,7 @@ class ListPush(Call):
 
 @dataclass(frozen=True, eq=False, repr=False)
 class ListInsert(Call):
-    """Takes a block to the position directly after another one of a list."""
+    """Moves a block to the position directly after another one of a list."""
 
     chain: int
     previous: int
@@ -315,21 +315,21 @@ class ListInsert(Call):
 
 @dataclass(frozen=True, eq=False, repr=False)
 class ListPop(Call):
-    """Takes the head out of a list."""
+    """Removes the head of a list."""
 
     chain: int
 
 
 @dataclass(frozen=True, eq=False, repr=False)
 class ListChop(Call):
-    """Takes the tail out of a list."""
+    """Removes the tail of a list."""
 
     chain: int
 
 
 @dataclass(frozen=True, eq=False, repr=False)
 class ListRemove(Call):
-    """Takes a block out of a list."""
+    """Removes a block from a list."""
 
     chain: int
     block: int
@@ -372,7 +372,7 @@ class PacketRead(Call):
 
 @dataclass(frozen=True, eq=False, repr=False)
 class PacketDone(Call):
-    """Gives the front frame back."""
+    """Frees the front frame."""
 
 
 @dataclass(frozen=True, eq=False, repr=False)
