@@ -20,7 +20,7 @@ pub use Rattle.mote_text.specs.Code.Reading.{Before, Reading, preceded_by}
 unfoldable pub use Rattle.mote_text.specs.Script.{read_line}
 pub use Rattle.mote_text.specs.Script.{argument_of, inputs, line_limit, read_behind, read_bytes, read_number, read_words, script_limit, with_line}
 pub use Rattle.mote_text.specs.Transcript.{final_line, text}
-pub use Rattle.mote_text.specs.declared.lines.Taken.{Taken}
+pub use Rattle.mote_text.specs.declared.script_lines.Taken.{Taken}
 pub use Rattle.mote_text.specs.declared.script.BadLine.{BadLine}
 pub use Rattle.mote_text.specs.declared.script.End.{End}
 pub use Rattle.mote_types.specs.Applications.{Applications, says_of}

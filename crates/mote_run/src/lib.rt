@@ -11,7 +11,7 @@ mod reader;
 mod refill;
 pub mod run;
 mod script;
-mod settle;
+mod take_script;
 mod work;
 
 pub use mote_text::script::End;

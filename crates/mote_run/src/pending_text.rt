@@ -11,7 +11,7 @@ ghost use Rattle.mote_run.specs.Code.Writing.{CountsFailure, WritesOn, lines};
 use crate::device::write_all;
 use crate::run::RunFault;
 use kernel_core::turn::Turn;
-use mote_text::line::{MOST_OF_LINE, OutputBuffer};
+use mote_text::output_buffer::{MOST_OF_LINE, OutputBuffer};
 use mote_text::script::End;
 use mote_text::transcript::{
     is_shown, is_turn_shown, push_entry, push_final_line, push_input_line, push_turn_line,

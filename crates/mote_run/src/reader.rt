@@ -4,12 +4,12 @@ ghost use Rattle.std.specs.Prelude.{◌≡◌, ◌≢◌, ◌<◌, ◌≤◌, �
 ghost use Rattle.mote_text.specs.Code.Lines.{has_no_end, nothing_taken, unfinished};
 ghost use Rattle.mote_text.specs.Script.{read_line};
 ghost use Rattle.mote_text.specs.Code.LineAnswers.{line_said};
-ghost use Rattle.mote_text.specs.declared.lines.Taken.{Taken as Stopped};
+ghost use Rattle.mote_text.specs.declared.script_lines.Taken.{Taken as Stopped};
 ghost use Rattle.mote_run.specs.Code.Reading.{ReadPart};
 
 use mote_text::hex_digits::DigitValues;
-use mote_text::lines::{Lines, Taken};
 use mote_text::script::{BadLine, read_input_by};
+use mote_text::script_lines::{Lines, Taken};
 use mote_types::entry::Input;
 
 /// The lines of a script, the number of the present one, which begins at 1, and a place for the input of a line.

@@ -7,8 +7,8 @@ ghost use Rattle.kernel_core.specs.Machine.{booted};
 ghost use Rattle.mote_run.specs.RunText.{Exchanged, HasRead, WasBooted};
 ghost use Rattle.mote_run.specs.Trace.{RunPromise};
 
-use crate::settle::Work;
-use crate::work::take_script;
+use crate::take_script::take_script;
+use crate::work::Work;
 use kernel_core::all_runs::runs_keep_laws;
 use kernel_core::kernel::Kernel;
 use mote_text::script::End;

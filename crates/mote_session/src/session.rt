@@ -31,7 +31,7 @@ use kernel_core::config::Config;
 use kernel_core::step::StepOutcome;
 use kernel_core::turn::Turn;
 use mote_text::hex_digits::DigitValues;
-use mote_text::line::OutputBuffer;
+use mote_text::output_buffer::OutputBuffer;
 use mote_text::script::{BadLine, read_input_by};
 use mote_text::transcript::{is_shown, is_turn_shown, push_entry, push_turn_line};
 use mote_types::call::Call;

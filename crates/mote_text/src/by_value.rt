@@ -7,7 +7,7 @@ ghost use Rattle.mote_text.specs.EntryText.{entry_line};
 ghost use Rattle.mote_text.specs.Script.{read_line};
 ghost use Rattle.mote_text.specs.Code.EntryLines.{entry_line_limit};
 
-use crate::line::{MOST_OF_LINE, OutputBuffer};
+use crate::output_buffer::{MOST_OF_LINE, OutputBuffer};
 use crate::script::{BadLine, read_input_to};
 use crate::transcript::push_entry;
 use arrayvec::ArrayVec;

@@ -10,7 +10,7 @@ ghost use Rattle.mote_text.specs.Code.Appending.{HasRoom, Puts};
 ghost use Rattle.mote_text.specs.Transcript.{final_line, is_shown, prints_or_sends};
 
 use crate::calls::put_call;
-use crate::line::OutputBuffer;
+use crate::output_buffer::OutputBuffer;
 use crate::page::Page;
 use crate::script::End;
 use crate::words::{put_input, put_note, put_origin, put_stimulus};

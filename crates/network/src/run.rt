@@ -12,7 +12,7 @@ use crate::options::Wish;
 use crate::script::{Inputs, Lines};
 use crate::setup::Setup;
 use mote_shell::Output;
-use mote_text::line::OutputBuffer;
+use mote_text::output_buffer::OutputBuffer;
 use mote_text::script::End;
 use mote_types::device::ByteSink;
 use network_run::run::run_network;

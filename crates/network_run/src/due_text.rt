@@ -9,7 +9,7 @@ use crate::fault::RunFault;
 use crate::write::write_all;
 use medium_core::link::Link;
 use mote_session::session::Session;
-use mote_text::line::OutputBuffer;
+use mote_text::output_buffer::OutputBuffer;
 use mote_text::script::End;
 use mote_types::device::ByteSink;
 use network_text::lines::{

@@ -24,7 +24,7 @@ use crate::working::work;
 use medium_core::link::Link;
 use mote_session::refusal::SessionRefusal;
 use mote_session::session::{OpenTurn, Session};
-use mote_text::line::OutputBuffer;
+use mote_text::output_buffer::OutputBuffer;
 use mote_text::script::End;
 use mote_types::call::Call;
 use mote_types::entry::Input;

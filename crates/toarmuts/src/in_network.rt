@@ -17,7 +17,7 @@ use crate::turn::PlainTurn;
 use medium_core::link::Link;
 use mote_session::session::Session;
 use mote_session::{BootFault, Config};
-use mote_text::line::OutputBuffer;
+use mote_text::output_buffer::OutputBuffer;
 use mote_types::entry::Input;
 use network_steps::steps::NetworkSteps;
 use std::alloc::Global;

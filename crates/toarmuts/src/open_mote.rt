@@ -1,7 +1,7 @@
 //! What an open mote has.
 
 use mote_session::session::Session;
-use mote_text::line::OutputBuffer;
+use mote_text::output_buffer::OutputBuffer;
 
 /// A session, and room for a line of its transcript.
 #[derive(Drop)]

@@ -24,7 +24,7 @@ use crate::status::{BAD_SIZES, CLOSED, DONE, IS_OPEN, OUT_OF_MEMORY};
 use crate::turn::PlainTurn;
 use mote_session::session::Session;
 use mote_session::{BootFault, Config};
-use mote_text::line::OutputBuffer;
+use mote_text::output_buffer::OutputBuffer;
 use std::alloc::Global;
 
 /// Puts a session on the heap, with room for a line.

@@ -7,7 +7,7 @@ use Rattle.mote_text.specs.Code.Lines.{GoesOnAt, has_no_end, unfinished, unfinis
 use Rattle.mote_text.specs.Code.Reading.{Before}
 use Rattle.mote_text.specs.Script.{inputs, line_limit, read_line}
 use Rattle.mote_text.specs.Code.LineAnswers.{line_said}
-use Rattle.mote_text.specs.declared.lines.Taken.{Taken}
+use Rattle.mote_text.specs.declared.script_lines.Taken.{Taken}
 use Rattle.kernel_core.specs.Conditions.{has_bytes, ticks_of}
 use Rattle.mote_run.specs.declared.script.Script.{Script}
 

@@ -11,7 +11,7 @@ use Rattle.mote_text.specs.Transcript.{final_line}
 use Rattle.mote_text.specs.declared.script.End.{End}
 use Rattle.kernel_core.specs.Machine.{Machine}
 use Rattle.kernel_core.specs.Run.{Running, Runs, heard}
-use Rattle.mote_run.specs.declared.settle.Work.{Work}
+use Rattle.mote_run.specs.declared.work.Work.{Work}
 use Rattle.mote_run.specs.Code.Writing.{lines}
 
 -- each application says now what it said before these entries to all that it heard in them, and to what it is told next

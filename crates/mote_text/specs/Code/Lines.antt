@@ -1,7 +1,7 @@
 -- The lines of a script, whose bytes come in pieces.
 use Rattle.std.specs.Prelude.{◌≡◌, ◌≢◌, ℕ, Bool, not, List, [], ◌∷◌, ◌++◌, ◌==◌, slice_get, Some}
 use Rattle.std.specs.List.{list_all}
-use Rattle.mote_text.specs.declared.lines.Taken.{Taken}
+use Rattle.mote_text.specs.declared.script_lines.Taken.{Taken}
 
 -- what was taken of the script so far
 pub record LinesView : Type 0 where

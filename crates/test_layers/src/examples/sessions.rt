@@ -6,7 +6,7 @@ use mote_apps::blink::Blink;
 use mote_session::Config;
 use mote_session::refusal::SessionRefusal;
 use mote_session::session::{Next, Session};
-use mote_text::line::{MOST_OF_LINE, OutputBuffer};
+use mote_text::output_buffer::{MOST_OF_LINE, OutputBuffer};
 use mote_types::app::App;
 use mote_types::call::Call;
 use mote_types::entry::Input;

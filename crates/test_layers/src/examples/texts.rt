@@ -4,9 +4,9 @@ ghost use Rattle.std.specs.Prelude.{◌<◌};
 
 use crate::examples::report::Report;
 use arrayvec::ArrayVec;
-use mote_text::line::OutputBuffer;
-use mote_text::lines::{Lines, Taken};
+use mote_text::output_buffer::OutputBuffer;
 use mote_text::script::{BadLine, End, read_input_to};
+use mote_text::script_lines::{Lines, Taken};
 use mote_text::transcript::{final_text, push_entry};
 use mote_types::call::Call;
 use mote_types::entry::{Entry, Input, Note};

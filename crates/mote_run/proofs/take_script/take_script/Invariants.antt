@@ -1,6 +1,6 @@
 use Rattle.std.proofs.Common.{◌≡◌, ◌≤◌, ◌+◌, ◌*◌, ◌-◌, ◌^◌, length, true, false}
 use Rattle.mote_run.proofs.Common.{says_of, is_still, HasCome, IsReady, ReadWhileRunning, place}
-use Rattle.mote_run.proofs.work.take_script.Given as goal
+use Rattle.mote_run.proofs.take_script.take_script.Given as goal
 
 abbrev pub invariant-part : goal.invariant-part
 invariant-part g l = record {

@@ -1,6 +1,6 @@
 use Rattle.std.proofs.Common.{◌≡◌, []}
 use Rattle.mote_run.proofs.Common.{says_of, Went, place}
-use Rattle.mote_run.proofs.settle.settle.Given as goal
+use Rattle.mote_run.proofs.work.settle.Given as goal
 
 abbrev pub invariant-entry : goal.invariant-entry
 invariant-entry g l = record {

@@ -2,7 +2,7 @@ use Rattle.std.proofs.Common.{◌≡◌, ◌++◌, take, refl, arith}
 use Rattle.std.proofs.lemmas.Option.{slice_get_within}
 use Rattle.mote_text.proofs.Common.{common_steps, length-take}
 use Rattle.mote_text.proofs.LineEnds.{no_end_append, no_end_before, goes_on_at}
-use Rattle.mote_text.proofs.lines.take_up_to_end.Goals as goal
+use Rattle.mote_text.proofs.script_lines.take_up_to_end.Goals as goal
 
 pub returns-in-Some-clause-endless : goal.returns-in-Some-clause-endless
 returns-in-Some-clause-endless c = grind (arith, no_end_append, no_end_before)

@@ -2,7 +2,7 @@ use Rattle.std.proofs.Common.{rules, refl, sym}
 use Rattle.mote_run.proofs.Common.{append-nil, entry_of, Step}
 use Rattle.std.proofs.lemmas.Result.{MatchResult-from_err}
 use Rattle.mote_run.proofs.Ways.{went_further, went_nowhere, went_step, went_written}
-use Rattle.mote_run.proofs.settle.settle.Goals as goal
+use Rattle.mote_run.proofs.work.settle.Goals as goal
 
 pub entry-init : goal.entry-init
 entry-init g c = record {

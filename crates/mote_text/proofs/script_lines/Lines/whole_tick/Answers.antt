@@ -1,7 +1,7 @@
 use Rattle.std.proofs.Common.{◌≡◌, Some, codes, rules}
 use Rattle.mote_text.proofs.Common.{argument_of}
 use Rattle.mote_text.proofs.Ticks.{tick_at}
-use Rattle.mote_text.proofs.lines.Lines.whole_tick.Goals as goal
+use Rattle.mote_text.proofs.script_lines.Lines.whole_tick.Goals as goal
 
 pub returns-clause-tick : goal.returns-clause-tick
 returns-clause-tick c =

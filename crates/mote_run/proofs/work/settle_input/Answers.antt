@@ -3,7 +3,7 @@ use Rattle.mote_run.proofs.Common.{append-nil, Step}
 use Rattle.mote_run.proofs.Writing.{nothing_more}
 use Rattle.std.proofs.lemmas.Result.{MatchResult-from_err}
 use Rattle.mote_run.proofs.Ways.{goes_further, idle_is_still, input_went, went_further, went_input, went_step, went_written}
-use Rattle.mote_run.proofs.settle.settle_input.Goals as goal
+use Rattle.mote_run.proofs.work.settle_input.Goals as goal
 
 pub returns-in_err-make_room-clause-goes : goal.returns-in_err-make_room-clause-goes
 returns-in_err-make_room-clause-goes g c = λ named.

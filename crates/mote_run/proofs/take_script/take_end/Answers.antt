@@ -4,7 +4,7 @@ use Rattle.mote_run.proofs.GivenBytes.{input_can_be_fed}
 use Rattle.mote_run.proofs.LoopInvariant.{failed, finished, last_line}
 use Rattle.mote_run.proofs.Pieces.{not_read}
 use Rattle.mote_run.proofs.Ways.{went_on}
-use Rattle.mote_run.proofs.work.take_end.Goals as goal
+use Rattle.mote_run.proofs.take_script.take_end.Goals as goal
 
 pub settle_input-requires-clause-bytes : goal.settle_input-requires-clause-bytes
 settle_input-requires-clause-bytes g c = grind (arith, input_can_be_fed)

@@ -4,7 +4,7 @@ use Rattle.mote_run.proofs.Common.{append-nil, End, inputs, nat_tests, start}
 use Rattle.mote_run.proofs.Pieces.{not_read}
 use Rattle.mote_run.proofs.LoopInvariant.{come_refilled, failed, few_come, finished, goes_on_so, nothing_read, read_while_running, too_long, wrote_whole_lines}
 use Rattle.mote_run.proofs.Ways.{went_further, went_on, went_written}
-use Rattle.mote_run.proofs.work.take_script.Goals as goal
+use Rattle.mote_run.proofs.take_script.take_script.Goals as goal
 
 -- what is read at once keeps within the limit
 within_limit : {taken before after : ℕ} → taken ≤ 16777216 → taken + before ≤ 16777217

@@ -1,7 +1,7 @@
 use Rattle.std.proofs.Common.{◌≡◌, length, refl, take, arith, nat_le}
 use Rattle.mote_text.proofs.Common.{take_all}
 use Rattle.mote_text.proofs.LineEnds.{no_end_before, take_few}
-use Rattle.mote_text.proofs.lines.Lines.whole_line.Goals as goal
+use Rattle.mote_text.proofs.script_lines.Lines.whole_line.Goals as goal
 
 pub returns-in_err-end-clause-none : goal.returns-in_err-end-clause-none
 returns-in_err-end-clause-none c = λ none begins.
