@@ -1,3 +1,4 @@
 -- The code's invariants. Not needed to know what a session promises.
 pub mod Places
+pub mod Shown
 pub mod Working

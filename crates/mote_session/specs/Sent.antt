@@ -1,7 +1,6 @@
 -- The frame that an entry reports as sent.
-use Rattle.std.specs.Prelude.{ℕ, Bool, false, Option, None, Some}
+use Rattle.std.specs.Prelude.{ℕ, Option, None, Some}
 use Rattle.arrayvec.specs.ArrayVec.{ArrayVec}
-use Rattle.mote_text.specs.Transcript.{is_shown}
 use Rattle.mote_types.specs.declared.entry.Entry.{Entry}
 use Rattle.mote_types.specs.declared.entry.Note.{Note}
 
@@ -20,8 +19,3 @@ sent_by_entry Entry.Halt = None
 abbrev pub sent_in : Option Entry → Option (ArrayVec ℕ)
 sent_in None = None
 sent_in (Some entry) = sent_by_entry entry
-
--- whether a transcript shows the last entry, if there is one
-abbrev pub is_last_shown : Bool → Option Entry → Bool
-is_last_shown quiet None = false
-is_last_shown quiet (Some entry) = is_shown entry quiet
