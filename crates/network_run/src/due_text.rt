@@ -1,6 +1,8 @@
 //! Text that is due: lines are gathered first, and written in pieces.
 
 ghost use Rattle.std.specs.Prelude.{◌≡◌, ◌≤◌, ◌<◌, ◌-◌, ◌^◌, [], codes, length, not, OnOk};
+ghost use Rattle.mote_session.specs.Code.Shown.{is_last_shown};
+ghost use Rattle.mote_text.specs.Code.Appending.{HasRoom};
 ghost use Rattle.network_run.specs.Code.Writing.{CountsFailure, Puts};
 ghost use Rattle.network_text.specs.Code.StepLines.{last_entry_line};
 ghost use Rattle.network_text.specs.NetworkText.{clock_line, fate_line, frame_line, if_shown, last_line, unheard_line};
@@ -13,15 +15,14 @@ use mote_text::output_buffer::OutputBuffer;
 use mote_text::script::End;
 use mote_types::device::ByteSink;
 use network_text::lines::{
-    last_entry_text, last_text, push_clock_line, push_fate_line, push_frame_line, push_unheard_line,
+    MOTE_LINE, OWN_LINE, push_clock_line, push_fate_line, push_frame_line, push_last_entry,
+    push_last_line, push_unheard_line,
 };
 
 /// Lines that were made and are not written yet.
 #[derive(Drop)]
 pub(crate) struct DueText {
     pub(crate) due: OutputBuffer,
-    /// A line that is made alone, before it is put among those.
-    line: OutputBuffer,
 }
 
 impl DueText {
@@ -30,7 +31,6 @@ impl DueText {
     {
         DueText {
             due: OutputBuffer::new(),
-            line: OutputBuffer::new(),
         }
     }
 
@@ -39,7 +39,6 @@ impl DueText {
         requires countable { K.failure_count sink.old < 2 ^ 64 - 1 }
         ensures puts { K.is_named → Puts result (K.given sink.old) self.old.due.items (K.given sink.new) self.new.due.items [] }
         ensures empty { OnOk result (self.new.due.items ≡ []) }
-        ensures line { self.new.line ≡ self.old.line }
         ensures failures { CountsFailure result (K.failure_count sink.old) (K.failure_count sink.new) }
     {
         write_all(sink, self.due.as_slice())?;
@@ -47,17 +46,19 @@ impl DueText {
         Ok(())
     }
 
-    /// Puts the line that was made alone after it.
-    fn gather<K: ByteSink>(&mut self, sink: &mut K) -> Result<(), RunFault>
+    /// Writes all of it, where there is no room for so many bytes after it.
+    // Each line asks for it.
+    #[inline(always)]
+    fn make_room<K: ByteSink>(&mut self, sink: &mut K, room: usize) -> Result<(), RunFault>
+        requires some { room ≤ 4_096 }
         requires countable { K.failure_count sink.old < 2 ^ 64 - 1 }
-        ensures puts { K.is_named →
-            Puts result (K.given sink.old) self.old.due.items (K.given sink.new) self.new.due.items self.old.line.items }
+        ensures puts { K.is_named → Puts result (K.given sink.old) self.old.due.items (K.given sink.new) self.new.due.items [] }
+        ensures room { OnOk result (HasRoom self.new.due room) }
         ensures failures { CountsFailure result (K.failure_count sink.old) (K.failure_count sink.new) }
     {
-        if self.due.remaining_capacity() < self.line.as_slice().len() {
+        if self.due.remaining_capacity() < room {
             self.flush(sink)?;
         }
-        self.due.push(self.line.as_slice());
         Ok(())
     }
 
@@ -71,9 +72,9 @@ impl DueText {
         ensures puts { K.is_named → Puts result (K.given sink.old) self.old.due.items (K.given sink.new) self.new.due.items (clock_line clock) }
         ensures failures { CountsFailure result (K.failure_count sink.old) (K.failure_count sink.new) }
     {
-        self.line.clear();
-        push_clock_line(clock, &mut self.line);
-        self.gather(sink)
+        self.make_room(sink, OWN_LINE)?;
+        push_clock_line(clock, &mut self.due);
+        Ok(())
     }
 
     /// Puts the line that says that nobody heard a frame after it.
@@ -88,9 +89,9 @@ impl DueText {
             Puts result (K.given sink.old) self.old.due.items (K.given sink.new) self.new.due.items (frame_line (codes "missed") from to) }
         ensures failures { CountsFailure result (K.failure_count sink.old) (K.failure_count sink.new) }
     {
-        self.line.clear();
-        push_frame_line(b"missed", from, to, &mut self.line);
-        self.gather(sink)
+        self.make_room(sink, OWN_LINE)?;
+        push_frame_line(b"missed", from, to, &mut self.due);
+        Ok(())
     }
 
     /// Puts the line that says that a mote was halted before an input from outside after it, unless the transcript is quiet.
@@ -108,9 +109,9 @@ impl DueText {
         if quiet {
             return Ok(());
         }
-        self.line.clear();
-        push_unheard_line(mote, &mut self.line);
-        self.gather(sink)
+        self.make_room(sink, OWN_LINE)?;
+        push_unheard_line(mote, &mut self.due);
+        Ok(())
     }
 
     /// Puts the line that says that a link didn't carry a frame after it, if it didn't.
@@ -125,9 +126,9 @@ impl DueText {
             (fate_line from link.now.to link.now.last) }
         ensures failures { CountsFailure result (K.failure_count sink.old) (K.failure_count sink.new) }
     {
-        self.line.clear();
-        push_fate_line(from, link.to, link.last, &mut self.line);
-        self.gather(sink)
+        self.make_room(sink, OWN_LINE)?;
+        push_fate_line(from, link.to, link.last, &mut self.due);
+        Ok(())
     }
 
     /// Puts the line of a mote's last entry after it, if there is one, and it is shown.
@@ -136,18 +137,19 @@ impl DueText {
         sink: &mut K,
         mote: usize,
         session: &Session,
-        is_shown: bool,
+        quiet: bool,
     ) -> Result<(), RunFault>
         requires countable { K.failure_count sink.old < 2 ^ 64 - 1 }
         ensures puts { K.is_named → Puts result (K.given sink.old) self.old.due.items (K.given sink.new) self.new.due.items
-            (if_shown is_shown (last_entry_line mote session.now.last)) }
+            (if_shown (is_last_shown quiet session.now.last) (last_entry_line mote session.now.last)) }
         ensures failures { CountsFailure result (K.failure_count sink.old) (K.failure_count sink.new) }
     {
-        if !is_shown {
+        if !session.shows_last(quiet) {
             return Ok(());
         }
-        last_entry_text(mote, session, &mut self.line);
-        self.gather(sink)
+        self.make_room(sink, MOTE_LINE)?;
+        push_last_entry(mote, session, &mut self.due);
+        Ok(())
     }
 
     /// Puts the last line of a run that ends so after it, if there is one.
@@ -156,7 +158,8 @@ impl DueText {
         ensures puts { K.is_named → Puts result (K.given sink.old) self.old.due.items (K.given sink.new) self.new.due.items (last_line end) }
         ensures failures { CountsFailure result (K.failure_count sink.old) (K.failure_count sink.new) }
     {
-        last_text(end, &mut self.line);
-        self.gather(sink)
+        self.make_room(sink, MOTE_LINE)?;
+        push_last_line(end, &mut self.due);
+        Ok(())
     }
 }

@@ -9,7 +9,8 @@ ghost use Rattle.network_text.specs.declared.input.NetworkInput.{NetworkInput};
 
 use crate::due_text::DueText;
 use crate::fault::RunFault;
-use crate::settle::{Caller, run_to_rest};
+use crate::settle::run_to_rest;
+use mote_session::caller::Caller;
 use mote_types::device::ByteSink;
 use mote_types::entry::Input;
 use network_session::network::Network;

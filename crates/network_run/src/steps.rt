@@ -2,7 +2,7 @@
 
 ghost use Rattle.std.specs.Prelude.{◌≡◌, ◌<◌, ◌-◌, ◌^◌, not, slice_get};
 ghost use Rattle.mote_session.specs.Sent.{sent_in};
-ghost use Rattle.network_run.specs.Code.StepText.{entry_text, is_other_shown, step_text};
+ghost use Rattle.network_run.specs.Code.StepText.{entry_text, step_text};
 ghost use Rattle.network_run.specs.Code.Writing.{CountsFailure, Puts};
 ghost use Rattle.network_text.specs.NetworkText.{fate_lines, if_shown, sent_lines};
 
@@ -56,39 +56,30 @@ fn put_losses<K: ByteSink>(
 }
 
 /// Puts the line of a mote's last entry, if it is shown, and what became of a frame that it sent.
+// Each entry asks for it.
+#[inline(always)]
 pub(crate) fn put_entry<K: ByteSink>(
     sink: &mut K,
     text: &mut DueText,
     network: &Network,
     mote: usize,
-    is_shown: bool,
     quiet: bool,
 ) -> Result<(), RunFault>
     requires countable { K.failure_count sink.old < 2 ^ 64 - 1 }
     ensures puts { K.is_named → Puts result (K.given sink.old) text.old.due.items (K.given sink.new) text.new.due.items
-        (entry_text is_shown quiet mote (slice_get network.now.motes mote) network.now.air) }
+        (entry_text quiet mote (slice_get network.now.motes mote) network.now.air) }
     ensures failures { CountsFailure result (K.failure_count sink.old) (K.failure_count sink.new) }
 {
     match network.mote(mote) {
         Some(session) => {
-            text.put_entry(sink, mote, session, is_shown)?;
+            text.put_entry(sink, mote, session, quiet)?;
             put_losses(sink, text, network, mote, session, quiet)
         }
         None => Ok(()),
     }
 }
 
-/// Whether an entry is shown that is no turn, which a mote has just made.
-fn is_other_shown(network: &Network, mote: usize, quiet: bool) -> bool
-    ensures { result ≡ is_other_shown quiet (slice_get network.now.motes mote) }
-{
-    match network.mote(mote) {
-        Some(session) => !quiet || session.sent().is_some() || session.halted(),
-        None => !quiet,
-    }
-}
-
-/// Puts the lines of a step, which left the network so. The line of a turn is put once its call was made.
+/// Puts the lines of a step that was due, where no mote was at work, and left the network so.
 pub(crate) fn put_step<K: ByteSink>(
     sink: &mut K,
     text: &mut DueText,
@@ -102,10 +93,6 @@ pub(crate) fn put_step<K: ByteSink>(
     ensures failures { CountsFailure result (K.failure_count sink.old) (K.failure_count sink.new) }
 {
     match outcome {
-        Outcome::Made(mote) => {
-            let is_shown = is_other_shown(network, mote, quiet);
-            put_entry(sink, text, network, mote, is_shown, quiet)
-        }
         Outcome::Missed(from, to) if !quiet => text.put_missed(sink, from, to),
         Outcome::Passed if !quiet => text.put_clock(sink, network.clock()),
         _ => Ok(()),

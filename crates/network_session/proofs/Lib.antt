@@ -1,6 +1,7 @@
 mod Examples
 pub mod Steady
 pub mod Working
+pub mod WorkingBy
 pub mod Due
 pub mod Moments
 pub mod Logging

@@ -6,13 +6,12 @@ use Rattle.alarm_core.specs.Alarms.{first_come}
 use Rattle.mote_types.specs.declared.call.Call.{Call}
 use Rattle.mote_session.specs.SessionView.{SessionView}
 use Rattle.mote_session.specs.declared.session.Next.{Next}
-use Rattle.network_session.specs.Code.Measures.{IsNearerRest, ending_of, left_at, left_at_work, left_of, to_do}
+use Rattle.network_session.specs.Code.Measures.{IsNearerRest, is_last, left_at, left_at_work, left_of, to_do}
 use Rattle.network_session.specs.Network.{NetworkView, wakes_of}
 use Rattle.network_session.specs.Schedule.{due_now, due_step, is_rest}
 use Rattle.network_session.specs.Steps.{IsNetworkSubmitted, Steps, Worked}
 use Rattle.network_session.specs.Time.{is_work}
 use Rattle.network_session.specs.declared.outcome.Outcome.{Outcome}
-use Rattle.network_session.specs.declared.running.Ending.{Ending}
 use Rattle.network_session.proofs.Due.{due_is}
 use Rattle.network_session.proofs.Timely.{not_waking}
 use Rattle.network_session.proofs.Working.{there_after}
@@ -100,7 +99,7 @@ round_taken : (old new : NetworkView) → length new.motes ≡ length old.motes 
 round_taken old new motes started rounds some = omega (arith, motes, started, rounds, some)
 
 -- a step where no mote is at work takes a start or a round
-pub fewer_to_do : (x : Outcome) (old new : NetworkView) → Steps x old new → x ≡ due_step old → is_work x ≡ false → ending_of x ≡ None → to_do new < to_do old
+pub fewer_to_do : (x : Outcome) (old new : NetworkView) → Steps x old new → x ≡ due_step old → is_work x ≡ false → is_last x ≡ false → to_do new < to_do old
 fewer_to_do (Outcome.Started m) old new s due work on =
     let next = starts_next old m due in
     let started : new.started ≡ m + 1 = ap (λ (v : NetworkView). v.started) s in
@@ -125,47 +124,3 @@ fewer_to_do (Outcome.Turn m) old new s due work on = absurd (cc)
 fewer_to_do (Outcome.Made m) old new s due work on = absurd (cc)
 fewer_to_do (Outcome.Rested m) old new s due work on = absurd (cc)
 fewer_to_do (Outcome.Stopped m) old new s due work on = absurd (cc)
-
--- and where a run ends, what ends it is due still
-pub record EndsAt (x : Outcome) (old new : NetworkView) : Type 0 where
-  pub same : new ≡ old
-  pub due : due_step new ≡ x
-
-pub ends_at : (x : Outcome) (old new : NetworkView) (ending : Ending) → Steps x old new → x ≡ due_step old → ending_of x ≡ Some ending → EndsAt x old new
-ends_at Outcome.Rest old new ending s due e = record { same = s; due = ap due_step s ∙ sym due }
-ends_at Outcome.Exhausted old new ending s due e = record { same = s; due = ap due_step s ∙ sym due }
-ends_at (Outcome.Started m) old new ending s due e = absurd (cc)
-ends_at (Outcome.Woken m) old new ending s due e = absurd (cc)
-ends_at (Outcome.Heard m) old new ending s due e = absurd (cc)
-ends_at (Outcome.Missed from to) old new ending s due e = absurd (cc)
-ends_at Outcome.Passed old new ending s due e = absurd (cc)
-ends_at (Outcome.Turn m) old new ending s due e = absurd (cc)
-ends_at (Outcome.Made m) old new ending s due e = absurd (cc)
-ends_at (Outcome.Rested m) old new ending s due e = absurd (cc)
-ends_at (Outcome.Stopped m) old new ending s due e = absurd (cc)
-
-pub rest_is : (x : Outcome) → ending_of x ≡ Some Ending.Rest → x ≡ Outcome.Rest
-rest_is Outcome.Rest e = refl
-rest_is Outcome.Exhausted e = absurd (cc)
-rest_is (Outcome.Started m) e = absurd (cc)
-rest_is (Outcome.Woken m) e = absurd (cc)
-rest_is (Outcome.Heard m) e = absurd (cc)
-rest_is (Outcome.Missed from to) e = absurd (cc)
-rest_is Outcome.Passed e = absurd (cc)
-rest_is (Outcome.Turn m) e = absurd (cc)
-rest_is (Outcome.Made m) e = absurd (cc)
-rest_is (Outcome.Rested m) e = absurd (cc)
-rest_is (Outcome.Stopped m) e = absurd (cc)
-
-pub exhausted_is : (x : Outcome) → ending_of x ≡ Some Ending.Exhausted → x ≡ Outcome.Exhausted
-exhausted_is Outcome.Exhausted e = refl
-exhausted_is Outcome.Rest e = absurd (cc)
-exhausted_is (Outcome.Started m) e = absurd (cc)
-exhausted_is (Outcome.Woken m) e = absurd (cc)
-exhausted_is (Outcome.Heard m) e = absurd (cc)
-exhausted_is (Outcome.Missed from to) e = absurd (cc)
-exhausted_is Outcome.Passed e = absurd (cc)
-exhausted_is (Outcome.Turn m) e = absurd (cc)
-exhausted_is (Outcome.Made m) e = absurd (cc)
-exhausted_is (Outcome.Rested m) e = absurd (cc)
-exhausted_is (Outcome.Stopped m) e = absurd (cc)

@@ -1,3 +1,4 @@
 -- The code's own invariants.
 pub mod Wakes
 pub mod Measures
+pub mod Working

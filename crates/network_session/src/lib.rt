@@ -5,5 +5,4 @@ pub mod fault;
 pub mod laws;
 pub mod network;
 pub mod outcome;
-pub mod running;
 mod waking;

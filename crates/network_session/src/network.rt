@@ -9,6 +9,7 @@ ghost use Rattle.network_session.specs.declared.fault.NetworkBootFault.{NetworkB
 ghost use Rattle.network_session.specs.declared.outcome.Outcome.TheVariants.{Woken};
 ghost use Rattle.network_session.specs.Steps.{SubmittedIn, HandedIn, IsNetworkSubmitted, IsNetworkFed, IsToldTime, Steps, ToldIn, WorkedIn, aired_if};
 ghost use Rattle.network_session.specs.Code.Wakes.{AreWakes, IsSteady};
+ghost use Rattle.network_session.specs.Code.Working.{Works, WorksIn};
 ghost use Rattle.kernel_core.specs.Conditions.{ticks_of};
 ghost use Rattle.network_session.specs.Time.{is_work};
 ghost use Rattle.network_session.specs.Waking.{due_ticks, wake};
@@ -30,7 +31,8 @@ use medium_core::fault::MediumFault;
 use medium_core::flight::copied;
 use medium_core::link::Link;
 use medium_core::medium::Medium;
-use mote_session::session::{Next, OpenTurn, Session};
+use mote_session::caller::Caller;
+use mote_session::session::{Next, Session, Worked};
 use mote_types::call::Call;
 use mote_types::entry::Input;
 use std::alloc::Global;
@@ -103,6 +105,22 @@ fn submit_in(motes: &mut Vec<Session>, m: usize, call: Call) -> Result<(), Netwo
 {
     match motes[m].submit(call) {
         Ok(()) => Ok(()),
+        Err(refusal) => Err(NetworkFault::Refused(refusal)),
+    }
+}
+
+/// Lets one mote work on, and the caller make the call of a turn.
+fn work_by_in<H: Caller>(
+    motes: &mut Vec<Session>,
+    m: usize,
+    caller: &mut H,
+) -> Result<Worked, NetworkFault>
+    requires { m < length motes.old.items }
+    ensures worked { IfOk result (λ worked. WorksIn m worked motes.old.items motes.new.items) }
+    ensures refused { IfErr result (λ _. motes.new.items ≡ motes.old.items) }
+{
+    match motes[m].next_by(m, caller) {
+        Ok(worked) => Ok(worked),
         Err(refusal) => Err(NetworkFault::Refused(refusal)),
     }
 }
@@ -215,6 +233,41 @@ impl Network {
                 set_wake(&mut self.wakes, &self.motes, m);
                 self.active = None;
                 Ok(Outcome::Stopped(m))
+            }
+        }
+    }
+
+    /// Lets the mote that is at work, `m`, work on as `step`, and has `caller` make the call of an application that must take a turn,
+    /// and submits it. The call needs no copy.
+    ///
+    /// # Errors
+    ///
+    /// `Refused(AwaitsCall)` where a turn awaits its call.
+    pub fn work_by<H: Caller>(
+        &mut self,
+        m: usize,
+        caller: &mut H,
+    ) -> Result<Worked, NetworkFault>
+        requires { self.old.active ≡ Some m }
+        ensures worked { IfOk result (λ worked. Works m worked self.old self.new) }
+        ensures refused { IfErr result (λ _. self.new ≡ self.old) }
+    {
+        match work_by_in(&mut self.motes, m, caller)? {
+            Worked::Turn => Ok(Worked::Turn),
+            Worked::NoCall => Ok(Worked::NoCall),
+            Worked::Entry => {
+                air_in(&mut self.medium, &self.motes[m], m);
+                Ok(Worked::Entry)
+            }
+            Worked::Rest => {
+                set_wake(&mut self.wakes, &self.motes, m);
+                self.active = None;
+                Ok(Worked::Rest)
+            }
+            Worked::Halted => {
+                set_wake(&mut self.wakes, &self.motes, m);
+                self.active = None;
+                Ok(Worked::Halted)
             }
         }
     }

@@ -1,18 +1,25 @@
 //! The lines of a network's transcript.
 #![tactic(auto, unfolding(mote_text::specs::EntryText::line_of))]
 
-ghost use Rattle.std.specs.Prelude.{◌≡◌, ◌≤◌, ◌+◌, ◌++◌, decimal, length};
+ghost use Rattle.std.specs.Prelude.{◌≡◌, ◌≤◌, ◌+◌, ◌++◌, codes, decimal, length};
 ghost use Rattle.mote_text.specs.Code.Appending.{HasRoom};
 ghost use Rattle.network_text.specs.Code.StepLines.{last_entry_line};
-ghost use Rattle.network_text.specs.Code.Widths.{number_limit, own_line_limit};
+ghost use Rattle.network_text.specs.Code.Widths.{mote_line_limit, number_limit, own_line_limit};
 ghost use Rattle.network_text.specs.NetworkText.{clock_line, fate_line, frame_line, last_line, mote_number, unheard_line};
 
 use itoa::Buffer;
 use medium_core::link::Fate;
 use mote_session::session::Session;
-use mote_text::output_buffer::OutputBuffer;
+use mote_text::line::OutputBuffer;
+use mote_text::numbers::push_number_word;
 use mote_text::script::End;
 use mote_text::transcript::push_final_line;
+
+/// No line of the network's own is longer, with its end.
+pub const OWN_LINE: usize = 96;
+
+/// No line of a mote is longer, with the mote's number in front.
+pub const MOTE_LINE: usize = 700;
 
 /// Appends the number of a mote: 1 for the first one.
 #[tactic(auto)]
@@ -23,6 +30,20 @@ fn push_mote_number(mote: usize, text: &mut OutputBuffer)
 {
     // One more than the largest `usize` is a number, too.
     text.push(Buffer::new().format(mote as u128 + 1).as_bytes());
+}
+
+/// Appends the number of a mote, and a blank.
+fn push_mote_word(mote: usize, text: &mut OutputBuffer)
+    requires { HasRoom text.old (number_limit + 1) }
+    ensures text { text.new.items ≡ text.old.items ++ (mote_number mote ++ codes " ") }
+    ensures length { length text.new.items ≤ length text.old.items + (number_limit + 1) }
+{
+    if mote < 4_294_967_295 {
+        push_number_word(mote as u32 + 1, text);
+    } else {
+        push_mote_number(mote, text);
+        text.push(b" ");
+    }
 }
 
 /// Appends the line that says that the clock went on: `= 14`.
@@ -80,34 +101,47 @@ pub fn push_unheard_line(mote: usize, text: &mut OutputBuffer)
     text.push(b"\n");
 }
 
-/// Replaces the buffer's content with the line of a mote's last entry, with the mote's number in front: `2 > tick 3`. Clears it where
-/// the mote has made no entry, or its last turn awaits a call.
+/// Appends the line of a mote's last entry, with the mote's number in front: `2 > tick 3`. Appends nothing where the mote has made no
+/// entry, or its last turn awaits a call.
 ///
 /// Source: the transcript format is this project's profile.
 #[tactic(auto)]
+pub fn push_last_entry(mote: usize, session: &Session, text: &mut OutputBuffer)
+    requires { HasRoom text.old mote_line_limit }
+    ensures { text.new.items ≡ text.old.items ++ last_entry_line mote session.now.last }
+{
+    if session.has_line() {
+        push_mote_word(mote, text);
+        let _ = session.push_line(text);
+    }
+}
+
+/// Replaces the buffer's content with the line of a mote's last entry, as `push_last_entry` appends it.
 pub fn last_entry_text(mote: usize, session: &Session, text: &mut OutputBuffer)
     ensures { text.new.items ≡ last_entry_line mote session.now.last }
 {
     text.clear();
-    push_mote_number(mote, text);
-    text.push(b" ");
-    match session.push_line(text) {
-        Ok(()) => {}
-        Err(_) => text.clear(),
-    }
+    push_last_entry(mote, session, text);
 }
 
-/// Replaces the buffer's content with the last line of a transcript: `halt`, `bad line 3` or `too long`; nothing where the whole script
-/// was carried out.
+/// Appends the last line of a transcript: `halt`, `bad line 3` or `too long`; nothing where the whole script was carried out.
 ///
 /// Source: the transcript format is this project's profile.
-pub fn last_text(end: End, text: &mut OutputBuffer)
-    ensures { text.new.items ≡ last_line end }
+pub fn push_last_line(end: End, text: &mut OutputBuffer)
+    requires { HasRoom text.old mote_line_limit }
+    ensures { text.new.items ≡ text.old.items ++ last_line end }
 {
-    text.clear();
     match end {
         End::Halted => text.push(b"halt\n"),
         End::Finished => {}
         End::BadLine(_) | End::TooLong => push_final_line(end, text),
     }
+}
+
+/// Replaces the buffer's content with the last line of a transcript, as `push_last_line` appends it.
+pub fn last_text(end: End, text: &mut OutputBuffer)
+    ensures { text.new.items ≡ last_line end }
+{
+    text.clear();
+    push_last_line(end, text);
 }

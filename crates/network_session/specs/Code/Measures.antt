@@ -1,9 +1,8 @@
 -- What is left to do until a network rests.
-use Rattle.std.specs.Prelude.{◌≡◌, ℕ, ◌+◌, ◌-◌, ◌<◌, List, length, slice_get, Option, None, Some, suc}
+use Rattle.std.specs.Prelude.{◌≡◌, ℕ, ◌+◌, ◌-◌, ◌<◌, List, Bool, true, false, length, slice_get, Option, None, Some, suc}
 use Rattle.mote_session.specs.SessionView.{SessionView}
 use Rattle.network_session.specs.Network.{NetworkView}
 use Rattle.network_session.specs.declared.outcome.Outcome.{Outcome}
-use Rattle.network_session.specs.declared.running.Ending.{Ending}
 
 -- rounds and starts
 abbrev pub to_do : NetworkView → ℕ
@@ -25,16 +24,16 @@ pub record IsNearerRest (old new : NetworkView) : Type 0 where
   pub nearer : left_at_work new < left_at_work old
   pub same : to_do new ≡ to_do old
 
--- how a run ends after this step, if it does
-abbrev pub ending_of : Outcome → Option Ending
-ending_of Outcome.Rest = Some Ending.Rest
-ending_of Outcome.Exhausted = Some Ending.Exhausted
-ending_of Outcome.Passed = None
-ending_of (Outcome.Missed from to) = None
-ending_of (Outcome.Started m) = None
-ending_of (Outcome.Turn m) = None
-ending_of (Outcome.Made m) = None
-ending_of (Outcome.Rested m) = None
-ending_of (Outcome.Stopped m) = None
-ending_of (Outcome.Woken m) = None
-ending_of (Outcome.Heard m) = None
+-- a run ends after this step
+abbrev pub is_last : Outcome → Bool
+is_last Outcome.Rest = true
+is_last Outcome.Exhausted = true
+is_last Outcome.Passed = false
+is_last (Outcome.Missed from to) = false
+is_last (Outcome.Started m) = false
+is_last (Outcome.Turn m) = false
+is_last (Outcome.Made m) = false
+is_last (Outcome.Rested m) = false
+is_last (Outcome.Stopped m) = false
+is_last (Outcome.Woken m) = false
+is_last (Outcome.Heard m) = false

@@ -3,13 +3,13 @@ use Rattle.network_session.specs.Code.Measures.{left_at_work, to_do}
 use Rattle.network_run.specs.Code.Way.{Went, place}
 use Rattle.network_run.proofs.settle.settle.Given as goal
 
-abbrev pub invariant-loop-sink : goal.invariant-loop-sink
-invariant-loop-sink g l = record {
+abbrev pub invariant-loop-mote : goal.invariant-loop-mote
+invariant-loop-mote g l = record {
   went : g.K.ByteSink.is_named → Went l.quiet [] (place (g.K.ByteSink.given l.fn.sink) l.fn.text.due.items l.fn.network)
       (place (g.K.ByteSink.given l.sink) l.text.due.items l.network);
   same : g.K.ByteSink.failure_count l.sink ≡ g.K.ByteSink.failure_count l.fn.sink;
   left : to_do l.network ≡ to_do l.fn.network;
 }
 
-abbrev pub decreases-loop-sink : goal.decreases-loop-sink
-decreases-loop-sink g l = left_at_work l.network
+abbrev pub decreases-loop-mote : goal.decreases-loop-mote
+decreases-loop-mote g l = left_at_work l.network
