@@ -216,11 +216,7 @@ fn take_in<H: Caller>(
 fn turn_in<'a>(takes_odd: bool, odd: &'a Turn, even: &'a Turn) -> &'a Turn
     ensures { result.now ≡ turn_in takes_odd odd.now even.now }
 {
-    if takes_odd {
-        odd
-    } else {
-        even
-    }
+    if takes_odd { odd } else { even }
 }
 
 /// A mote whose caller makes the calls of its applications.

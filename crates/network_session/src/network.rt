@@ -243,11 +243,7 @@ impl Network {
     /// # Errors
     ///
     /// `Refused(AwaitsCall)` where a turn awaits its call.
-    pub fn work_by<H: Caller>(
-        &mut self,
-        m: usize,
-        caller: &mut H,
-    ) -> Result<Worked, NetworkFault>
+    pub fn work_by<H: Caller>(&mut self, m: usize, caller: &mut H) -> Result<Worked, NetworkFault>
         requires { self.old.active ≡ Some m }
         ensures worked { IfOk result (λ worked. Works m worked self.old self.new) }
         ensures refused { IfErr result (λ _. self.new ≡ self.old) }

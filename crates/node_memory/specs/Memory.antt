@@ -17,8 +17,11 @@ usable_sizes = 12 ∷ 28 ∷ 60 ∷ 124 ∷ []
 
 abbrev pub fresh_memory : Sizes → Memory
 fresh_memory sizes =
-    record { managed = empty_store sizes.mmem sizes.quota; heap = empty_heap sizes.heap sizes.header;
-      pools = map unused_pool_of usable_sizes }
+    record {
+      managed = empty_store sizes.mmem sizes.quota;
+      heap = empty_heap sizes.heap sizes.header;
+      pools = map unused_pool_of usable_sizes;
+    }
 
 abbrev pub with_managed : ManagedStore → Memory → Memory
 with_managed store m = record m { managed = store }
