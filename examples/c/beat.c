@@ -1,4 +1,4 @@
-/* An application in C, which prints a word every ten ticks, on a mote that is asked step by step. */
+/* An application in C, which prints a word every ten ticks, on a mote that runs step by step. */
 #include "toarmuts.h"
 
 #include <stdio.h>
@@ -8,7 +8,7 @@ static const struct toarmuts_call timer_reset = {.kind = TOARMUTS_CALL_TIMER_RES
 static const struct toarmuts_call print = {.kind = TOARMUTS_CALL_PRINT, .length = 5, .bytes = "beat\n"};
 static const struct toarmuts_call wait_for_event = {.kind = TOARMUTS_CALL_WAIT};
 
-/* The call by which the application answers what it is told. */
+/* The application's call for what it receives. */
 static const struct toarmuts_call *
 beat(const struct toarmuts_turn *turn)
 {

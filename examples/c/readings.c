@@ -1,4 +1,4 @@
-/* Keeps texts of different lengths in managed memory, as mmem.h of Contiki has it: one slides down so that a long one fits. */
+/* Stores texts of different lengths in managed memory, by mmem.h of Contiki: one slides down so that a long one fits. */
 #include "lib/mmem.h"
 
 #include <stdio.h>

@@ -1,4 +1,4 @@
-/* Toggles an LED every second, and tells so. */
+/* Toggles an LED every second, and prints its state. */
 #include "contiki.h"
 #include "dev/leds.h"
 

@@ -1,4 +1,4 @@
-/* Managed memory: a block fits where bytes enough are free in all, as the others slide together. */
+/* Managed memory: a block fits if enough bytes are free in all, since the others slide together. */
 #include "contiki.h"
 #include "lib/mmem.h"
 
@@ -24,7 +24,7 @@ PROCESS_THREAD(fragments, ev, data)
     mmem_free(&numbers);
   }
   if(mmem_alloc(&report, 1096)) {
-    /* 1000 bytes were free before the words, and 96 behind them. */
+    /* 1000 bytes were free before the words, and 96 after them. */
     printf("room for 1096 bytes\n");
   }
   printf("%s, %s\n", (char *)MMEM_PTR(&letters), (char *)MMEM_PTR(&words));

@@ -1,4 +1,4 @@
-/* A list of the last three guests, whose names come in on the serial line, in blocks of a pool. */
+/* A list of the last three guests, whose names arrive on the serial line, in blocks of a pool. */
 #include "contiki.h"
 #include "dev/serial-line.h"
 #include "lib/list.h"
@@ -18,7 +18,7 @@ struct guest {
 MEMB(rooms, struct guest, 3);
 LIST(guests);
 
-/* A block for another guest; where there is none the one leaves who came first. */
+/* A block for another guest; if there is none, the guest who came first leaves. */
 static struct guest *
 take_room(void)
 {

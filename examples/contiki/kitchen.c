@@ -1,4 +1,4 @@
-/* Two processes that talk: a waiter orders dishes, which the kitchen takes time for, and closes it in the end. */
+/* Two processes that talk: a waiter orders dishes, each of which takes the kitchen some time, and closes the kitchen at the end. */
 #include "contiki.h"
 
 #include <stdio.h>

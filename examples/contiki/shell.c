@@ -1,4 +1,4 @@
-/* A shell on the serial line. One of its commands is a protothread of its own, which the shell waits for. */
+/* A shell on the serial line. One of its commands is a protothread, which the shell waits for. */
 #include "contiki.h"
 #include "dev/serial-line.h"
 

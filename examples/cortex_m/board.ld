@@ -1,4 +1,4 @@
-/* A part with flash at 0 and RAM at 0x20000000. The Makefile gives the sizes of both, and the bytes that are kept for the stack. */
+/* A part with flash at 0 and RAM at 0x20000000. The Makefile gives the sizes of both, and the bytes that are reserved for the stack. */
 MEMORY
 {
   FLASH (rx)  : ORIGIN = 0, LENGTH = flash_size
@@ -15,7 +15,7 @@ SECTIONS
   .data : ALIGN(8) { data_start = .; *(.data*) . = ALIGN(8); data_end = .; } >RAM AT>FLASH
   data_image = LOADADDR(.data);
 
-  /* No load address in flash: what loads the program would write zeros there. */
+  /* No load address in flash: a loader would write zeros there. */
   .bss (NOLOAD) : ALIGN(16) { bss_start = .; *(.bss*) *(COMMON) . = ALIGN(8); bss_end = .; } >RAM AT>RAM
 
   /* newlib calls it end. */

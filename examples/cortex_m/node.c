@@ -23,7 +23,7 @@ LIST(neighbours);
 static struct ringbuf received;
 static uint8_t received_bytes[16];
 
-/* Stands for a serial port: each interrupt brings a byte, unless the ring is full. */
+/* Simulates a serial port: each interrupt brings a byte, unless the ring is full. */
 void
 systick_handler(void)
 {
@@ -43,7 +43,7 @@ start_timer(void)
   systick[0] = 7;
 }
 
-/* The next line, in a block of the heap that fits it, while the interrupt goes on. NULL: an empty line. */
+/* The next line, in a block of the heap of its size, while interrupts continue. NULL: an empty line. */
 static char *
 read_line(void)
 {
@@ -61,7 +61,7 @@ read_line(void)
   }
 }
 
-/* A neighbour of the pool: the oldest one goes where all are taken. */
+/* A neighbour's block of the pool: the oldest one is freed if all are used. */
 static void
 add_neighbour(unsigned char address)
 {
@@ -82,7 +82,7 @@ print_neighbours(void)
   }
 }
 
-/* Of 1,024 bytes 528 are left after the second block, which slides down so that one of 1,008 fits. */
+/* After the second block 528 of 1,024 bytes are left; it slides down so that one of 1,008 fits. */
 static int
 slide(void)
 {

@@ -76,7 +76,7 @@ board_stack_used(void)
   return (size_t)(stack_top - p);
 }
 
-/* An interrupt that no program has a handler for, and each fault. */
+/* The handler of each fault, and of interrupts for which the program has none. */
 static void
 stop_at_fault(void)
 {
@@ -91,7 +91,7 @@ systick_handler(void)
   stop_at_fault();
 }
 
-/* The words of the emulator's command line. */
+/* The arguments on the emulator's command line. */
 static int
 read_words(char **words)
 {

@@ -1,4 +1,4 @@
-/* What startup.c offers to a program. */
+/* The functions of startup.c for a program. */
 #ifndef STARTUP_H
 #define STARTUP_H
 
@@ -11,10 +11,10 @@ void systick_handler(void);
  * keeps for the stack writes over its variables. */
 size_t board_stack_used(void);
 
-/* Paints what of the stack is not in use now, as is done once before main. */
+/* Paints the unused part of the stack, as startup does before main. */
 void board_stack_paint(void);
 
-/* The bytes that malloc took so far. */
+/* The bytes that malloc has allocated so far. */
 size_t board_heap_used(void);
 
 #endif

@@ -1,4 +1,4 @@
-"""A small protocol with a fault: a sender hands letters to a receiver, one by one, and sends each again until it is acknowledged.
+"""A small protocol with a fault: a sender sends letters to a receiver, one by one, and repeats each until it is acknowledged.
 
     toarmuts-campaign deliver.py:Delivery --seeds 0:8
     toarmuts-campaign deliver.py:RepairedDelivery --seeds 0:8
@@ -27,14 +27,14 @@ def send(data: bytes) -> Turns:
 
 
 def receive(length: int) -> Generator[Call, Any, Any]:
-    """Reads the front frame, and gives it back."""
+    """Reads the front frame, and frees it."""
     reply = yield PacketRead(0, length)
     yield PacketDone()
     return reply.value
 
 
 def sender(repaired: bool = False) -> Turns:
-    """Sends the letters. The fault: only the first two are kept to be sent again, so that the third one is given up."""
+    """Sends the letters. The fault: only the first two are stored for repetition, so the third one can be lost."""
     yield PacketOpen()
     for number, letter in enumerate(LETTERS):
         is_acknowledged = False
@@ -71,7 +71,7 @@ def repaired_sender() -> Turns:
 
 
 def fault_of(printed: bytes) -> str | None:
-    """The letters arrive in their order, and none is left out."""
+    """The letters arrive in order, and none is missing."""
     return None if LETTERS.startswith(printed) else "a letter is left out"
 
 

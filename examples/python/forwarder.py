@@ -1,4 +1,4 @@
-"""An application with a fault: it forwards frames, and where memory is short it keeps one for good."""
+"""An application with a fault: it forwards frames, and if memory is short it never frees one."""
 from __future__ import annotations
 
 from toarmuts import (Event, EventCode, MmemAlloc, MmemFree, MmemWrite, PacketDone, PacketOpen, PacketRead, PacketSend, Run, Turns, Wait)
@@ -7,7 +7,7 @@ CHUNK = 64
 
 
 def forwarder(repaired: bool = False) -> Turns:
-    """Sends each frame that it receives. The fault: a frame for which there is no block isn't given back."""
+    """Sends each frame that it receives. The fault: a frame for which there is no block isn't freed."""
     yield PacketOpen()
     while True:
         match (yield Wait()):
@@ -34,7 +34,7 @@ def repaired_forwarder() -> Turns:
 
 
 def fault_of(run: Run) -> str | None:
-    """Each frame that the first application receives is given back."""
+    """The first application frees each frame that it receives."""
     turns = run.transcript.turns(4)
     told = sum(isinstance(turn.stimulus, Event) and turn.stimulus.code == EventCode.PACKET for turn in turns)
     given_back = sum(turn.call == PacketDone() and turn.refusal is None for turn in turns)

@@ -1,4 +1,4 @@
-"""An application with a fault: it is started again, and takes the block that it still has for want of memory."""
+"""An application with a fault: after a restart it still has its block, and mistakes the refusal of a new one for a lack of memory."""
 from __future__ import annotations
 
 from toarmuts import Call, Event, EventCode, Exit, HeapAlloc, HeapWrite, Refusal, Reply, Run, Stimulus, Wait
@@ -7,7 +7,7 @@ SIZE = 32
 
 
 class Journal:
-    """Keeps the last line of the serial line in a block of heap memory.
+    """Stores the last line of the serial line in a block of heap memory.
 
     The fault: what a process holds is there when it is started again, so that its block is refused as in use then; and it ends itself.
     """

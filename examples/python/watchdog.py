@@ -1,4 +1,4 @@
-"""An application with a fault: it stops a timer, and takes the event that the timer had posted before for a new one."""
+"""An application with a fault: it stops a timer, and mistakes the event that the timer had posted before for a new one."""
 from __future__ import annotations
 
 from toarmuts import Event, EventCode, Print, Run, TimerExpired, TimerReset, TimerRestart, TimerSet, Turns, Wait
@@ -8,7 +8,7 @@ PATIENCE = 8
 
 
 def watchdog(repaired: bool = False) -> Turns:
-    """Prints ``beat`` every five ticks, and ``dead`` where eight pass without one.
+    """Prints ``beat`` every five ticks, and ``dead`` if eight pass without one.
 
     The fault: where the clock jumps over both, the two events wait in the queue. ``beat`` sets the watchdog anew, but its event is
     delivered all the same.

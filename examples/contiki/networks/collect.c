@@ -9,7 +9,7 @@
 
 enum { BEACON, REPORT, TEXT = 32, ROOT = 1 };
 
-/* Of a beacon `by` is its number, and `hops` those of its sender; of a report `by` is the mote that made it. */
+/* In a beacon `by` is its number, and `hops` those of its sender; in a report `by` is the mote that made it. */
 struct message {
   uint8_t kind;
   uint8_t by;

@@ -1,4 +1,4 @@
-/* A line on the serial line is passed on to all, from mote to mote. Who knows a message already is silent: it has an origin and a number. */
+/* A line on the serial line is passed on to all, from mote to mote. A mote that knows a message, by its origin and number, is silent. */
 #include "contiki.h"
 #include "net/netstack.h"
 #include "net/nullnet/nullnet.h"

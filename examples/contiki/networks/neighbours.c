@@ -1,4 +1,4 @@
-/* Each mote says every second that it is there, and keeps a table of those that it hears. A line on the serial line prints the table. */
+/* Each mote sends a beacon every second, and has a table of those that it hears. A line on the serial line prints the table. */
 #include "contiki.h"
 #include "lib/list.h"
 #include "lib/memb.h"

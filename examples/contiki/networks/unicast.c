@@ -1,4 +1,4 @@
-/* Motes send what comes in on their serial line to mote 1, which prints it with its sender. */
+/* Motes send the lines of their serial line to mote 1, which prints each with its sender. */
 #include "contiki.h"
 #include "net/netstack.h"
 #include "net/nullnet/nullnet.h"
