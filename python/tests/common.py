@@ -66,7 +66,7 @@ def random_call(chance: random.Random) -> Call:
 
 
 def random_line(chance: random.Random, spoilt: float = 0.1) -> str:
-    """A line of a script, now and then one of no form."""
+    """A line of a script, now and then a malformed one."""
     hexes = "".join(chance.choice(["61", "0a", "0d", "F0", "80", "00"]) for _ in range(chance.randrange(1, 40)))
     kinds = [f"tick {chance.randrange(30)}", f"serial {hexes}", f"serial {hexes}0a", f"frame {hexes}", "# nothing", "tick 07"]
     return chance.choices(kinds, weights=[8, 4, 6, 6, 1, spoilt])[0]

@@ -145,11 +145,11 @@ def test_kinds_of_inputs():
 
 @pytest.mark.parametrize("make, fault, reason", [
     (lambda: networks("hello"), WrongType, "motes must be a list, not str"),
-    (lambda: networks([]), BadInput, "motes are lacking: at least one is needed"),
+    (lambda: networks([]), BadInput, "no motes: at least one is needed"),
     (lambda: networks(["hello"], max_size=0), BadNetwork, "max_size is 0; 1 to"),
     (lambda: network_inputs(0), BadNetwork, "motes is 0; 1 to"),
     (lambda: network_inputs(2, kinds=("frob",)), BadInput, "no kind of input 'frob'; there are tick, serial, text, frame"),
-    (lambda: network_inputs(2, kinds=()), BadInput, "kinds of inputs are lacking"),
+    (lambda: network_inputs(2, kinds=()), BadInput, "no kinds of inputs"),
     (lambda: losses(most_lot=65537), BadNetwork, "most_lot is 65537; 0 to 65,536 is allowed"),
     (lambda: make_network_case(["hello"]), WrongType, "the network of a case must be a Network, not list"),
     (lambda: make_network_case(Network(), "tick 1"), WrongType, "the script of a network's case must be a list of lines"),

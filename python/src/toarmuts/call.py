@@ -1,4 +1,4 @@
-"""What all calls of an application have in common; :mod:`toarmuts.calls` has a class for each."""
+"""The common part of all calls of an application; :mod:`toarmuts.calls` has a class for each."""
 from __future__ import annotations
 
 import re
@@ -17,7 +17,7 @@ MOST_NUMBER = 0xFFFF_FFFF
 # The module that has a class for each call.
 _CALLS = f"{__package__}.calls"
 MOST_CALLS = RULES.limits["calls_of_a_list"]
-# The number of calls that are kept by their words, before all are let go.
+# The number of calls that are stored by their words, before all are dropped.
 MOST_PARSED = 4096
 
 # kind, four numbers, the payload's kind and number, the number of bytes, and the bytes: struct toarmuts_call of toarmuts.h.
@@ -261,7 +261,7 @@ def is_count(word: str) -> bool:
 
 
 def _repeated(part: str) -> Sequence[Call]:
-    """A call, or several of it where a count comes first."""
+    """A call, or several of it after a count."""
     first, space, rest = part.partition(" ")
     if not space or not first[:1].isdigit():
         return [Call.parse(part)]

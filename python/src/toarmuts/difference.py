@@ -73,7 +73,7 @@ def _lines(told: TranscriptLike) -> list[str]:
 
 
 def first_difference(wanted: TranscriptLike, found: TranscriptLike) -> Difference | None:
-    """The first line in which two transcripts differ, or None where they are the same. Text, bytes, transcripts or runs are taken."""
+    """The first line in which two transcripts differ, or None if they are the same. They may be text, bytes, transcripts or runs."""
     ours, theirs = _lines(wanted), _lines(found)
     if ours == theirs:
         return None

@@ -180,7 +180,7 @@ def graph_links(graph: Any, motes: Sequence[int], delay: int, loss: Loss) -> Ite
 
 
 def _numbers_of(graph: Any, motes: Sequence[int]) -> dict[Any, int]:
-    """The mote of each node: that of its number, where all nodes are numbers of motes, or else that of its position among the nodes."""
+    """The mote of each node: by its number, if all nodes are numbers of motes, otherwise by its position among the nodes."""
     if not all(callable(getattr(graph, name, None)) for name in ("nodes", "edges", "is_directed")):
         raise WrongType(f"a graph must be one of networkx, not {type(graph).__name__}")
     nodes = list(graph.nodes())

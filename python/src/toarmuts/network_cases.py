@@ -1,4 +1,4 @@
-"""What a campaign runs of a network, and how that is made smaller."""
+"""The cases of a campaign with a network, and how they are made smaller."""
 from __future__ import annotations
 
 import re
@@ -21,7 +21,7 @@ _SETS_UP = ("link ", "mote ", "room ", "rounds ")
 
 @dataclass(frozen=True)
 class NetworkCase:
-    """What is run: motes with their links, and the lines of a script."""
+    """A case: motes with their links, and the lines of a script."""
 
     setup: NetworkSetup
     script: tuple[str, ...] = ()
@@ -56,7 +56,7 @@ class NetworkCase:
 
 
 def make_network_case(network: Network, script: Sequence[str] = ()) -> NetworkCase:
-    """A case of a network, which is run anew, and a list of lines."""
+    """A case of a network, which is started again for each run, and a list of lines."""
     if not isinstance(network, Network):
         raise WrongType(f"the network of a case must be a Network, not {type(network).__name__}")
     if isinstance(script, (str, bytes)) or not isinstance(script, Sequence) or not all(isinstance(line, str) for line in script):

@@ -35,7 +35,7 @@ def check_mote(setup: NetworkSetup, number: object) -> int:
 
 
 def run_of_mote(mote: MoteSetup, transcript: Transcript) -> Run:
-    """A mote's part of a run, as a run of its own, whose script has the inputs that it received."""
+    """A mote's part of a run, as a run whose script has the inputs that it received."""
     script = b"".join(line[2:] for line in transcript.data.splitlines(keepends=True) if line.startswith(b"> "))
     status = Status.HALTED if transcript.data.endswith(_HALT) else Status.FINISHED
     return Run(mote.named, script, mote.options, status, None, transcript)
@@ -81,7 +81,7 @@ class NetworkRun:
         return self.transcript.data.decode("ascii")
 
     def mote(self, number: int) -> Run:
-        """A mote's part, as a run of its own, whose script has the inputs that the mote received."""
+        """A mote's part, as a run whose script has the inputs that the mote received."""
         mote = check_mote(self.setup, number)
         return run_of_mote(self.setup.motes[mote - 1], self.transcript.mote(mote))
 

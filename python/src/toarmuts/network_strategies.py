@@ -56,7 +56,7 @@ def networks(motes: Iterable[MoteLike], *, max_size: int = 5, max_delay: int = 1
         raise WrongType(f"motes must be a list, not {type(motes).__name__}")
     given = list(motes)
     if not given:
-        raise BadInput("motes are lacking: at least one is needed")
+        raise BadInput("no motes: at least one is needed")
     most = check_number("max_size", max_size, 1, MOST_NUMBER)
 
     def with_links(chosen: list[MoteLike]) -> SearchStrategy[Network]:
@@ -70,7 +70,7 @@ def network_inputs(motes: int, *, kinds: Sequence[str] = KINDS, max_ticks: int =
     numbers = st.integers(1, check_number("motes", motes, 1, MOST_NUMBER))
     unknown = next((kind for kind in kinds if kind not in KINDS), None)
     if unknown is not None or not kinds:
-        raise BadInput(f"no kind of input {unknown!r}; there are {', '.join(KINDS)}" if kinds else "kinds of inputs are lacking")
+        raise BadInput(f"no kind of input {unknown!r}; there are {', '.join(KINDS)}" if kinds else "no kinds of inputs")
     texts = st.text("abcdefgh 0123", max_size=12).map(text_line)
     lines = {"serial": st.binary(min_size=1, max_size=130).map(serial_line), "text": texts, "frame": frames().map(frame_line)}
     known = {kind: st.builds(line_of_mote, numbers, line) for kind, line in lines.items()}

@@ -29,7 +29,7 @@ class NetworkKind(enum.Enum):
     FULL = "full"
     """A frame found no room in flight."""
     MISSED = "missed"
-    """A frame, or an input from outside, came to a mote that was halted."""
+    """A frame, or an input from outside, arrived at a mote that was halted."""
     HALT = "halt"
     """The last input took all its rounds."""
     BAD_LINE = "bad line"
@@ -261,8 +261,8 @@ class Sent(NamedTuple):
 
 
 class Progress:
-    """How far a network's transcript has come, and the lines of each mote. It never changes: after more lines there is another one, so an
-    interrupt leaves the one or the other."""
+    """The state of a network's transcript, and the lines of each mote. It never changes: more lines make a new one, so an interrupt
+    leaves the old or the new one."""
 
     def __init__(self) -> None:
         self.pieces = self.lines = self.clock = 0
@@ -271,7 +271,7 @@ class Progress:
         self._chains: dict[int, Chain] = {}
 
     def after(self, data: bytes, pieces: int) -> "Progress":
-        """That after more whole lines, with which there are as many pieces."""
+        """The state after more whole lines, which make this number of pieces."""
         made = Progress()
         made.pieces, made.lines, made.clock, made.sent = pieces, self.lines, self.clock, self.sent
         made.places, made._chains = dict(self.places), dict(self._chains)
@@ -285,7 +285,7 @@ class Progress:
         return made
 
     def _add(self, mote: int, line: bytes) -> None:
-        """Takes a line of a mote."""
+        """Adds a line of a mote."""
         self._chains[mote] = Chain(self._chains.get(mote), line)
         lines, clock = self.places.get(mote, Place())
         self.places[mote] = Place(lines + 1, clock + (int(line[len(_TICK):]) if line.startswith(_TICK) else 0))

@@ -46,7 +46,7 @@ def _several(what: str, given: Iterable[Any]) -> list[Any]:
         raise WrongType(f"{what} must be a list, not {type(given).__name__}")
     made = list(given)
     if not made:
-        raise BadInput(f"{what} are lacking: at least one is needed")
+        raise BadInput(f"no {what}: at least one is needed")
     return made
 
 
