@@ -13,7 +13,7 @@ OF_MOTE = [name for name in RULES["applications"] if name not in RULES["not_of_m
 
 
 def letter(argument: str) -> str:
-    """An argument's letter: s for a number that fits in a byte, n for one of 32 bits, p for what an event carries, b for bytes."""
+    """An argument's letter: s for a number that fits in a byte, n for one of 32 bits, p for the data of an event, b for bytes."""
     return {"payload": "p", "data": "b"}.get(argument) or {255: "s", 4294967295: "n"}[ARGUMENTS[argument]["most"]]
 
 

@@ -12,7 +12,7 @@ COMMENT_OR_LITERAL = re.compile(r"//.*|\"(?:\\.|[^\"\\])*\"|'(?:\\.|[^'\\])'")
 
 
 def parts(text: str, between: str) -> List[str]:
-    """The parts of a text between the places where this character stands outside of all brackets."""
+    """The parts of a text between the positions of this character outside of all brackets."""
     found, depth = [""], 0
     for letter in text:
         depth += (letter in "([{") - (letter in ")]}")
@@ -24,7 +24,7 @@ def parts(text: str, between: str) -> List[str]:
 
 
 def behind_brace(text: str, begin: int) -> int:
-    """The place behind the brace that closes one that stood before this place."""
+    """The position after the brace that closes one before this position."""
     depth, at = 1, begin
     while depth > 0:
         depth += (text[at] == "{") - (text[at] == "}")

@@ -27,7 +27,7 @@ def pytest_configure(config: pytest.Config) -> None:
 
 
 def pytest_collection_modifyitems(config: pytest.Config, items: list[pytest.Item]) -> None:
-    """Tests that take a library for C come last but for those that take what is made of its module."""
+    """Puts tests that need a library for C last, and after them those that need its module."""
     if not config.getoption("--whole"):
         items[:] = [item for item in items if item.get_closest_marker("whole") is None]
     items.sort(key=lambda item: max((turn for turn, names in enumerate(BUILT_LAST, 1) if not names.isdisjoint(fixtures_of(item))),
@@ -35,7 +35,7 @@ def pytest_collection_modifyitems(config: pytest.Config, items: list[pytest.Item
 
 
 def fixtures_of(item: pytest.Item) -> list[str]:
-    """The names of the fixtures that a test takes."""
+    """The names of the fixtures that a test needs."""
     return list(getattr(item, "fixturenames", ()))
 
 
@@ -80,7 +80,7 @@ def network_picture() -> Path:
 
 @pytest.fixture(scope="session")
 def toarmuts_library(shared: Path) -> Path:
-    """A folder with the library for C as it stands in crates/toarmuts: toarmuts.h, toarmuts_memory.c and libtoarmuts.a."""
+    """A folder with the library for C of crates/toarmuts: toarmuts.h, toarmuts_memory.c and libtoarmuts.a."""
     def gather(folder: Path) -> None:
         folder.mkdir(exist_ok=True)
         shutil.copy2(library("toarmuts"), folder)
@@ -91,7 +91,7 @@ def toarmuts_library(shared: Path) -> Path:
 
 @pytest.fixture(scope="session")
 def modules_library(shared: Path) -> Path:
-    """A folder with the archive of the memory modules for C as it stands in crates/modules_c: libmodules_c.a."""
+    """A folder with the archive of the memory modules for C of crates/modules_c: libmodules_c.a."""
     def gather(folder: Path) -> None:
         folder.mkdir(exist_ok=True)
         shutil.copy2(library("modules_c"), folder)

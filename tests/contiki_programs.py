@@ -1,4 +1,4 @@
-"""Programs in C of Contiki-NG's kind: how tests write, build and run them."""
+"""Programs in C for Contiki-NG: how tests write, build and run them."""
 from __future__ import annotations
 
 import re
@@ -55,7 +55,7 @@ def transcript_of(source: Path) -> bytes:
 
 
 def place(process: str, stimulus: str, line: int, calls: object) -> str:
-    """How the place is named at which a process is stopped."""
+    """The text that names where a process is stopped."""
     return f"contiki: process {process}, handling {stimulus} at line {line} of the transcript, after {calls} calls: "
 
 
@@ -71,7 +71,7 @@ def messages(text: bytes) -> list[str]:
 
 @dataclass
 class Contiki:
-    """The command `contiki` over a library, and a folder for what is built once."""
+    """The command `contiki` over a library, and a folder for programs that are built once."""
 
     library: Path
     room: Path
@@ -82,7 +82,7 @@ class Contiki:
         return run(ROOT / "contiki", "--library", self.library, *words, stdin=stdin, settings=settings, cwd=cwd)
 
     def build(self, source: Path, compiler: str = "gcc", *words: str) -> Path:
-        """Builds a program, of one source or of a folder's, once. There is no warning, of the driver neither."""
+        """Builds a program, from one source or from those of a folder, once. There is no warning, also none in the driver."""
         name = "-".join([source.stem, compiler, *(word.strip("-") for word in words)])
 
         def make(program: Path) -> None:

@@ -23,7 +23,7 @@ class ScriptError(AssertionError):
 
 
 class NoAnswer(RuntimeError):
-    """Chromium doesn't answer, or refuses a command."""
+    """Chromium doesn't reply, or refuses a command."""
 
 
 def chromium() -> str:
@@ -32,7 +32,7 @@ def chromium() -> str:
 
 
 class Browser:
-    """A running Chromium with a profile of its own. Use it in ``with``."""
+    """A running Chromium with its own profile. Use it in ``with``."""
 
     def __init__(self, folder: Path) -> None:
         # A frame that is in the page's own process can be asked, too.

@@ -25,7 +25,7 @@ def picture(words: Sequence[str], transcript: str) -> Completed:
 
 
 def template_parts() -> tuple[str, str]:
-    """What stands before a page's data and behind them, by the files that the source is made of."""
+    """The texts before and after a page's data, from the files that the source is made of."""
     page = (WEB / "page.html").read_text(encoding="utf-8")
     for place, name in (("@STYLE@\n", "page.css"), ("@SCRIPT@\n", "page.js")):
         page = page.replace(place, (WEB / name).read_text(encoding="utf-8"))
@@ -119,7 +119,7 @@ def marks_wanted(state: State, lines: Sequence[str]) -> dict[str, Any]:
 
 
 def first_difference(told: Told, wanted: Told) -> str:
-    """The first line of which something else is told, and what; nothing where all is the same."""
+    """The first line with another description, and that description; nothing if all are the same."""
     for line, (own, other) in enumerate(zip(told, wanted)):
         for key, value in other.items():
             if own.get(key) != value:

@@ -26,7 +26,7 @@ COMMENT_OR_ATTRIBUTE = re.compile(r"//.*|^\s*#\[.*\]$", re.M)
 
 
 class Row(NamedTuple):
-    """A row of the page: the crate of its heading, the type or trait that a call belongs to (empty for all else), and the signature."""
+    """A row of the page: the crate of its heading, the type or trait that a call belongs to (empty for others), and the signature."""
 
     crate: str
     owner: str

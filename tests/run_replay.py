@@ -1,4 +1,4 @@
-"""What holds at each line of a transcript, carried out again from the rules in docs/profile.md.
+"""The state at each line of a transcript, computed again from the rules in docs/profile.md.
 
 A line stands for the moment at which its call is carried out. Numbers of lines begin at 0. Where heap blocks lie isn't told here: that
 depends on how gaps are chosen, and what a run's answers to heap-stats tell is enough to compare with.
@@ -52,7 +52,7 @@ TimerName = tuple[int, str, int]
 
 @dataclasses.dataclass
 class Broadcast:
-    """A broadcast that is being told: the event, the line that posts it, and who was told."""
+    """A broadcast that is being delivered: the event, the line that posts it, and the processes that received it."""
 
     event: str
     line: int
@@ -83,13 +83,13 @@ class State:
 
 
 def turn_in(line: str) -> Turn | None:
-    """The turn that a line tells, if it tells one."""
+    """The turn of a line, if it is one."""
     told = TURN.fullmatch(line)
     return Turn(int(told[1]), told[2], told[3], told[4]) if told else None
 
 
 def answers_in(lines: list[str]) -> list[int | None]:
-    """For each line the one that tells the answer to its call: its process's next turn, where that tells an answer."""
+    """For each line the one with the reply to its call: its process's next turn, if that has a reply."""
     answers: list[int | None] = [None] * len(lines)
     awaited: dict[int, int] = {}
     for number, line in enumerate(lines):
@@ -102,7 +102,7 @@ def answers_in(lines: list[str]) -> list[int | None]:
 
 
 class Replay:
-    """Carries out the lines of a transcript, one after the other."""
+    """Executes the lines of a transcript, one after the other."""
 
     def __init__(self, lines: list[str]) -> None:
         self.lines = lines
@@ -166,7 +166,7 @@ class Replay:
             self.carry_out(number, turn, told.stimulus)
 
     def take_stimulus(self, turn: Turn) -> None:
-        """What a process is told that isn't an answer."""
+        """What a process receives other than a reply."""
         state = self.state
         if turn.stimulus.startswith("129 "):
             state.alive.append(turn.pid)
@@ -183,7 +183,7 @@ class Replay:
             self.take_event(turn)
 
     def take_event(self, turn: Turn) -> None:
-        """An event that is told left the queue, and so did those before it."""
+        """An event that is received has left the queue, and so have those before it."""
         if self.broadcast and self.broadcast.event == turn.stimulus and turn.pid not in self.broadcast.told:
             self.broadcast.told.append(turn.pid)
             self.state.posted = self.broadcast.line
@@ -228,7 +228,7 @@ class Replay:
             self.change_pools(word, turn.pid, numbers, answer)
 
     def exits_itself(self, number: int, pid: int) -> bool:
-        """Whether a process that is killed in a line answers the EXIT that it is given with `exit`: then it ends there."""
+        """Whether a process that is killed in a line calls `exit` at its EXIT event: then it ends there."""
         answer = self.answers[number]
         turns = [turn_in(line) for line in self.lines[number:answer]]
         return any(turn and (turn.pid, turn.call) == (pid, "exit") for turn in turns)

@@ -61,7 +61,7 @@ class Tree:
             opened.write(text)
 
     def take_back(self, name: str) -> None:
-        """Takes the last line of a crate's source away."""
+        """Removes the last line of a crate's source."""
         lines = self.source(name).read_text(encoding="utf-8").splitlines(keepends=True)
         self.source(name).write_text("".join(lines[:-1]), encoding="utf-8")
 
@@ -81,7 +81,7 @@ class Tree:
         return self.ran
 
     def start(self, script: str, settings: dict[str, str], stdin: IO[bytes] | int = subprocess.DEVNULL) -> subprocess.Popen[bytes]:
-        """Begins a script of the tree, in a group of its own, with no signal passed over."""
+        """Starts a script of the tree, in a new process group, with no signal ignored."""
         command = ["env", "--default-signal=INT,TERM,HUP", str(self.root / script)]
         return subprocess.Popen(command, stdin=stdin, stdout=subprocess.PIPE, stderr=subprocess.PIPE, start_new_session=True,
                                 env={**os.environ, **self.settings(**settings)})
@@ -99,7 +99,7 @@ class Tree:
         return self.began.read_text(encoding="utf-8").split() if self.began.exists() else []
 
     def kept(self, name: str) -> list[str]:
-        """What a crate's kept work tells."""
+        """The content of a crate's stored work."""
         return (self.crate(name) / "out/incremental/kept").read_text(encoding="utf-8").split()
 
     @property
@@ -109,7 +109,7 @@ class Tree:
 
     @property
     def stderr(self) -> str:
-        """What the last script told."""
+        """What the last script reported."""
         return self.ran.stderr.decode()
 
     def is_unproved(self) -> bool:
@@ -117,7 +117,7 @@ class Tree:
         return self.ran.returncode == 0 and "this run is unproved" in self.stderr and "proves and builds" in self.stderr
 
     def is_proved(self, *words: str) -> bool:
-        """Whether the last run was one of the built program, which ends with 3, whatever it is given."""
+        """Whether the last run was one of the built program, which always ends with 3."""
         return (self.ran.returncode, self.stdout.partition("\n")[0], self.stderr) == (3, f"proved {' '.join(words)}", "")
 
     def mote(self) -> Completed:
@@ -131,7 +131,7 @@ class Tree:
         return self.ran
 
     def is_clean(self) -> bool:
-        """Whether nothing that was begun goes on, and what is left stands where rt has it."""
+        """Whether no started process runs any more, and the stored work is where rt has it."""
         left = [path for pattern in ("*.rt", "crates.txt") for path in self.root.rglob(pattern)
                 if "out" in path.relative_to(self.root).parts and "rlib" not in path.parts]
         mark = f"PWD={self.root}/.git".encode()

@@ -85,7 +85,7 @@ def room(shared: Path, modules_library: Path) -> Path:
 
 
 def archive(room: Path, name: str, core: str) -> Path:
-    """The library for a core, whose module is kept once."""
+    """The library for a core, whose module is stored once."""
     def make(place: Path) -> None:
         shutil.copy2(succeed(ROOT / "scripts/for-cortex-m", name, core, timeout=1800).strip(), place)
     return once(room / f"{name}-{core}.a", make)
@@ -110,7 +110,7 @@ def modules_of(room: Path, core: str) -> tuple[list[str], list[str]]:
 
 
 def compile_for(board: Board, core: str, program: Path, sources: list[str | Path], libraries: list[str | Path]) -> None:
-    """Compiles a program for a board. There are no threads, so what a thread has of its own is a static variable."""
+    """Compiles a program for a board. There are no threads, so thread-local variables are static ones."""
     words = ["arm-none-eabi-gcc", *PROCESSOR[core], *WARNINGS, "-Os", "-ffunction-sections", "-fdata-sections", "--specs=nano.specs",
              "--specs=rdimon.specs", "-D_Thread_local=", "-DNO_THREADS", f"-I{BOARD}", f"-I{HERE / 'boards'}", f"-I{HERE / 'c'}"]
     succeed(*words, *sources, BOARD / "startup.c", *board.linking, *libraries, "-o", program)
@@ -126,7 +126,7 @@ def run_on(board: Board, program: Path, *words: str | Path, timeout: float = 180
 
 @dataclass(frozen=True)
 class ModuleTest:
-    """A test of the memory modules, the options that it wants, and the words that it is run with."""
+    """A test of the memory modules, the options that it needs, and its arguments."""
 
     source: Path
     options: tuple[str, ...] = ()
@@ -198,7 +198,7 @@ FEW_BLOCKS = ModuleTest(HERE / "boards/few_blocks.c", ("-DHEAPMEM_CONF_ARENA_SIZ
 
 @pytest.mark.parametrize("core", ["here", "cortex-m0"])
 def test_few_blocks(room: Path, core: str) -> None:
-    """Three blocks of the heap, then a refusal; a full table takes all but another block. Two managed blocks likewise."""
+    """Three blocks of the heap, then a refusal; a full table allows all except another block. Two managed blocks likewise."""
     program = compile_module_test(room, FEW_BLOCKS, core, None if core == "here" else MICROBIT)
     told = succeed(program) if core == "here" else run_on(MICROBIT, program)
     assert told == "11101111\n3 chunks\n1101\n"
@@ -223,7 +223,7 @@ def test_example(room: Path, core: str) -> None:
     assert succeed(*words, "run", cwd=copied) == NODE_TEXT
 
 
-# What a build of Contiki-NG's kind has of its own: an archive whose members define the modules' calls, one a module.
+# What a build as Contiki-NG's has: an archive whose members define the modules' calls, one a module.
 OWN_MODULES = {
     "memb": "memb_init memb_alloc memb_free memb_inmemb memb_numfree",
     "ringbuf": "ringbuf_init ringbuf_put ringbuf_get ringbuf_size ringbuf_elements",
@@ -235,7 +235,7 @@ OWN_MODULES = {
 
 
 def test_linking_before_another_archive(room: Path, tmp_path: Path) -> None:
-    """The library comes before the build's own archive: no member of that with the same calls is taken."""
+    """The library is before the build's archive: no member of that with the same calls is linked."""
     flags, libraries = modules_of(room, "cortex-m3")
     objects = []
     for name, calls in OWN_MODULES.items():
@@ -315,7 +315,7 @@ KERNEL_TESTS = [("library_test", ("5000",), True), ("steps_test", ("5000", "100"
 
 @pytest.mark.parametrize(("name", "words", "has_memory"), KERNEL_TESTS, ids=[it[0] for it in KERNEL_TESTS])
 def test_kernel_tests(room: Path, kernel: Path, toarmuts_library: Path, name: str, words: tuple[str, ...], has_memory: bool) -> None:
-    """The library's own tests: worked answers, random calls, random runs step by step beside whole ones, refused memory."""
+    """The library's tests: worked replies, random calls, random runs step by step beside whole ones, refused memory."""
     source, here = HERE / f"c/{name}.c", room / f"{name}-here"
     told = run_on(KERNEL_BOARD, compile_kernel_test(room, kernel, source, has_memory), *words)
     memory = [MEMORY_CALLS] if has_memory else []

@@ -45,13 +45,13 @@ def possible_cells() -> Iterator[str]:
 
 
 def answer_shown(answer: str) -> str:
-    """What an answer counts as."""
+    """The kind of a reply."""
     kind, _, value = answer.partition(" ")
     return value if kind in ("refused", "flag") else kind
 
 
 def event_cells(origin: str, stimulus: str) -> Iterator[str]:
-    """The cells that an event shows by its way, and by what it carries where an application chose that."""
+    """The cells that an event shows by its origin, and by its data if an application chose that."""
     if origin == "callback":
         yield "callback: expiry"
         return
@@ -63,7 +63,7 @@ def event_cells(origin: str, stimulus: str) -> Iterator[str]:
 
 
 def shown_cells(transcript: str) -> Iterator[str]:
-    """What a transcript shows. A process awaits the answer to one call at most."""
+    """What a transcript shows. A process awaits the reply to one call at most."""
     awaited: dict[str, str] = {}
     for line in transcript.splitlines():
         turn = TURN.fullmatch(line)
@@ -83,7 +83,7 @@ def shown_cells(transcript: str) -> Iterator[str]:
 
 @functools.lru_cache(maxsize=None)
 def shown() -> dict[str, str]:
-    """What the stored transcripts show, each with one of them. A quiet one lacks turns, so what an answer there answers isn't known."""
+    """What the stored transcripts show, each with one of them. In a quiet one turns are missing, so the call of a reply isn't known."""
     runs = [stored_run(name) for name in ALL]
     return {cell: run.name for run in runs if not run.is_quiet for cell in shown_cells(run.transcript)}
 

@@ -1,4 +1,4 @@
-"""Programs in C of Contiki-NG's kind, on the proved mote: examples and applications, with all warnings and the sanitizers.
+"""Programs in C for Contiki-NG, on the proved mote: examples and applications, with all warnings and the sanitizers.
 
 The expected transcripts and texts are written out from the rules. The applications of mote in C, and random lists of calls, are compared
 with the run that toarmuts_run makes.
@@ -38,7 +38,7 @@ def test_example(contiki: Contiki, sanitizing_compiler: str, source: Path) -> No
 
 
 def test_each_source_is_tried() -> None:
-    """No source lies there that has no script; three are for other tests."""
+    """Each source there has a script; three are for other tests."""
     assert {path.stem for path in SOURCES.glob("*.c")} - {path.stem for path in FURTHER_SOURCES} == {"lists", "reference", "spins"}
 
 
@@ -135,7 +135,7 @@ def compare(name: str, built: Path, reference: Path, applications: str, chance: 
 
 @pytest.mark.parametrize("name", OF_MOTE)
 def test_application_of_mote(contiki: Contiki, reference: Path, tmp_path: Path, name: str) -> None:
-    """An application of mote in C comes out as mote's own, over random scripts."""
+    """An application of mote in C has the same transcripts as mote's, with random scripts."""
     built = contiki.build(EXAMPLES / f"contiki/mote/{name}.c", "gcc", "--sanitize")
     for seed in range(RUNS_OF_APPLICATION):
         compare(f"{name}{seed}", built, reference, name, random.Random(f"{name} {seed}"), tmp_path)
@@ -143,7 +143,7 @@ def test_application_of_mote(contiki: Contiki, reference: Path, tmp_path: Path, 
 
 @pytest.mark.parametrize("first", range(0, RUNS_OF_LISTS, PART))
 def test_lists_of_calls(contiki: Contiki, reference: Path, tmp_path: Path, first: int) -> None:
-    """Random lists of calls come out as by toarmuts_run."""
+    """Random lists of calls have the same transcripts as by toarmuts_run."""
     built = contiki.build(SOURCES / "lists.c", "gcc", "--sanitize")
     for seed in range(first, first + PART):
         chance = random.Random(seed)
@@ -152,7 +152,7 @@ def test_lists_of_calls(contiki: Contiki, reference: Path, tmp_path: Path, first
 
 @pytest.mark.parametrize("source", EXAMPLE_SOURCES, ids=lambda source: str(source.stem))
 def test_picture_of_example(contiki: Contiki, mote_picture: Path, source: Path) -> None:
-    """The examples' pictures, with the names of their processes as the programs tell them."""
+    """The examples' pictures, with the names of their processes from the programs."""
     names = run(contiki.build(source, "gcc", "--sanitize"), "--names").stdout.decode().splitlines()
     assert names == re.findall(r'PROCESS\(\w+, "(.*)"\)', source.read_text(encoding="utf-8"))
     assert run(mote_picture, "--", *names, stdin=transcript_of(source)).stdout == source.with_suffix(".svg").read_bytes()

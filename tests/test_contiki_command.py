@@ -27,7 +27,7 @@ ANNOTATED = "#define LOG_LEVEL 0\n" + program_of('LOG_ANNOTATE("#L %d\\n", 5); p
 
 
 class Case(NamedTuple):
-    """Arguments, of which one of several lines is a source's text; a script; the status, what is written, and a pattern of what is told."""
+    """Arguments, of which one of several lines is a source's text; a script; the status, the output, and a pattern of the message."""
     words: list[Word]
     script: bytes = b""
     status: int = 0
@@ -36,12 +36,12 @@ class Case(NamedTuple):
 
 
 def refused(words: list[Word], why: str, status: int = 64) -> Case:
-    """What is refused is refused by one line."""
+    """A refusal is reported in one line."""
     return Case(words, b"", status, "", re.escape(f"contiki: {why}\n"))
 
 
 def without_effect(setting: str, source: Path, why: str) -> Case:
-    """Of a setting of Contiki-NG's that changes nothing the reason is told."""
+    """A setting of Contiki-NG that changes nothing is reported with the reason."""
     return Case([f"-D{setting}", source], b"", 0, None, f"(?s:.*){why}: {setting.split('=')[0]} changes nothing(?s:.*)")
 
 
@@ -130,7 +130,7 @@ def blinker(contiki: Contiki) -> Path:
     (b"\xef\xbb\xbftick 1\n", 1, "begins with a byte order mark"),
 ], ids=["frob", "Windows", "mark"])
 def test_malformed_line(blinker: Path, script: bytes, line: int, why: str) -> None:
-    """A malformed line ends the transcript, and the reason is told, in one line."""
+    """A malformed line ends the transcript, and the reason is reported in one line."""
     whole, text = run(blinker, stdin=script), run(blinker, "--text", stdin=script)
     assert (whole.returncode, text.returncode, text.stdout, text.stderr) == (2, 2, b"", whole.stderr), told(whole)
     assert whole.stdout.endswith(f"\nbad line {line}\n".encode()), told(whole)
@@ -165,7 +165,7 @@ def test_arguments_of_the_program(blinker: Path, case: Case) -> None:
 
 
 def test_lines_are_written_before_more_is_read(blinker: Path) -> None:
-    """What is written as far as it has come, before more is read."""
+    """The transcript so far is written before more of the script is read."""
     with subprocess.Popen([blinker], stdin=subprocess.PIPE, stdout=subprocess.PIPE) as ran:
         assert ran.stdin is not None and ran.stdout is not None
         for line, wanted in ((b"", [b"4 synch 129 - -> timer-set 0 128\n", b"4 answer done -> wait\n"]), (b"tick 1\n", [b"> tick 1\n"])):
@@ -224,13 +224,13 @@ def tree(toarmuts_library: Path, tmp_path: Path) -> Path:
     (0, Path("/"), Case([], status=5, out=None, why="contiki: read failed\n")),
 ], ids=["current", "not current", "a folder as script"])
 def test_library_of_a_tree(tree: Path, current: int, script: Path, case: Case) -> None:
-    """Without --library the command takes that of crates/toarmuts, if it is of the sources as they are. ./prove doesn't see the script."""
+    """Without --library the command uses that of crates/toarmuts, if it is current. ./prove doesn't read the script."""
     write_program(tree / "prove", f'#!/bin/bash\n[[ "$*" == "--is-current toarmuts" && ! -d /dev/stdin ]] && exit {current}\nexit 1\n')
     check(run("bash", "-c", '"$0" "$1" < "$2"', tree / "contiki", HELLO, script), case)
 
 
 def test_driver_that_a_release_keeps(tree: Path, toarmuts_library: Path, tmp_path: Path) -> None:
-    """What a release compiles of the driver is kept in the user's folder, where there may be one. What wasn't taken for long is removed."""
+    """A release stores its compiled driver in the user's cache folder, if there is one. A driver that wasn't used for long is removed."""
     (tree / "library").symlink_to(toarmuts_library)
     (tmp_path / "file").touch()
     cache = tmp_path / "cache/toarmuts"
@@ -326,7 +326,7 @@ def test_debugger_without_a_terminal(contiki: Contiki) -> None:
 
 
 def test_debugger_from_a_terminal(contiki: Contiki, tmp_path: Path) -> None:
-    """From a terminal gdb is started for the program and its arguments. Here a stand-in tells these."""
+    """From a terminal gdb is started for the program and its arguments. Here a stand-in prints these."""
     write_program(tmp_path / "gdb", '#!/bin/bash\necho "$1 $2 ${@:4:3} ${@: -1}" >"${0%/*}/told"\n')
     words = [str(ROOT / "contiki"), "--library", str(contiki.library), "--gdb", "--quiet", "--heap", "64", str(HELLO)]
     settings = {**without("GDB"), "PATH": f"{tmp_path}:{os.environ['PATH']}"}

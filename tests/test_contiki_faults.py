@@ -1,4 +1,4 @@
-"""Programs in C that go beyond a limit, misuse memory or are interrupted: each is stopped with its process and the place named."""
+"""Programs in C that go beyond a limit, misuse memory or are interrupted: the message names the process and the line."""
 from __future__ import annotations
 
 import re
@@ -15,7 +15,7 @@ SCRIPT = b"tick 1\nserial 0a\n"
 
 
 def faulty(stimulus: str, line: int, calls: int, what: str, process: str = "4 (Faulty)") -> str:
-    """What is told where a program of tests/c/contiki/faults is stopped."""
+    """The message where a program of tests/c/contiki/faults is stopped."""
     return place(process, stimulus, line, calls) + what
 
 
@@ -25,12 +25,12 @@ def at_init(calls: int, what: str) -> str:
 
 
 def greedy(calls: int, what: str) -> str:
-    """What is told where a program is stopped that takes more than there is."""
+    """The message where a program that needs more than there is is stopped."""
     return faulty("INIT (129)", 1, calls, what, "4 (Greedy)")
 
 
 def only(stimulus: str, line: int, calls: int, what: str) -> str:
-    """What is told where the process of a short program is stopped."""
+    """The message where the process of a short program is stopped."""
     return faulty(stimulus, line, calls, what, "4 (Only)") + "\n"
 
 
@@ -100,13 +100,13 @@ STOPPED = {
 
 
 def test_each_fault_is_tried() -> None:
-    """No source lies there that the table lacks."""
+    """The table has each source there."""
     assert sorted(FAULTS) == sorted(path.stem for path in (SOURCES / "faults").glob("*.c"))
 
 
 @pytest.mark.parametrize("name", FAULTS)
 def test_fault(contiki: Contiki, name: str) -> None:
-    """A program that is stopped says why, and its transcript is kept up to there."""
+    """A program that is stopped says why, and its transcript up to there is written."""
     status, report, what = FAULTS[name]
     ran = run(contiki.build(SOURCES / f"faults/{name}.c", "gcc", *([] if name in PLAIN else ["--sanitize"])), stdin=SCRIPT)
     assert ran.returncode == status and re.search(f"{report}(?s:.*){re.escape(what)}", ran.stderr.decode()), told(ran)
@@ -119,7 +119,7 @@ def test_fault(contiki: Contiki, name: str) -> None:
 
 @pytest.mark.parametrize("asks", ["heapmem_alloc(4096)", "mmem_alloc(&large, 4097)"])
 def test_late_block(contiki: Contiki, asks: str) -> None:
-    """What depends on a block that is given back later isn't answered."""
+    """Figures that depend on a block that is freed later aren't returned."""
     ran = contiki(f"-DASKS={asks}", SOURCES / "faults/late_block.c", stdin=b"tick 1\n")
     assert ran.returncode == 1 and b"after 1 calls: a block was freed during an activation of its owner" in ran.stderr, told(ran)
 

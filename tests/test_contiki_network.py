@@ -100,7 +100,7 @@ def test_a_hundred_motes(runner: Runner) -> None:
 
 @pytest.mark.parametrize("words", [*COPIES, ["-fcommon", "-fdata-sections"]], ids=["swapped", "copies", "other sections"])
 def test_static_data(runner: Runner, words: list[str]) -> None:
-    """Each mote has static data of its own: those of its program, of the driver and of modules."""
+    """Each mote has its own static data: those of its program, of the driver and of modules."""
     script = "1 serial 610a\n2 serial 620a\n1 serial 630a\n3 serial 640a\n1 serial 650a\n2 serial 660a\n"
     lines = runner.text("mote 1..3 own_data.c\n", [OWN / "own_data.c"], script, *words)
     counts = {1: "", 2: "", 3: ""}
@@ -171,7 +171,7 @@ FRAMES: dict[str, tuple[str, list[str]]] = {
 
 
 def test_frames_from_outside(runner: Runner) -> None:
-    """What is for a mote is given to it without its header, what is for another one is dropped, and what has no header is given whole."""
+    """A frame for a mote is delivered without its header, one for another mote is dropped, and one without a header is delivered whole."""
     script = "".join(f"1 frame {frame.replace(' ', '')}\n" for frame, _ in FRAMES.values())
     lines = runner.text("mote 1 node.c\n", [OWN / "node.c"], script)
     assert lines[1:] == [line for _, wanted in FRAMES.values() for line in wanted]
@@ -366,7 +366,7 @@ def test_refused_arguments(contiki: Contiki, tmp_path: Path, words: list[Word], 
 
 
 def test_names_of_sources(runner: Runner, tmp_path: Path) -> None:
-    """A word is a source's path or its last part; of two with this last part the path must be given."""
+    """A word is a source's path or its last part; if two have this last part, it must be the path."""
     text = HELLO.read_text(encoding="utf-8")
     for folder in ("one", "two"):
         (tmp_path / folder).mkdir()
@@ -413,7 +413,7 @@ FAULTS = {
 
 @pytest.mark.parametrize("fault", FAULTS)
 def test_fault(runner: Runner, fault: str) -> None:
-    """Where a mote crashes or goes beyond a limit, the run ends, and the mote is named. What it printed is kept."""
+    """Where a mote crashes or goes beyond a limit, the run ends, and the mote is named. What it printed is written."""
     status, why = FAULTS[fault]
     ran = runner(FAULTY, [OWN / "faulty.c"], "1 serial 0a\n2 serial 0a\n3 serial 0a\n", "--text", f"-DFAULT={fault}")
     assert outcome(ran) == (status, BEGUN, AT + why + "\n")

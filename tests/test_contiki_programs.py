@@ -34,7 +34,7 @@ def has_crypto(compiler: str) -> bool:
 
 
 def test_each_program_is_tried() -> None:
-    """No source lies there that the tables lack."""
+    """The tables have each source there."""
     there = [str(path.relative_to(FOLDER).with_suffix("")) for path in FOLDER.glob("**/*.c")]
     assert sorted((*PLAIN_PROGRAMS, *WITH_MODULES)) == sorted(there)
 
@@ -62,7 +62,7 @@ def test_program(contiki: Contiki, compiler: str, name: str) -> None:
     (b"", False, "contiki: no unit test was run\n"),
 ], ids=["failed", "none"])
 def test_failed_unit_test(contiki: Contiki, script: bytes, text: bool, why: str) -> None:
-    """Of a unit test that fails file and line are told, and --test ends with status 1; so it does where none is run."""
+    """A unit test that fails is reported with file and line, and --test ends with status 1; so it does where none is run."""
     source = FOLDER / "checked/checked.c"
     wanted = source.with_suffix(".text").read_text(encoding="utf-8") if text else ""
     assert outcome(contiki("--test", source.name, stdin=script, cwd=source.parent)) == (1, wanted, why)
@@ -95,7 +95,7 @@ def test_posted_local(contiki: Contiki, tmp_path: Path, sanitizing_compiler: str
 
 
 def test_callback_timer_at_exit(contiki: Contiki, tmp_path: Path) -> None:
-    """A callback timer that is set in the EXIT event is told of as lost, each time, and takes no place."""
+    """A callback timer that is set in the EXIT event is reported as lost, each time, and uses no cell."""
     source = write_source(tmp_path, program_of("""static int i;
   for(i = 0; i < 6; i++) {
     process_start(&ended, NULL);
@@ -120,7 +120,7 @@ PROCESS_THREAD(ended, ev, data)
 
 
 def test_failed_assertion(contiki: Contiki, tmp_path: Path) -> None:
-    """lib/assert.h prints as Contiki-NG does, and the program is stopped there; NDEBUG takes assertions out."""
+    """lib/assert.h prints as Contiki-NG does, and the program is stopped there; NDEBUG removes assertions."""
     source = write_source(tmp_path, program_of('assert(1 + 1 == 2); assert(1 + 1 == 3); printf("never\\n");', '#include "lib/assert.h"'))
     assert outcome(contiki("--text", source.name, cwd=tmp_path)) == (
         1, f"Assertion failed: file program.c, line {STATEMENT_LINE}.\n",
@@ -146,20 +146,20 @@ SLIPS: dict[str, tuple[str, list[str]]] = {
 
 @pytest.mark.parametrize("slip", SLIPS)
 def test_slip(contiki: Contiki, tmp_path: Path, slip: str, sanitizing_compiler: str) -> None:
-    """What is missing is told in words of Contiki-NG's."""
+    """What is missing is reported in Contiki-NG's terms."""
     text, why = SLIPS[slip]
     ran = contiki("--cc", sanitizing_compiler, write_source(tmp_path, text))
     assert (ran.returncode, messages(ran.stderr)) == (65, [*why, NO_PROGRAM]), told(ran)
 
 
 def test_slip_in_another_language(contiki: Contiki, tmp_path: Path) -> None:
-    """It is told so, too, where the compiler may speak another language."""
+    """It is also reported so where the compiler may speak another language."""
     ran = contiki(write_source(tmp_path, SLIPS["no begin"][0]), settings={"LANGUAGE": "de"})
     assert messages(ran.stderr) == [NO_BEGIN, NO_PROGRAM], told(ran)
 
 
 def test_own_module(contiki: Contiki, tmp_path: Path) -> None:
-    """A program that has a module's source beside its own takes that one, whether or not there is one here."""
+    """A program that has a module's source beside its own uses that one, whether or not there is one here."""
     own = tmp_path / "dbl-list.c"
     own.with_suffix(".h").write_text("int dbl_list_init(void);\n", encoding="utf-8")
     own.write_text('#include "dbl-list.h"\nint dbl_list_init(void) { return 7; }\n', encoding="utf-8")

@@ -1,4 +1,4 @@
-"""What the mote hasn't: a program that uses it doesn't compile, and is told why."""
+"""What the mote doesn't have: a program that uses it doesn't compile, with a reason."""
 from __future__ import annotations
 
 import re
@@ -42,7 +42,7 @@ ONLY_AES = "the mote has only AES (lib/aes-128.h) and CCM* (lib/ccm-star.h): cal
 C_ALONE = "it is plain C: put it and its source beside yours"
 OVER_ENERGEST = "it is plain C, over sys/energest.h: put it and its source beside yours"
 NO_TIMES = "the mote has no radio and no sleep whose times a module could print: use sys/energest.h"
-# Headers that aren't there, and what is told of them.
+# Headers that aren't there, and the messages about them.
 HEADERS: dict[str, str | None] = {
     **dict.fromkeys(["dev/button-hal.h", "os/dev/button-hal.h", "sensors.h", "dev/light-sensor.h"], NO_BUTTONS),
     **dict.fromkeys(["net/queuebuf.h", "net/rime/rime.h", "cc2420.h"], NULLNET_ALONE),
@@ -65,7 +65,7 @@ NO_PROGRAM = "the sources don't compile; docs/contiki.md lists what there is"
 
 
 def compile_all(contiki: Contiki, compiler: str, name: str, texts: list[str]) -> bytes:
-    """Compiles one source for each text, by one command, and answers what it says on standard error."""
+    """Compiles one source for each text, by one command, and returns its standard error."""
     def make(folder: Path) -> None:
         folder.mkdir()
         sources = [folder / f"refused-{number}.c" for number in range(len(texts))]

@@ -39,7 +39,7 @@ class Faults:
     counts: Path
 
     def __call__(self, script: Path, kind: str, number: int, *words: Word) -> Outcome:
-        """Runs a program on a script with the fault of this kind and number; all memory is given back."""
+        """Runs a program on a script with the fault of this kind and number; all memory is freed."""
         self.counts.unlink(missing_ok=True)
         settings = {"LD_PRELOAD": str(self.library), "COUNTS": str(self.counts), kind: str(number)}
         ran = run("env", *(f"{name}={value}" for name, value in settings.items()), *words, stdin=script, timeout=600)
@@ -54,7 +54,7 @@ class Faults:
 
 @pytest.fixture
 def faults(shared: Path, tmp_path: Path) -> Faults:
-    """The library, made by a compiler that is here, or else by the kit's."""
+    """The library, made by a compiler of this machine, or by the kit's if there is none."""
     def make(built: Path) -> None:
         compiler = shutil.which("gcc") or shutil.which("clang")
         if compiler is None:
@@ -98,7 +98,7 @@ def test_refused_growths(faults: Faults, script: Path) -> None:
 
 @of_each_script
 def test_failing_transfers(faults: Faults, script: Path) -> None:
-    """Where a read or a write fails, that is told, and what was written is the transcript's beginning."""
+    """Where a read or a write fails, that is reported, and the output is the transcript's beginning."""
     for number in range(1, faults.sample(script).transfers + 1):
         ran = faults.sample(script, "FAIL", number)
         assert (ran.status, ran.stderr) in ((5, "mote: read failed\n"), (6, "mote: write failed\n")), f"read or write {number}"
@@ -107,7 +107,7 @@ def test_failing_transfers(faults: Faults, script: Path) -> None:
 
 @of_each_script
 def test_cut_transfers(faults: Faults, script: Path) -> None:
-    """Where a read or a write moves a single byte, all goes on."""
+    """Where each read or write moves a single byte, nothing changes."""
     for number in range(1, faults.sample(script).wide + 1):
         ran = faults.sample(script, "CUT", number)
         assert (ran.status, ran.stdout, ran.stderr) == (0, script.with_suffix(".transcript").read_bytes(), ""), f"cut {number}"

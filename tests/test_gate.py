@@ -1,4 +1,4 @@
-"""The gate itself, with stand-ins for what it carries out: what it counts, tells and notes; and which packages are installed for it."""
+"""The gate itself, with stand-ins for what it runs: what it counts, reports and notes; and which packages are installed for it."""
 from __future__ import annotations
 
 import os
@@ -129,7 +129,7 @@ def test_help(gate: Gate) -> None:
     (["-k", "two or three"], "2 passed, 0 failed", ["packages "]),
 ])
 def test_some_tests(gate: Gate, words: list[str], last: str, begun: list[str]) -> None:
-    """What is named is carried out once, with the files whose names begin so; nothing is noted."""
+    """What is named runs once, with the files whose names begin so; nothing is noted."""
     ran = gate(*words)
     assert (ran.returncode, last_lines(ran), gate.begun(), gate.notes()) == (0, [last], begun, ""), told(ran)
 
@@ -154,7 +154,7 @@ def test_no_such_name(gate: Gate) -> None:
     ({"STATUS_OF_PROVE": "1"}, ["the libraries for C: 1 failed", "11 passed, 1 failed"]),
 ])
 def test_proofs_that_fail(gate: Gate, settings: dict[str, str], lines: list[str]) -> None:
-    """By what their last line says, by their status, and where they say nothing of the kind. The other tests are carried out."""
+    """By what their last line says, by their status, and where they say nothing of the kind. The other tests run."""
     ran = gate(**settings)
     assert (ran.returncode, last_lines(ran, 2), gate.notes()) == (1, lines, ""), told(ran)
     assert "four 1" in gate.begun()
@@ -200,20 +200,20 @@ def lacks_module(gate: Gate, name: str) -> str:
 
 
 def test_no_pytest(gate: Gate) -> None:
-    """Where there is no pytest, that is told with its packages, and counts as failed."""
+    """Where there is no pytest, that is reported with its packages, and counts as failed."""
     ran = gate(PYTHONPATH=lacks_module(gate, "pytest"))
     assert (ran.returncode, last_lines(ran)) == (1, ["7 passed, 1 failed"]), told(ran)
     assert "python3-pytest" in last_lines(ran, 2)[0]
 
 
 def test_no_xdist(gate: Gate) -> None:
-    """Where there is no pytest-xdist, one test is carried out after the other."""
+    """Where there is no pytest-xdist, one test runs after the other."""
     ran = gate(PYTHONPATH=lacks_module(gate, "xdist"))
     assert (ran.returncode, last_lines(ran)) == (0, ["11 passed, 0 failed"]), told(ran)
 
 
 def test_settings_of_pytest(gate: Gate) -> None:
-    """What stands in the environment for other uses of pytest changes nothing."""
+    """Variables in the environment for other uses of pytest change nothing."""
     ran = gate(PYTEST_ADDOPTS="--collect-only", PYTEST_PLUGINS="no_such_plugin")
     assert (ran.returncode, last_lines(ran)) == (0, ["11 passed, 0 failed"]), told(ran)
 
@@ -221,7 +221,7 @@ def test_settings_of_pytest(gate: Gate) -> None:
 @needs("setsid")
 @pytest.mark.parametrize("words", [["third"], []], ids=["a test", "all"])
 def test_gate_that_is_ended(gate: Gate, words: list[str]) -> None:
-    """A gate that is ended tells no counts, and leaves nothing behind that goes on, also of what is built beside the tests."""
+    """A gate that is ended prints no counts, and leaves no process running, also none of the builds beside the tests."""
     gate.add("test_third.py", "import os, pathlib, time\ndef test_it():\n"
                               "    pathlib.Path(os.environ['BEGUN']).open('a').write('third\\n')\n    time.sleep(600)\n")
     write_program(gate.tree / "prove", '#!/bin/bash\necho "prove $*" >>"$BEGUN"\nsleep 600\n')
@@ -243,7 +243,7 @@ def test_gate_that_is_ended(gate: Gate, words: list[str]) -> None:
 
 
 def test_skipped(gate: Gate) -> None:
-    """What is skipped is told with its reason, and noted."""
+    """What is skipped is reported with its reason, and noted."""
     gate.add("test_third.py", "import pytest\n@pytest.mark.skip(reason='no such tool')\ndef test_it(): pass\n")
     ran = gate()
     assert (ran.returncode, last_lines(ran, 2)) == (0, ["1 skipped, for the reasons above", "11 passed, 0 failed"]), told(ran)

@@ -1,4 +1,4 @@
-"""scripts/retarget/keep_module.py on a small repository with a stand-in for the kit: which module is kept, and when none is."""
+"""scripts/retarget/keep_module.py on a small repository with a stand-in for the kit: which module is stored, and when none is."""
 from __future__ import annotations
 
 import shutil
@@ -101,12 +101,12 @@ def state(root: Path) -> dict[str, tuple[bytes, int]]:
 
 
 def kept(root: Path, name: str) -> Path:
-    """A file of the work that was kept of a crate."""
+    """A file of the stored work of a crate."""
     return root / "crates/low/out/incremental" / name
 
 
 def check_refusal(root: Path, why: str) -> None:
-    """Nothing is kept, and what ./prove built is there as it was."""
+    """Nothing is stored, and what ./prove built is unchanged."""
     before = state(root)
     with pytest.raises(Refused, match=why):
         keep_module(root, "low")
@@ -148,7 +148,7 @@ def test_spoilt_module_is_kept_anew(repository: Path) -> None:
 
 
 def test_other_bytes_are_refused(repository: Path) -> None:
-    """The module isn't that of the proved build where the archive comes out otherwise."""
+    """If the archive differs, the module isn't that of the proved build."""
     kept(repository, "modules/1").write_text("another module\n", encoding="utf-8")
     check_refusal(repository, "other bytes than ./prove built")
 
@@ -164,7 +164,7 @@ def test_unproved_build_is_refused(repository: Path) -> None:
 
 
 def test_one_module_is_expected(repository: Path) -> None:
-    """Of two it can't be told which is the crate's."""
+    """If there are two, it isn't known which is the crate's."""
     kept(repository, "modules/0").write_text("one more\n", encoding="utf-8")
     check_refusal(repository, "2 modules")
 

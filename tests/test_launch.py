@@ -28,7 +28,7 @@ REMARK = b"# one\r\ntick 1\n"
 
 
 def test_unproved_run(tree: Tree) -> None:
-    """Words, input and output are passed on, and it is told that the run is unproved."""
+    """Arguments, input and output are passed on, and it is reported that the run is unproved."""
     tree.run("mote", "--mmem", "8", "--", "two words", "", stdin=SCRIPT)
     assert tree.is_unproved() and "./prove proves and builds" in tree.stderr
     assert tree.ran.stdout == b"words --mmem 8 -- two words \n" + SCRIPT
@@ -72,7 +72,7 @@ def test_status_of_rt(tree: Tree, status: int) -> None:
     ("checked: no-answer: a fault\nrun=no-answer proved=no\n", "mote: rt try gave no answer, and ended with status 6"),
 ], ids=["limit", "fault"])
 def test_no_answer(tree: Tree, says: str, told: str) -> None:
-    """Why there is no answer is told."""
+    """The reason for no result is reported."""
     tree.run("mote", STATUS="6", SAYS=says)
     assert (tree.ran.returncode, tree.stderr.splitlines()[-1]) == (125, told)
 
@@ -115,7 +115,7 @@ def test_full_temporary_folder(tree: Tree) -> None:
 ], ids=["Windows", "mark", "remark"])
 @pytest.mark.parametrize("is_file", [True, False], ids=["file", "pipe"])
 def test_lines_of_windows(tree: Tree, text: bytes, told: str, is_file: bool) -> None:
-    """Lines as on Windows, of a file or a pipe, and a mark in front are told of."""
+    """Lines as on Windows, of a file or a pipe, and a byte order mark are reported."""
     file = tree.room / "script"
     file.write_bytes(text)
     tree.run("mote", stdin=file if is_file else text)
@@ -132,7 +132,7 @@ def test_files_of_windows(tree: Tree) -> None:
 
 
 def group_goes_on(group: int) -> bool:
-    """Whether something of a group of processes goes on."""
+    """Whether a process of a group still runs."""
     return run("pgrep", "--session", group).returncode == 0
 
 
@@ -172,7 +172,7 @@ def test_killed_run_leaves_no_file(tree: Tree) -> None:
 
 @pytest.mark.parametrize("script", ["mote", "scenario", "prove"])
 def test_no_rt(tree: Tree, script: str) -> None:
-    """Where there is no rt, that is told in one line."""
+    """Where there is no rt, that is reported in one line."""
     tree.run(script, PATH=WITHOUT_RT)
     assert (tree.ran.returncode, tree.stderr.count("\n")) == (127, 1)
 
@@ -211,7 +211,7 @@ def test_proved_run(proved_tree: Tree) -> None:
 
 
 def test_lines_of_windows_proved(proved_tree: Tree) -> None:
-    """Lines as on Windows are told of where they are a file's, from its beginning."""
+    """Lines as on Windows are reported if standard input is a file, from its beginning."""
     file = proved_tree.room / "script"
     file.write_bytes(WINDOWS)
     proved_tree.run("mote", stdin=file)

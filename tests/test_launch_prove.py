@@ -1,4 +1,4 @@
-"""./prove and scripts/for-aarch64 on a small tree of crates, with stand-ins: what they prove in which order, tell, keep and leave."""
+"""./prove and scripts/for-aarch64 on a small tree of crates, with stand-ins: what they prove in which order, report, store and leave."""
 from __future__ import annotations
 
 import fcntl
@@ -55,7 +55,7 @@ def test_schedule(begun: str, most: int, crates: str, seconds: str) -> None:
 
 
 def test_what_is_under_way_is_told(tree: Tree) -> None:
-    """What is under way is told at each pause, and at the end nothing is nice."""
+    """The running checks are reported at each pause, and at the end nothing is nice."""
     times = tree.root / "scripts/prove-times"
     times.write_text(times.read_text(encoding="utf-8").replace("high 40", "high 400"), encoding="utf-8")
     tree.run("prove", "--tell", "0.3", RT_JOBS="4", PAUSE="3", LONG="beside")
@@ -138,7 +138,7 @@ def test_interrupt(tree: Tree, number: signal.Signals) -> None:
 
 
 def test_hangup_below_nohup(tree: Tree) -> None:
-    """Where hangups are passed over, it goes on."""
+    """Where hangups are ignored, it continues."""
     command = ["env", "--ignore-signal=HUP", str(tree.root / "prove")]
     environment = {**os.environ, **tree.settings(PAUSE="0.2")}
     with subprocess.Popen(command, stderr=subprocess.DEVNULL, stdout=subprocess.DEVNULL, env=environment) as started:
@@ -175,7 +175,7 @@ def test_all_ended_by_force(tree: Tree) -> None:
 
 
 def test_edited_meanwhile(tree: Tree) -> None:
-    """What is edited while it is proved counts as newer."""
+    """A file that is edited while it is proved counts as newer."""
     started = tree.begin_to_prove(PAUSE="3", LONG="low")
     tree.edit("low")
     tree.end(started)
@@ -187,7 +187,7 @@ def test_edited_meanwhile(tree: Tree) -> None:
 
 
 def test_kept_anew_meanwhile(tree: Tree) -> None:
-    """What is kept anew meanwhile stays."""
+    """Work that is stored meanwhile stays."""
     started = tree.begin_to_prove(PAUSE="5", LONG="low")
     kept = tree.crate("low") / "out/incremental"
     kept.mkdir(parents=True)
@@ -197,7 +197,7 @@ def test_kept_anew_meanwhile(tree: Tree) -> None:
 
 
 def test_no_way_back(tree: Tree) -> None:
-    """What can't be brought back is kept for the next one."""
+    """Work that can't be restored is left for the next one."""
     started = tree.begin_to_prove(PAUSE="5", LONG="low")
     (tree.crate("low") / "out").touch()
     assert tree.end(started).returncode == 1
@@ -208,7 +208,7 @@ def test_no_way_back(tree: Tree) -> None:
 
 @pytest.fixture
 def other_rt(tree: Tree) -> Iterator[threading.Thread]:
-    """Another rt works in the lowest crate for a while, and tells in the end that it did."""
+    """Another rt works in the lowest crate for a while, and reports at the end that it did."""
     folder = os.open(tree.crate("low"), os.O_RDONLY)
     fcntl.flock(folder, fcntl.LOCK_EX)
 

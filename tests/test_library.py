@@ -15,7 +15,7 @@ NETWORKS = 200
 
 
 class Program(NamedTuple):
-    """A program in C, the words with which it is run here and for aarch64, and what it is compiled with."""
+    """A program in C, its arguments here and for aarch64, and the sources that it is compiled with."""
     name: str
     words: list[str]
     words_for_aarch64: list[str]
@@ -53,7 +53,7 @@ def test_is_current(toarmuts_library: Path) -> None:
 @with_sanitizers
 @of_each_program
 def test_program(sanitized: Callable[[Program], Path], program: Program) -> None:
-    """Worked answers, and as many random calls as the words say."""
+    """Worked replies, and as many random calls as the arguments say."""
     all_hold(run(sanitized(program), *program.words, timeout=3600))
 
 

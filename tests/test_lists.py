@@ -88,7 +88,7 @@ def test_lists(scenario: Path, tmp_path: Path) -> None:
 
 @pytest.mark.parametrize("first", range(0, SPOILT_LISTS, PART))
 def test_spoilt_lists(scenario: Path, tmp_path: Path, first: int) -> None:
-    """A spoilt call is refused, and its line is told."""
+    """A spoilt call is refused, and its line is reported."""
     for seed in range(first, first + PART):
         text = spoilt_list(random.Random(seed))
         (tmp_path / "runs").write_text(f"calls {text}\n", encoding="utf-8")

@@ -141,7 +141,7 @@ chunk 2: place 160, size 16, room 16
 
 
 def pkg_config(prefix: Path, *words: str) -> list[str]:
-    """What pkg-config answers of what was installed."""
+    """What pkg-config prints of the installed modules."""
     ran = succeed("pkg-config", *words, "toarmuts-modules", settings={"PKG_CONFIG_PATH": str(prefix / "lib/pkgconfig")})
     return ran.stdout.decode().split()
 
@@ -149,7 +149,7 @@ def pkg_config(prefix: Path, *words: str) -> list[str]:
 @needs("pkg-config")
 @pytest.mark.parametrize("name", ["source", "installed"])
 def test_installed(prefix: Path, original: bytes, tmp_path: Path, name: str) -> None:
-    """The source above, and what the heap prints, with what was installed, whose version pkg-config tells."""
+    """The source above, and what the heap prints, with the installed modules, whose version pkg-config prints."""
     succeed("gcc", "-std=c11", SOURCES / f"{name}.c", *pkg_config(prefix, "--cflags", "--libs"), "-o", tmp_path / name)
     assert succeed(tmp_path / name).stdout == {"source": original, "installed": HEAP}[name]
     assert pkg_config(prefix, "--modversion") == [(ROOT / "VERSION").read_text(encoding="utf-8").strip()]
@@ -165,7 +165,7 @@ def test_destination(prefix: Path, plain: Path, modules_library: Path, tmp_path:
 
 
 def test_sizes_of_its_own(prefix: Path, tmp_path: Path) -> None:
-    """A program with sizes of its own compiles what was installed for that, and includes headers by their bare names."""
+    """A program with other sizes compiles the sources that were installed for that, and includes headers by their bare names."""
     source = "".join(f'#include "{name}.h"\n' for name in ("heapmem", "mmem", "memb", "list", "ringbuf")) + (
         "int main(void) { struct mmem m; return !(heapmem_alloc(64) && !heapmem_alloc(1) && mmem_alloc(&m, 32) && !mmem_alloc(&m, 1)); }\n")
     (tmp_path / "sizes.c").write_text(source, encoding="utf-8")
@@ -176,7 +176,7 @@ def test_sizes_of_its_own(prefix: Path, tmp_path: Path) -> None:
 
 
 def test_program_of_one_module(modules_library: Path, tmp_path: Path) -> None:
-    """A program links the proved calls of its own module alone. The folder of the archive may have a blank in its path."""
+    """A program links only the proved calls of its module. The folder of the archive may have a blank in its path."""
     (tmp_path / "a blank").symlink_to(modules_library)
     modules = build_modules(tmp_path / "modules", tmp_path / "a blank", "gcc", "-O2")
     source = '#include "lib/memb.h"\nMEMB(pool, int, 2);\nint main(void) { memb_init(&pool); return memb_alloc(&pool) != pool.mem; }\n'

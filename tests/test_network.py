@@ -82,7 +82,7 @@ def test_a_thousand_motes() -> None:
 
 
 def test_timers_of_a_thousand_motes() -> None:
-    """Idle motes are told nothing, and each timer runs out on time, however long the tick is."""
+    """Idle motes receive nothing, and each timer runs out on time, however long the tick is."""
     lines = transcript_of("mote 1..999 hello\nmote 1000 blink\ntick 1000\n")
     wanted = ["1000 4 synch 129 - -> timer-set 0 10", "1000 4 answer done -> wait"]
     for at in range(1, 101):
@@ -179,7 +179,7 @@ MALFORMED = {
 
 @pytest.mark.parametrize("script", MALFORMED.values(), ids=MALFORMED)
 def test_malformed_setup(network: Path, script: str) -> None:
-    """A malformed line before the first input, here the last one: nothing is carried out, and no line after it counts."""
+    """A malformed line before the first input, here the last one: nothing is executed, and no line after it counts."""
     number = script.count("\n")
     for after in ("", "tick 1\n", "walk\n"):
         ran = run(network, stdin=(script + after).encode())
@@ -189,7 +189,7 @@ def test_malformed_setup(network: Path, script: str) -> None:
 @pytest.mark.parametrize("line", ["mote 2 hello", "link 1 1 delay 1", "room 5", "rounds 5", "walk", "tick x", "2 serial 61", "0 serial 61",
                                   "1 tick 5", "serial 61"])
 def test_malformed_input(network: Path, line: str) -> None:
-    """A malformed line after the first input, also one that sets something up: what is above it was carried out. Blank lines count."""
+    """A malformed line after the first input, also one that sets something up: the lines above it were executed. Blank lines count."""
     ran = run(network, stdin=f"mote 1 hello\ntick 1\n\n# the setup is over\n{line}\ntick 1\n".encode())
     assert (ran.returncode, ran.stdout.decode(), ran.stderr) == (2, f"{HELLO}= 1\nbad line 5\n", b"")
 
@@ -273,7 +273,7 @@ def test_refused_growths(network: Path, faults: test_faults.Faults, small: Path)
 
 
 def test_failing_transfers(network: Path, faults: test_faults.Faults, small: Path) -> None:
-    """Where a read or a write fails, that is told, and what was written is the transcript's beginning."""
+    """Where a read or a write fails, that is reported, and the output is the transcript's beginning."""
     whole = faults(small, "REFUSE", 0, network)
     assert (whole.status, whole.stderr) == (0, "")
     statuses = set()
@@ -313,20 +313,20 @@ def test_output_that_fails_early(network: Path, tmp_path: Path) -> None:
 
 @pytest.mark.parametrize(("length", "status", "wanted"), [(LONGEST, 0, b""), (LONGEST + 1, 4, b"too long\n")])
 def test_longest_script(network: Path, length: int, status: int, wanted: bytes) -> None:
-    """A script of 16,777,216 line ends is carried out; one more is too long, and nothing is carried out."""
+    """A script of 16,777,216 line ends is executed; one more is too long, and nothing is executed."""
     ran = run(network, stdin=b"\n" * length)
     assert (ran.returncode, ran.stdout, ran.stderr) == (status, wanted, b"")
 
 
 @pytest.mark.parametrize(("script", "mote"), [(TWO, "3"), ("", "1"), (TWO, "4294967295")], ids=["3 of 2", "1 of none", "the last"])
 def test_only_of_no_mote(network: Path, script: str, mote: str) -> None:
-    """There is no such mote, which is told before anything is carried out."""
+    """There is no such mote, which is reported before anything is executed."""
     ran = run(network, "--only", mote, stdin=f"{script}tick 1\nwalk\n".encode())
     assert (ran.returncode, ran.stdout, ran.stderr) == (64, b"", f"network: no mote {mote}\n".encode())
 
 
 def test_malformed_before_only(network: Path) -> None:
-    """A malformed line is told first."""
+    """A malformed line is reported first."""
     ran = run(network, "--only", "3", stdin=b"walk\n")
     assert (ran.returncode, ran.stdout, ran.stderr) == (2, b"bad line 1\n", b"")
 
@@ -340,7 +340,7 @@ def test_room_that_memory_lacks(network: Path) -> None:
 @pytest.mark.parametrize("words", [("--only", "0"), ("--only",), ("--only", "x"), ("--only", "1", "--only", "2"), ("--loud",), ("file",)],
                          ids=" ".join)
 def test_invalid_arguments(network: Path, words: tuple[str, ...]) -> None:
-    """The parser's text, and nothing is carried out."""
+    """The parser's text, and nothing is executed."""
     ran = run(network, *words, stdin=TWO.encode())
     assert (ran.returncode, ran.stdout) == (64, b"") and ran.stderr.startswith(b"error: ")
 

@@ -100,7 +100,7 @@ def test_captures_of_worked_networks(network_picture: Path) -> None:
 
 
 def test_late_frames(network_picture: Path) -> None:
-    """A frame at the last millisecond of second 2^32 - 1 has its place, one at second 2^32 has none. Clocks without frames may be any."""
+    """A frame at the last millisecond of second 2^32 - 1 fits, one at second 2^32 doesn't. Clocks without frames may be any."""
     sent, last = b"1 note sent 0a\n", 2 ** 32 * 1000 - 1
     assert list(frames_in(drawn(b"= %d\n" % last + sent + b"= %d\n" % 2 ** 62, "--pcap"))) == [(last, b"\n")]
     ran = run(network_picture, "--pcap", stdin=b"= %d\n" % (last + 1) + sent)
@@ -150,7 +150,7 @@ def lane_of(left: int, width: int) -> int:
 
 
 def chart_of(picture: bytes) -> Chart:
-    """Takes a chart apart."""
+    """Reads a chart."""
     root = ElementTree.fromstring(picture)
     areas = [it for it in root if it.get("class") == "t"]
     width = int(areas[0].get("width") or 0) + 8 if areas else 1
@@ -407,7 +407,7 @@ def test_invalid_arguments(network_picture: Path, words: tuple[str, ...]) -> Non
 
 
 def test_help_and_version(network_picture: Path) -> None:
-    """The help names the options; a word that isn't UTF-8 is told."""
+    """The help names the options; an argument that isn't UTF-8 is reported."""
     page = succeed(network_picture, "--help").stdout.decode()
     assert all(word in page for word in ("--pcap", "--from", "--to", "Exit status"))
     assert succeed(network_picture, "--version").stdout.decode() == f"network_picture {(ROOT / 'VERSION').read_text(encoding='utf-8')}"
@@ -447,7 +447,7 @@ def test_streams_that_fail(network_picture: Path, both: Path) -> None:
 
 @pytest.fixture
 def command(tmp_path: Path) -> Path:
-    """The command at the top, over a stand-in that writes its words and its input."""
+    """The command at the top, over a stand-in that writes its arguments and its input."""
     write_program(tmp_path / "scripts/launch", '#!/bin/sh\necho "$@"\ncat\nexit 3\n')
     return Path(shutil.copy2(ROOT / "network-picture", tmp_path))
 
@@ -464,7 +464,7 @@ def test_the_command(command: Path, tmp_path: Path) -> None:
 
 
 def test_the_command_without_its_script(command: Path, tmp_path: Path) -> None:
-    """A file that can't be read is told, and nothing is run."""
+    """A file that can't be read is reported, and nothing is run."""
     ran = run(command, tmp_path / "none.net")
     assert (ran.returncode, ran.stdout) == (64, b"")
     assert ran.stderr == f"network-picture: no file '{tmp_path}/none.net' that can be read\n".encode()

@@ -38,7 +38,7 @@ class Mote:
     sizes: dict[str, int]
 
     def words(self) -> list[str]:
-        """The arguments that `mote` takes for it."""
+        """The arguments of `mote` for it."""
         return [*self.names, *(word for name, size in self.sizes.items() for word in (f"--{name}", str(size)))]
 
     def line(self, number: int) -> str:
@@ -184,7 +184,7 @@ class Replay:
             self.halted.add(mote)
 
     def go_on(self, clock: int) -> None:
-        """The clock goes on: no arrival and no beat is jumped over."""
+        """The clock advances: no arrival and no beat is skipped."""
         assert self.clock < clock <= self.target
         assert not [flight for flight in self.flying if flight[0] < clock], "time went on before an arrival"
         for mote, beat in self.beating:
@@ -204,7 +204,7 @@ class Replay:
                 self.sent += 1
 
     def arrives(self, to: int, data: str | None, sender: int | None = None) -> bool:
-        """Takes the frame that arrives next, where it is this one."""
+        """Removes the frame that arrives next, if it is this one."""
         due = sorted(flight for flight in self.flying if flight[0] <= self.clock)
         if not due or due[0][3] != to or data not in (None, due[0][4]) or sender not in (None, due[0][2]):
             return False

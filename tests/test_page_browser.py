@@ -1,4 +1,4 @@
-"""Pages of `mote_picture --page` in Chromium without a window: a script is put at a page's end, and what it answers is read.
+"""Pages of `mote_picture --page` in Chromium without a window: a script is put at a page's end, and its result is read.
 
 The page's script tells of each line what a replay tells; rows, filters, keys, the overview, names with markup, widths and 100,000 lines
 are tried.
@@ -156,7 +156,7 @@ return told;
 
 
 class NoAnswer(RuntimeError):
-    """Chromium gave no answer, or the script failed, for the reason that the message gives."""
+    """Chromium gave no result, or the script failed; the message has the reason."""
 
 
 def chromium() -> str:
@@ -165,7 +165,7 @@ def chromium() -> str:
 
 
 def ask(page: str, script: str, width: int = 1200, fragment: str = "") -> Any:
-    """What a script answers that is carried out at the end of a page.
+    """The result of a script that runs at the end of a page.
 
     Raises NoAnswer where it fails, or where nothing comes within ten minutes.
     """
@@ -200,7 +200,7 @@ def page_of(words: Sequence[str], transcript: str) -> str:
 
 @pytest.mark.parametrize("part", range(PARTS))
 def test_states(part: int) -> None:
-    """The script tells of each line of each run what the replay tells."""
+    """The script shows of each line of each run what the replay computes."""
     runs = [stored_run(name) for name in ALL[part::PARTS]]
     pages = [(run, data_in(page_of(run.sizes, run.transcript))[1]) for run in runs if len(run.lines) <= MOST_COMPARED]
     pages = [(run, data) for run, data in pages if not data["quiet"]]
@@ -248,7 +248,7 @@ def test_quiet_run() -> None:
 
 
 def test_other_sizes() -> None:
-    """Where memory isn't the run's, that is told."""
+    """Where memory isn't the run's, that is reported."""
     told = ask(page_of(["--mmem", "8"], HANDS_RUN), "return byId('faults').textContent;")
     assert "line 3" in told and "managed memory" in told
 
@@ -260,7 +260,7 @@ def test_no_line() -> None:
 
 @pytest.mark.parametrize("width", WIDTHS)
 def test_width(width: int) -> None:
-    """Nothing stands outside the window, and rows, words and panel have room."""
+    """Nothing is outside the window, and rows, words and panel have room."""
     told = ask(page_of(["a name that is longer than most"] * 16, HANDS_RUN), LOOKS, width)
     # Chromium's least window may be wider than what was asked for.
     assert told["over"] <= 0 and told["right"] <= told["width"] + 1 and told["headsStay"], told

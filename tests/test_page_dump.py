@@ -14,7 +14,7 @@ from value_changes import Dump, NoDump, read_dump
 
 
 def heap_stats_in(lines: list[str], answers: list[Any]) -> dict[int, int]:
-    """The bytes of the heap that no block takes, at each line that asks for its statistics."""
+    """The free bytes of the heap, at each line that asks for its statistics."""
     told = {}
     for number, line in enumerate(lines):
         answer = answers[number]
@@ -42,7 +42,7 @@ def values_wanted(state: State, sizes: dict[str, int]) -> dict[str, str]:
 
 
 def times_of(states: list[State], second: int) -> list[int]:
-    """The time of each line: the lines at one clock stand one behind the other."""
+    """The time of each line: the lines at one clock follow one another."""
     times: list[int] = []
     for number, state in enumerate(states):
         is_first = number == 0 or states[number - 1].clock != state.clock
@@ -134,7 +134,7 @@ def test_reader() -> None:
 
 @pytest.mark.parametrize("name", SPOILT)
 def test_no_dump(name: str) -> None:
-    """The reader takes no text that is no dump."""
+    """The reader refuses a text that is no dump."""
     before, after = SPOILT[name]
     with pytest.raises(NoDump):
         read_dump(GOOD.replace(before, after, 1))

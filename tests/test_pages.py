@@ -66,7 +66,7 @@ def test_definitions_are_reached() -> None:
 
 
 def test_reading_order_goes_upward() -> None:
-    """What a definition speaks of stands above it."""
+    """What a definition names is above it."""
     order = [file for file, _ in ROWS]
     faults = []
     for file, name in sorted(place for place in reached()[0] | reached()[1] if is_definitions(place[0]) and place[0] in order):
@@ -77,7 +77,7 @@ def test_reading_order_goes_upward() -> None:
 
 @pytest.mark.parametrize("part", [0, 1], ids=["text", "laws"])
 def test_sums_of_definitions(part: int) -> None:
-    """The page tells how many lines of definitions there are."""
+    """The page has the number of lines of definitions."""
     lines = {file: count for file, count in lines_by_file(reached()[part]).items() if is_definitions(file)}
     assert f"{sum(lines.values()):,} lines in {len(lines)} files" in " ".join(ORDER.split())
 
@@ -317,7 +317,7 @@ def test_trusted_libraries() -> None:
 @pytest.mark.parametrize(("pattern", "cases"), [("*/specs/**/*.antt", catch_alls.in_definitions), ("*/src/**/*.rt", catch_alls.in_code)],
                          ids=["definitions", "code"])
 def test_no_case_for_all_other_calls(pattern: str, cases: Callable[[str], Iterable[str]]) -> None:
-    """Who adds a call is told of each table that lacks it."""
+    """An author who adds a call gets a message on each table without it."""
     found = [f"{path.relative_to(CRATES)}: {case}" for path in CRATES.glob(pattern) for case in cases(path.read_text(encoding="utf-8"))]
     assert not found, "cases for all other calls: " + "\n".join(found)
 

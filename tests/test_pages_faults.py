@@ -79,7 +79,7 @@ FAULTS = [
 
 @pytest.fixture(scope="module")
 def found(shared: Path) -> str:
-    """What the tests of the pages tell of a spoilt tree."""
+    """What the tests of the pages report of a spoilt tree."""
     def make(place: Path) -> None:
         copy_tree(place)
         for file, change in SPOILT.items():
@@ -94,7 +94,7 @@ def found(shared: Path) -> str:
 
 @pytest.mark.parametrize("fault", FAULTS)
 def test_fault_is_found(found: str, fault: str) -> None:
-    """Each fault is told."""
+    """Each fault is reported."""
     assert fault in found
 
 
@@ -106,7 +106,7 @@ def test_fault_is_found(found: str, fault: str) -> None:
     ("scripts/make-calls", "interface/rules.json", '"timer-set"', '"timer-put"'),
 ])
 def test_maker(tmp_path: Path, maker: str, file: str, before: str, after: str) -> None:
-    """What is made of other files tells where these differ, and then makes it anew."""
+    """Scripts that make files from others report where these differ, and then make them again."""
     tree = tmp_path / "tree"
     copy_tree(tree)
     command = [*([sys.executable] if maker.endswith(".py") else []), str(tree / maker)]

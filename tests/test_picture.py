@@ -63,7 +63,7 @@ def is_row(element: ElementTree.Element) -> bool:
 
 
 def titles_of(picture: bytes) -> Iterator[str]:
-    """What the rows tell of their lines."""
+    """What the rows show of their lines."""
     return (title_of(element) for element in ElementTree.fromstring(picture) if is_row(element))
 
 
@@ -106,7 +106,7 @@ def lines_told(titles: Iterator[str], lines: Lines) -> list[int] | None:
 
 
 def stats_told(lines: Lines) -> Iterator[tuple[int, list[int]]]:
-    """The numbers of the lines that ask for the heap's statistics, each with the answer."""
+    """The numbers of the lines that ask for the heap's statistics, each with the reply."""
     for number, line in enumerate(lines):
         if line.endswith(" -> heap-stats"):
             begin = line.partition(" ")[0] + " answer stats "
@@ -130,7 +130,7 @@ def stats_mapped(picture: bytes, size: int) -> Iterator[list[int]]:
 
 
 def check_heap_map(picture: bytes, run: StoredRun) -> None:
-    """The map shows in each row what the transcript tells of the heap there."""
+    """The map shows in each row what the transcript says of the heap there."""
     size = int(dict(zip(run.sizes[::2], run.sizes[1::2])).get("--heap", 4096))
     mapped = list(stats_mapped(picture, size))
     for number, stats in stats_told(run.lines):
@@ -138,7 +138,7 @@ def check_heap_map(picture: bytes, run: StoredRun) -> None:
 
 
 def answer_behind(lines: Lines, number: int) -> str:
-    """The answer to the call of a line, which is in the next line of its process, or nothing."""
+    """The reply to the call of a line, which is in the next line of its process, or nothing."""
     process = lines[number].partition(" ")[0]
     behind = next((line for line in lines[number + 1 :] if line.startswith(process + " ")), "")
     return behind.partition(" -> ")[0].partition(" answer ")[2]
@@ -160,7 +160,7 @@ def pools_told(lines: Lines) -> Iterator[Pools]:
 
 
 def carry_out_on_pools(word: str, numbers: list[int], process: int, value: str, used: Blocks, linked: Blocks) -> None:
-    """Carries out a call that is accepted."""
+    """Executes a call that is accepted."""
     if word == "memb-alloc":
         used[numbers[0], int(value)] = process
     elif word == "memb-free":
@@ -221,7 +221,7 @@ def bytes_told(digits: str, most: int = 24) -> str:
 
 
 def payload_told(payload: str) -> str:
-    """The words for what an event carries."""
+    """The words for an event's data."""
     if payload == "-":
         return ""
     return " " + (bytes_told(payload[1:]) if payload[0] == "x" else payload)
@@ -240,7 +240,7 @@ def call_told(call: str) -> str:
 
 
 def answer_told(answer: str) -> str:
-    """The words for an answer."""
+    """The words for a reply."""
     kind, _, value = answer.partition(" ")
     if kind == "refused":
         return f"  ✗ {REFUSALS[int(value) - 1]} ({value})"
@@ -293,7 +293,7 @@ class Timer:
 
 
 def set_timer(timer: Timer, what: str, numbers: list[str], clock: int) -> None:
-    """Carries out a call on a timer."""
+    """Executes a call on a timer."""
     timer.is_armed = what != "stop"
     if what == "set":
         timer.start, timer.interval = clock, int(numbers[-1])
@@ -384,7 +384,7 @@ def arrows_wanted(lines: list[str]) -> Iterator[Arrow]:
 
 
 def head_of(picture: bytes) -> tuple[str, str]:
-    """The title of a picture, and what stands below it in grey up to the overview."""
+    """The title of a picture, and the grey text below it up to the overview."""
     texts = [element for element in ElementTree.fromstring(picture) if element.tag.endswith("text") and element.get("x") == "14"]
     words = {kind: "".join("".join(text.itertext()) for text in texts if text.get("class") == kind) for kind in "hg"}
     return words["h"], words["g"]
@@ -420,7 +420,7 @@ def end_told(lines: Lines) -> str:
 
 
 def check_head(picture: bytes, lines: Lines, is_quiet: bool) -> None:
-    """What stands above the overview."""
+    """The text above the overview."""
     title, counts = head_of(picture)
     told = list(counts_told(lines, 0, len(lines)))
     assert title.endswith("(a quiet transcript)") == is_quiet
@@ -438,7 +438,7 @@ def check_quiet(picture: bytes, lines: Lines) -> None:
 
 
 def check_form(picture: Completed) -> None:
-    """Spaces stay in every viewer, and nobody is told that there are too many pixels."""
+    """Spaces stay in every viewer, and there is no warning of too many pixels."""
     root = ElementTree.fromstring(picture.stdout)
     assert root.get("{http://www.w3.org/XML/1998/namespace}space") == "preserve", "spaces may be lost"
     assert (picture.stderr != b"") == (number_in(root, "height") > 32000), picture.stderr
@@ -568,7 +568,7 @@ def test_other_heap(words: list[str], differs: bool) -> None:
 
 
 def test_heap_block() -> None:
-    """A block's title tells its place."""
+    """A block's title has its address."""
     assert b"heap block 0 of process 4: 20 bytes, room for 20, from 0 to 36 with its header" in draw(["--heap", "100"], STATS).stdout
 
 
@@ -658,7 +658,7 @@ def boxes_in(picture: bytes, words: str) -> list[tuple[int, int, int]]:
 
 
 def test_managed_memory() -> None:
-    """Where a block goes, those behind it close up; a frame that is lost has no box."""
+    """Where a block is freed, those after it move up; a frame that is lost has no box."""
     transcript = (b"4 synch 129 - -> mmem-alloc 0 10\n4 answer done -> mmem-alloc 1 20\n4 answer done -> mmem-free 0\n"
                   b"4 answer done -> wait\n> frame 01\n> frame 02\nnote lost 12\n")
     picture = draw(["--mmem", "64"], transcript).stdout

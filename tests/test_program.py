@@ -34,7 +34,7 @@ def file_of(case: Path, name: str) -> bytes:
 
 
 def words_of(case: Path) -> list[bytes]:
-    """The words of a case."""
+    """The arguments of a case."""
     return file_of(case, "words").splitlines()
 
 
@@ -131,7 +131,7 @@ def test_halt(mote: Path) -> None:
 
 @pytest.mark.parametrize(("length", "status", "wanted"), [(LONGEST, 0, b""), (LONGEST + 1, 4, b"too long\n")])
 def test_longest_script(mote: Path, length: int, status: int, wanted: bytes) -> None:
-    """A script of 16,777,216 line ends is carried out; one more is too long."""
+    """A script of 16,777,216 line ends is executed; one more is too long."""
     ran = run(mote, stdin=b"\n" * length)
     assert (ran.returncode, ran.stdout) == (status, wanted), told(ran)
 

@@ -34,7 +34,7 @@ def has(module: str) -> bool:
 
 
 def lacks(*modules: str) -> pytest.MarkDecorator:
-    """Skips a test where that Python lacks one of these modules."""
+    """Skips a test if that Python doesn't have one of these modules."""
     lacking = [module for module in modules if not has(module)]
     return pytest.mark.skipif(bool(lacking), reason=f"not here, for {PYTHON}: {', '.join(lacking)}")
 
@@ -59,7 +59,7 @@ def copy_package(place: Path) -> Path:
 
 
 class Environments:
-    """Environments of their own, each made once, with the package built anew."""
+    """Separate environments, each made once, with a new build of the package."""
 
     def __init__(self, room: Path) -> None:
         self.room = room
@@ -104,13 +104,13 @@ def pass_all(ran: Completed) -> None:
 
 
 def pytest_by(python: Path, *words: Word, cwd: Path = TESTS, settings: dict[str, str] | None = None) -> None:
-    """Has the pytest of an environment carry out tests."""
+    """Runs tests by the pytest of an environment."""
     pass_all(run(python, "-m", "pytest", "-q", "-p", "no:cacheprovider", "-rs", *words, cwd=cwd, settings=settings, timeout=3600))
 
 
 @pytest.mark.parametrize("name", ["bare", "environment"])
 def test_backend(environments: Environments, name: str) -> None:
-    """Where there is cffi, the library is taken by that, else by ctypes."""
+    """The library is loaded by cffi if there is one, otherwise by ctypes."""
     told_of = succeed(environments.python(name), "-c", "from toarmuts.library import library; print(library().backend)").stdout
     if name == "environment" and not has("cffi"):
         pytest.skip("no python3-cffi here: the library is taken by ctypes alone")

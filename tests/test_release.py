@@ -115,14 +115,14 @@ def test_sums(there: Path) -> None:
 
 
 def test_version(there: Path) -> None:
-    """One version stands everywhere, and the change log has it."""
+    """All files have one version, and the change log has it."""
     assert list((there / "share/toarmuts/python").glob(f"toarmuts-{VERSION}-*.whl")) and (there / f"lib/libtoarmuts.so.{VERSION}").exists()
     succeed(ROOT / "scripts/version", "--check")
     assert f"\n## {VERSION}\n" in (ROOT / "CHANGELOG.md").read_text(encoding="utf-8")
 
 
 def test_facts(there: Path) -> None:
-    """It is told what was proved, of which commit and by which kit, and what others wrote has its notices."""
+    """The facts name what was proved, of which commit and by which kit, and what others wrote has its notices."""
     facts = there / "share/doc/toarmuts"
     build = (facts / "BUILD").read_text(encoding="utf-8")
     commit = succeed("git", "rev-parse", "HEAD", cwd=ROOT).stdout.decode().strip()
@@ -145,7 +145,7 @@ def test_no_folder_is_named(releases: Path, there: Path, tmp_path: Path) -> None
 
 
 class System:
-    """Where a release stands, and how a command is run there."""
+    """The folder of a release, and how a command is run there."""
 
     def __init__(self, prefix: Path, inside: Inside) -> None:
         self.prefix = prefix
@@ -174,12 +174,12 @@ def alone(there: Path, home: Path) -> Inside:
 
 @pytest.fixture
 def archive(there: Path, tmp_path: Path) -> System:
-    """The unpacked archive, and a folder of its own to write to."""
+    """The unpacked archive, and a separate folder to write to."""
     return System(there, alone(there, tmp_path))
 
 
 def use_programs(system: System) -> None:
-    """The programs tell their version, and carry out samples."""
+    """The programs print their version, and run samples."""
     examples = system.examples()
     for command in COMMANDS:
         assert system.shell(f"{command} --version") == f"{command.replace('-', '_')} {VERSION}\n"

@@ -173,7 +173,7 @@ def test_zeros_follow_an_address() -> None:
 
 
 def test_aggregate_is_loaded_by_members() -> None:
-    """A pointer after a byte lies at 8, as on x86-64. LLVM would take 4."""
+    """A pointer after a byte is at 8, as on x86-64. LLVM would choose 4."""
     assert rewritten("%x = load { i8, ptr }, ptr %a0, align 8") == [
         "%line5.place0 = getelementptr i8, ptr %a0, i64 0",
         "%line5.member0 = load i8, ptr %line5.place0, align 8",
@@ -207,7 +207,7 @@ def test_aggregate_is_stored_by_members() -> None:
 
 
 def test_offsets_are_those_of_x86_64() -> None:
-    """Members lie at multiples of their sizes; a pointer has 8 bytes."""
+    """Members are at multiples of their sizes; a pointer has 8 bytes."""
     assert offsets(["i8", "ptr", "i8"]) == [0, 8, 16]
     assert offsets(["i8", "i16", "i32", "i64"]) == [0, 2, 4, 8]
     assert offsets(["i64", "i1", "i1", "i128", "i8"]) == [0, 8, 9, 16, 32]

@@ -1,4 +1,4 @@
-"""The built program scenario: on the worked examples, on runs that come out otherwise or have no transcript, and on malformed files."""
+"""The built program scenario: on the worked examples, on runs that differ or have no transcript, and on malformed files."""
 from __future__ import annotations
 
 import re
@@ -224,7 +224,7 @@ found:    > tick 4
 
 @pytest.mark.parametrize("name", GAPS)
 def test_gaps(folder: Folder, name: str) -> None:
-    """What a gap stands for."""
+    """The lines that a gap matches."""
     found, wanted, told = GAPS[name]
     folder.write("ticks", lines_of(*(f"tick {word}" for word in found.split()),
                                    *("..." if word == "..." else f"> tick {word}" for word in wanted.split())))
@@ -361,7 +361,7 @@ def bytes_of(line: str) -> str:
 
 @pytest.mark.parametrize(("line", "reason"), table(MALFORMED))
 def test_malformed_line(folder: Folder, line: str, reason: str) -> None:
-    """A malformed line is told of, and no file is run, one beside it neither."""
+    """A malformed line is reported, and no file is run, also none beside it."""
     folder.write("end", "tick 1\n")
     folder.write("bad", f"tick 7\n{line}\n")
     assert folder("end", "bad") == (2, "", f"scenario: bad: line 2: {reason}")
@@ -369,13 +369,13 @@ def test_malformed_line(folder: Folder, line: str, reason: str) -> None:
 
 @pytest.mark.parametrize(("line", "reason"), table(SLIPS))
 def test_slip(folder: Folder, line: str, reason: str) -> None:
-    """A slip of the hand is told of."""
+    """A typing mistake is reported."""
     assert folder.refused(f"tick 7\nmmem 64\napp hello\n{bytes_of(line)}\n") == f"line 4: {reason}"
 
 
 @pytest.mark.parametrize(("line", "reason"), table(MALFORMED_ROWS))
 def test_malformed_row(folder: Folder, line: str, reason: str) -> None:
-    """A malformed row is told of."""
+    """A malformed row is reported."""
     assert folder.refused(f"rows\n{line}\n") == f"line 2: {reason}"
 
 
@@ -394,7 +394,7 @@ def test_malformed_row(folder: Folder, line: str, reason: str) -> None:
     ("== one\ntock\n", "line 2: unknown word tock"),
 ])
 def test_malformed_file(folder: Folder, text: str, reason: str) -> None:
-    """A malformed file is told of."""
+    """A malformed file is reported."""
     assert folder.refused(text) == reason
 
 
@@ -503,7 +503,7 @@ def test_json(folder: Folder) -> None:
 
 @pytest.mark.parametrize("words", [["--write", "--json", "one"], []], ids=["write and json", "no file"])
 def test_refused_words(folder: Folder, words: list[str]) -> None:
-    """The parser of the command line tells why words make no sense."""
+    """The parser of the command line reports why arguments are invalid."""
     status, stdout, stderr = folder(*words)
     assert (status, stdout) == (64, "") and stderr.startswith("error: ")
 

@@ -39,7 +39,7 @@ def sources(*kinds: str) -> list[Path]:
 
 
 def test_first_lines() -> None:
-    """A command begins with one of the first lines above, and can be carried out; all else has an ending, and can't."""
+    """A command begins with one of the first lines above, and is executable; other files have an ending, and aren't."""
     faults = []
     for path in files():
         with path.open("rb") as opened:
@@ -92,7 +92,7 @@ def test_clang_format() -> None:
 
 
 def test_lines_of_editorconfig() -> None:
-    """What editors are told is what flake8 and clang-format are told."""
+    """Editors have the same settings as flake8 and clang-format."""
     longest, = re.findall(r"max_line_length = (\d+)", (ROOT / ".editorconfig").read_text(encoding="utf-8"))
     assert f"max-line-length = {longest}" in (ROOT / ".flake8").read_text(encoding="utf-8")
     assert f"ColumnLimit: {longest}" in (ROOT / ".clang-format").read_text(encoding="utf-8")

@@ -66,7 +66,7 @@ return [byId("lesson").textContent, transcript()];""")
 
 
 def test_examples_by_the_native_program(mote_page: Opened, tmp_path: Path) -> None:  # noqa: F811
-    """The scenario file of each example of a mote, with its transcript, comes out as told by the native program."""
+    """The native program confirms the scenario file of each example of a mote, with its transcript."""
     for place, example in enumerate(EXAMPLES):
         if "network" in example["experiment"]:
             continue
@@ -91,7 +91,7 @@ MISTAKES: List[Tuple[str, str, str, int, str]] = [
 
 @pytest.mark.parametrize("applications, inputs, editor, line, words", MISTAKES)
 def test_mistakes(mote_page: Opened, applications: str, inputs: str, editor: str, line: int, words: str) -> None:  # noqa: F811
-    """A mistake is marked at its line, in words, and told to screen readers; it goes once it is mended."""
+    """A mistake is marked at its line, in words, also for screen readers; the mark goes once it is corrected."""
     set_fields(mote_page, applications, inputs)
     (marked,) = marks(mote_page)
     assert marked[:2] == [editor, line] and words in marked[2]
@@ -115,7 +115,7 @@ NETWORK_MISTAKES: List[Tuple[str, int, str]] = [
 
 @pytest.mark.parametrize("network, line, words", NETWORK_MISTAKES)
 def test_mistakes_of_a_network(mote_page: Opened, network: str, line: int, words: str) -> None:  # noqa: F811
-    """A line that can't be read is marked at its place, with what to write; the run up to there is shown."""
+    """A malformed line is marked, with what to write; the run up to there is shown."""
     set_network(mote_page, network)
     assert marks(mote_page) == [["network", line, f"This line is malformed: {words}"]]
     told = mote_page.ask("return [byId('said').textContent, shown.run.lines.at(-1), byId('results').classList.contains('stale')];")
@@ -141,7 +141,7 @@ def test_network_as_typed(mote_page: Opened) -> None:  # noqa: F811
 
 
 def test_network_that_halts(mote_page: Opened) -> None:  # noqa: F811
-    """Where a line takes all its rounds, that is told. A number of a mote that isn't there is marked where it is chosen."""
+    """A line that takes all its rounds is reported. A number of a mote that doesn't exist is marked where it is chosen."""
     set_network(mote_page, "mote 1 relay\nlink 1 1 delay 1\nrounds 5\n1 frame 0a\ntick 100\n")
     assert "The network halted" in mote_page.ask("return byId('said').textContent;")
     assert mote_page.ask("view.choose(99); return byId('line-about').textContent;").endswith(
@@ -213,7 +213,7 @@ def test_completion_of_a_network(mote_page: Opened) -> None:  # noqa: F811
 
 
 def test_all_calls(mote_page: Opened) -> None:  # noqa: F811
-    """A list has each call of the rules, with what it takes and does."""
+    """A list has each call of the rules, with its arguments and what it does."""
     told = mote_page.ask("byId('all-calls').open = true; return [...byId('all-calls').querySelectorAll('li')].map((it) => it.innerText);")
     assert [it.split(" ")[0] for it in told] == [it["name"] for it in RULES["calls"]]
     assert "timer-set TIMER INTERVAL Arms an event timer: it runs out this number of ticks after the present clock." in told
@@ -233,7 +233,7 @@ return [editors.script.text, transcript()];""")
 
 
 def test_added_applications(mote_page: Opened) -> None:  # noqa: F811
-    """Each kind that can be added is one that the mote takes."""
+    """The mote accepts each kind that can be added."""
     set_fields(mote_page, "", "")
     told = mote_page.ask("""
 const found = [];
@@ -421,7 +421,7 @@ def test_many_lines(mote_page: Opened) -> None:  # noqa: F811
 
 
 def test_picture(mote_page: Opened, tmp_path: Path) -> None:  # noqa: F811
-    """The picture is that of the native program, of the whole run and of a part; a part that is none is told in words."""
+    """The picture is that of the native program, of the whole run and of a part; an invalid part is reported."""
     transcript = (ROOT / "examples/blink.transcript").read_text(encoding="utf-8")
     told = mote_page.ask(script("picture"))
     pictures: List[Tuple[List[str], str]] = [([], told["whole"]), (["--from", "5", "--to", "20"], told["part"])]

@@ -43,12 +43,12 @@ def with_cases(body: str, cases: List[Any], program: str = "") -> str:
 
 
 def outcome(ran: "subprocess.CompletedProcess[bytes]") -> List[Any]:
-    """A native run as PROGRAM_RUNS tells it."""
+    """A native run in the form of PROGRAM_RUNS."""
     return [ran.returncode, hashlib.sha256(ran.stdout).hexdigest(), ran.stderr.decode()]
 
 
 def differing(told: List[Any], wanted: List[Any], cases: List[Any]) -> List[Any]:
-    """The first cases that come out otherwise, each with both outcomes."""
+    """The first cases that differ, each with both outcomes."""
     assert len(told) == len(wanted)
     return [(case, own, other) for own, other, case in zip(told, wanted, cases) if own != other][:3]
 

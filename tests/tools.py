@@ -47,7 +47,7 @@ def told(ran: Completed) -> str:
 
 
 def once(place: Path, make: Callable[[Path], object]) -> Path:
-    """Has the first one that wants a place make it, while others wait, and answers the place."""
+    """Has the first process that needs a folder make it, while others wait. Returns the folder."""
     place.parent.mkdir(parents=True, exist_ok=True)
     done = place.with_name(f"{place.name}.done")
     with open(place.with_name(f"{place.name}.lock"), "a", encoding="utf-8") as lock:

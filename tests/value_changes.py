@@ -40,7 +40,7 @@ class Dump:
 
 
 def read_head(text: str) -> tuple[int, dict[str, str], dict[str, Signal], str]:
-    """The units of time to a second, names by their letters, signals by their names, and what stands behind the declarations."""
+    """The units of time to a second, names by their letters, signals by their names, and the text after the declarations."""
     names: dict[str, str] = {}
     signals: dict[str, Signal] = {}
     second, end = 0, 0
@@ -53,7 +53,7 @@ def read_head(text: str) -> tuple[int, dict[str, str], dict[str, Signal], str]:
         elif part[1] == "var":
             kind, width, letter, name = words
             if kind != "reg" or letter in names or name in signals or not name.isidentifier():
-                raise NoDump(f"a declaration twice, or of no form: {part[0]}")
+                raise NoDump(f"a repeated or malformed declaration: {part[0]}")
             names[letter], signals[name] = name, Signal(int(width))
         elif part[1] == "enddefinitions":
             return second, names, signals, text[end:]
@@ -77,7 +77,7 @@ def read_dump(text: str) -> Dump:
         elif change and change[2] in names and times:
             add_value(signals[names[change[2]]], times[-1], change[1])
         else:
-            raise NoDump(f"a line of no form: {line!r}")
+            raise NoDump(f"a malformed line: {line!r}")
     return Dump(second, signals, times)
 
 

@@ -43,7 +43,7 @@ class Case:
 
 @dataclass
 class Answer:
-    """What the library answers of a run."""
+    """The library's outcome of a run."""
 
     status: int
     line: int
@@ -54,7 +54,7 @@ class Answer:
     transcript: bytes
 
     def for_page(self) -> Dict[str, Any]:
-        """The answer as the page's script tells it."""
+        """The outcome in the form of the page's script."""
         return {**asdict(self), "transcript": base64.b64encode(self.transcript).decode()}
 
 
@@ -87,7 +87,7 @@ class Maker:
         return self.random.randbytes(self.random.randint(least, most)).hex() or "-"
 
     def payload(self) -> str:
-        """What an event carries."""
+        """The data of an event."""
         return self.one_of("-", self.number(0, 2**32 - 1), f"x{self.hex(1, 9)}", "x")
 
     def call(self) -> str:
@@ -176,7 +176,7 @@ class NativeLibrary:
         self._run.argtypes, self._run.restype = [pointer, ctypes.c_char_p, size, ctypes.c_char_p, size, pointer, size, pointer], None
 
     def run(self, case: Case) -> Answer:
-        """The answer to a case."""
+        """The outcome of a case."""
         given = case.configuration
         quota = given["quota"]
         numbers = (ctypes.c_uint32 * 6)(given["mmem"], given["heap"], given["header"], quota is not None, quota or 0, given["quiet"])
