@@ -1,5 +1,5 @@
 /*
- * modules_cost MODULE LIVE PAIRS: so many pairs of calls, which take and give back, beside LIVE others. It prints nothing: two runs'
+ * modules_cost MODULE LIVE PAIRS: this number of pairs of calls, which allocate and free, beside LIVE others. It prints nothing: two runs'
  * instructions are counted, and one is subtracted from the other. Compiled over c/modules/include, or over the plain stand-ins of
  * tests/c/modules/original.
  */

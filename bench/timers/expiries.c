@@ -21,7 +21,7 @@ static const char arms_all[] = "calls timer-set 0 4000000000, timer-set 1 400000
                                "timer-set 4 4000000000, timer-set 5 4000000000, timer-set 6 4000000000, timer-set 7 4000000000, "
                                "callback-set 0 4000000000, callback-set 1 4000000000, callback-set 2 4000000000, callback-set 3 4000000000";
 
-/* A line of the script is one expiry. Of its turns the quiet transcript has one line with blink, else none. */
+/* A line of the script is one expiry. The quiet transcript has one line of its turns with blink, otherwise none. */
 static const char line[] = "tick 10\n";
 enum { LINE = sizeof line - 1, MOST_SHOWN = 40, TIMERS = 12, MOST_APPLICATIONS = 16, MOST_BEHIND_OTHERS = 8 };
 

@@ -17,7 +17,7 @@ struct advance {
 };
 
 /*
- * Hands in a call (of no kind: there is none to be handed in), and works to the next turn, entry or rest. The lines of the turn
+ * Submits a call (kind 0: there is none to submit), and works to the next turn, entry or rest. The lines of the turn
  * and of the entry are written.
  */
 void advance_mote(struct toarmuts_mote *mote, const struct toarmuts_call *call, struct advance *advance);

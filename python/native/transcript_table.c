@@ -117,7 +117,7 @@ kind_of_call(const struct words *words)
   return 0;
 }
 
-/* What an answer says, and which call it answers. */
+/* The content of a reply, and the call that it is for. */
 static int
 read_answer(struct words *words, struct transcript_row *row)
 {
@@ -213,7 +213,7 @@ read_note(struct words *words, struct transcript_row *row, const uint8_t *line)
   return row->detail < 2;
 }
 
-/* What a line tells. */
+/* Reads a line. */
 static void
 read_line(struct words words, struct transcript_row *row, struct walk *walk)
 {

@@ -1,5 +1,5 @@
 /*
- * A transcript's table: of each line its kind, its offset, the clock, and the numbers by which answers are joined to calls.
+ * A transcript's table: for each line its kind, its offset, the clock, and the numbers that join replies to calls.
  */
 #ifndef TRANSCRIPT_TABLE_H
 #define TRANSCRIPT_TABLE_H
@@ -22,7 +22,7 @@ struct transcript_row {
   uint64_t begin;     /* the offset of its first byte */
   uint64_t clock;     /* the ticks since boot; of a tick: after it */
   uint64_t answer;    /* a turn: 1 + the row of the answer to its call; 0 where there is none */
-  uint64_t asked;     /* an answer: 1 + the row of the call that it answers; 0 where there is none */
+  uint64_t asked;     /* a reply: 1 + the row of its call; 0 if there is none */
   uint32_t length;    /* without its line end */
   uint32_t told;      /* from begin on: a turn's stimulus, without its origin; an input's or a note's argument */
   uint32_t call;      /* a turn: from begin on, where its call's words begin */
@@ -33,7 +33,7 @@ struct transcript_row {
   uint8_t reply;      /* an answer: enum toarmuts_reply */
   uint8_t refusal;    /* an answer: the number of its refusal, or 1 where a flag is true; a lost frame: why */
   uint8_t call_kind;  /* a turn: enum toarmuts_call_kind */
-  uint8_t asked_kind; /* an answer: the kind of the call that it answers */
+  uint8_t asked_kind; /* a reply: the kind of its call */
   uint32_t unused;
 };
 

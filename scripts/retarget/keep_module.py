@@ -129,7 +129,7 @@ def alone_in(root: Path) -> Iterator[None]:
 
 
 def fill(tree: Sources, name: str, work: Path, room: Path) -> None:
-    """Fills a room: the sources of a crate and of all that it stands on, what was built of these, and the work that was kept of it."""
+    """Fills a room: the sources of a crate and of all below it, the libraries of these, and the crate's stored work."""
     names = tree.with_all_below(name)
     room.mkdir()
     (room / "MODULE.bazel").touch()

@@ -15,7 +15,7 @@ def size_of(scalar: str) -> int:
 
 
 def offsets(scalars: list[str]) -> list[int]:
-    """Where each member of an aggregate lies on x86-64, in bytes from its start."""
+    """The offset of each member of an aggregate on x86-64, in bytes."""
     end, found = 0, []
     for scalar in scalars:
         size = size_of(scalar)

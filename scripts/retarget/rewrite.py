@@ -83,7 +83,7 @@ def rewrite_call(parts: re.Match[str], fresh: str, target: Target) -> list[str]:
     if FLOAT_FENCE.fullmatch(called):
         return [fence_as_value(parts)]
     if called.startswith("@llvm.") and called[1:] in target.stand_ins:
-        # A function of LLVM's own can't be defined: the one that stands in its place has a name beside it.
+        # An intrinsic of LLVM can't be defined: its replacement has another name.
         return [parts[0].replace("@llvm.", "@toarmuts.", 1)]
     if not MEMORY_INTRINSIC.fullmatch(called):
         return [parts[0]]

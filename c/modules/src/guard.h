@@ -1,6 +1,6 @@
 /*
- * What the address sanitizer is told of memory that the modules share out: which bytes are nobody's, so that it finds their use. It
- * is asked for where the program is linked, so that the installed library serves programs with and without it.
+ * Reports the free bytes of the modules' memory to the address sanitizer, so that it finds their use. Whether there is one is decided
+ * when the program is linked, so the installed library serves programs with and without it.
  */
 #ifndef GUARD_H_
 #define GUARD_H_

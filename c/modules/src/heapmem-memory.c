@@ -1,5 +1,5 @@
 /*
- * The memory of lib/heapmem.h. A program with a size of its own compiles this file with HEAPMEM_CONF_ARENA_SIZE, as it would have
+ * The memory of lib/heapmem.h. A program that needs another size compiles this file with HEAPMEM_CONF_ARENA_SIZE, as it would have
  * compiled heapmem.c; PROJECT_CONF_PATH may name a header that defines it. HEAPMEM_CONF_MAX_BLOCKS is this project's: the most
  * blocks at once. Each block takes a row of 24 bytes beside the heap.
  */

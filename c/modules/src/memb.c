@@ -1,11 +1,11 @@
-/* memb.h over the proved calls on flags: that a block's number is made a pointer, and that its bytes are set to 0, stands here. */
+/* memb.h over the proved calls on flags. Here a block's number is made a pointer, and its bytes are set to 0. */
 #include "guard.h"
 #include "lib/memb.h"
 #include "toarmuts/calls.h"
 
 #include <string.h>
 
-/* A flag that somebody else wrote to counts as set: a bool holds 0 or 1 alone. */
+/* A flag that somebody else wrote to counts as set: a bool holds only 0 or 1. */
 static void
 mend_flags(struct memb *m)
 {

@@ -1,5 +1,5 @@
 /*
- * The memory of lib/mmem.h. A program with a size of its own compiles this file with MMEM_CONF_SIZE, as it would have compiled
+ * The memory of lib/mmem.h. A program that needs another size compiles this file with MMEM_CONF_SIZE, as it would have compiled
  * mmem.c; PROJECT_CONF_PATH may name a header that defines it. MMEM_CONF_MAX_BLOCKS is this project's: the most blocks at once. Each
  * block takes a row of 16 bytes and a pointer beside the memory.
  */

@@ -14,13 +14,13 @@ const NO_ROOM: u32 = 20;
 #[repr(C)]
 #[derive(Drop)]
 pub struct Outcome {
-    /// 0 the script was carried out, 2 a line of no form, 3 the mote halted, 4 the script is too long: the statuses of `mote`.
-    /// Else there is no transcript: 16 the applications are no text, 17 a line names no application, 18 more than 16
+    /// 0 the script was executed, 2 a malformed line, 3 the mote halted, 4 the script is too long: the statuses of `mote`.
+    /// Otherwise there is no transcript: 16 the applications are no text, 17 a line names no application, 18 more than 16
     /// applications, 19 bad sizes, 20 no room for the transcript, 21 memory was refused.
     pub status: u32,
-    /// The number, from 1 on, of the script's line of no form, or of the line that names no application; else 0.
+    /// The number, from 1 on, of the script's malformed line, or of the line that names no application; otherwise 0.
     pub line: u64,
-    /// How many bytes the transcript has; with status 20 too, and 0 with those beside it.
+    /// The number of bytes of the transcript, also with status 20; 0 with the other statuses from 16 on.
     pub length: usize,
     /// Why, where that is more than the status tells; else 0. With 19 the first size that is bad: 1 `mmem`, 2 `heap`, 3 `header`,
     /// 4 `quota`, 5 all quotas together exceed `mmem`. With 17: 6 no application has this name; the first part of a list that is
@@ -33,7 +33,7 @@ pub struct Outcome {
     pub call: usize,
 }
 
-/// The status of a run that ended so, and the number of its line of no form.
+/// The status of a run that ended so, and the number of its malformed line.
 fn end_numbers(end: End) -> (u32, u64)
     ensures status { result.0 ≡ status_of end }
     ensures line { result.1 ≡ line_of end }

@@ -24,5 +24,5 @@ class Target:
     stand_ins: Mapping[str, str] = field(default_factory=dict)
 
     def align(self, wanted: str) -> int:
-        """The alignment that stands for the one that a module wants: no larger one than the C library's malloc gives."""
+        """The alignment that replaces the one in a module: at most that of the C library's malloc."""
         return min(int(wanted), self.largest_alignment)

@@ -20,7 +20,7 @@ SECTIONS = ("-ffunction-sections", "-fdata-sections")
 
 
 def memory_calls() -> dict[str, str]:
-    """What stands for the memory calls: all of it in the place of the first, since the second goes with it."""
+    """The replacement of the memory calls: all of it replaces the first, and the second is removed with it."""
     text = Path(__file__).with_name("memory_calls.ll").read_text(encoding="utf-8")
     return {"rattle_alloc": text, "rattle_realloc": ""}
 
