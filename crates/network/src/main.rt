@@ -1,19 +1,13 @@
 //! Runs a network of motes: a script comes from standard input, its transcript goes to standard output.
 //!
-//! The contracts here promise that the program is safe and that it ends, and `run_setup` what it writes of the network that was set up:
-//! what `network_run` promises. How the first lines of a script are read, and which lines `--only` keeps, is only tested.
+//! The contracts here promise that the program is safe and that it ends. What it writes of the network that was set up is promised by
+//! the contract of `network_setup`'s `run_setup`. Which lines `--only` keeps is only tested.
 #![tactic(auto)]
 
-mod applications;
-mod carriage;
 mod fault;
-mod mote_app;
 mod only;
 mod options;
 mod run;
-mod script;
-mod setup;
-mod words;
 
 use command_line::{Failure, exit_code, finish, texts_of, words_of};
 use fault::RunFault;
@@ -21,6 +15,7 @@ use mote_session::refusal::SessionRefusal;
 use mote_text::script::{End, SCRIPT_LIMIT};
 use network_run::fault::RunFault as NetworkRunFault;
 use network_session::fault::NetworkFault;
+use network_setup::fault::SetUpRunFault;
 use options::{PROGRAM, Wish, wish_of};
 use run::{carry_out, write_end};
 use std::io;
@@ -71,13 +66,13 @@ fn report_broken<R: Eprint>(rt: &R) -> u8 {
 fn report<R: Print + Eprint>(rt: &R, fault: RunFault) -> u8 {
     match fault {
         RunFault::Write => finish(rt, PROGRAM, Err(Failure::Write)),
-        RunFault::Memory => finish(rt, PROGRAM, Err(Failure::OutOfMemory)),
+        RunFault::SetUp(SetUpRunFault::Memory) => finish(rt, PROGRAM, Err(Failure::OutOfMemory)),
         RunFault::NoMote(number) => {
             let _ = eprintln!(rt; "{}: no mote {number}", PROGRAM.name);
             64
         }
-        RunFault::BadLink => report_broken(rt),
-        RunFault::Run(fault) => report_run(rt, fault),
+        RunFault::SetUp(SetUpRunFault::BadLink) => report_broken(rt),
+        RunFault::SetUp(SetUpRunFault::Run(fault)) => report_run(rt, fault),
     }
 }
 

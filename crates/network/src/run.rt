@@ -1,67 +1,20 @@
 //! Carries out the script of a network.
 
-ghost use Rattle.std.specs.Prelude.{◌≡◌, ◌≤◌, ◌<◌, ◌+◌, ◌-◌, ◌^◌, ◌||◌, ◌==◌, length, slice_index, IfOk};
-ghost use Rattle.network.specs.SetUpRuns.{HasRunSetUp, start_of};
-ghost use Rattle.network_run.specs.NetworkRunText.{Gives, script_lines};
-ghost use Rattle.network_text.specs.NetworkScript.{read_network_lines};
+ghost use Rattle.std.specs.Prelude.{◌≤◌, ◌<◌, ◌+◌, ◌^◌, length};
 
-use crate::applications::Applications;
-use crate::fault::{LineFault, RunFault};
+use crate::fault::RunFault;
 use crate::only::OnlyMote;
 use crate::options::Wish;
-use crate::script::{Inputs, Lines};
-use crate::setup::Setup;
 use mote_shell::Output;
 use mote_text::output_buffer::OutputBuffer;
 use mote_text::script::End;
-use mote_types::device::ByteSink;
-use network_run::run::run_network;
-use network_session::fault::NetworkBootFault;
-use network_session::network::Network;
-use network_text::input::read_network_input;
+use network_setup::fault::{LineFault, SetUpRunFault};
+use network_setup::run::{read_setup, run_setup};
+use network_setup::script::Inputs;
+use network_setup::setup::Setup;
 use network_text::lines::last_text;
 use std::alloc::Global;
 use std::io::Write;
-
-/// Whether a line says nothing: it is empty, or a comment.
-fn is_blank(text: &str) -> bool
-    ensures { result ≡ (length text.now == 0 || slice_index text.now 0 == 35) }
-{
-    let bytes = text.as_bytes();
-    bytes.is_empty() || bytes[0] == b'#'
-}
-
-/// Takes one of the first lines.
-fn take_setup_line(alloc: Global, text: &str, setup: &mut Setup) -> Result<(), LineFault> {
-    if is_blank(text) {
-        return Ok(());
-    }
-    setup.take_line(alloc, text)
-}
-
-/// Takes the first lines, up to the first input. What is left begins with that.
-fn read_setup<'a>(
-    alloc: Global,
-    script: &'a [u8],
-    setup: &mut Setup,
-) -> Result<Inputs<'a>, (u32, LineFault)>
-    requires { length script.now ≤ 2 ^ 24 }
-    ensures { IfOk result (λ inputs. inputs.first + length inputs.script.now ≤ 2 ^ 24 + 1) }
-{
-    let mut lines = Lines::new(script);
-    while let Some(line) = lines.next_line() {
-        let Some(text) = line.text else {
-            return Err((line.number, LineFault::Malformed));
-        };
-        if read_network_input(text.as_bytes()).is_some() {
-            return Ok(line.inputs);
-        }
-        if let Err(fault) = take_setup_line(alloc, text, setup) {
-            return Err((line.number, fault));
-        }
-    }
-    Ok(Inputs::none())
-}
 
 /// Refuses a wish for the lines of a mote that there isn't.
 fn test_wish(wish: Wish, setup: &Setup) -> Result<(), RunFault> {
@@ -71,56 +24,10 @@ fn test_wish(wish: Wish, setup: &Setup) -> Result<(), RunFault> {
     }
 }
 
-/// Boots the network that was set up, and runs it on the lines from the first input on.
-///
-/// # Errors
-///
-/// `Memory` and `BadLink` where there is no network: nothing was written. `Run` where its run comes to no end.
-fn run_setup<K: ByteSink>(
-    alloc: Global,
-    setup: Setup,
-    inputs: Inputs<'_>,
-    sink: &mut K,
-    quiet: bool,
-) -> Result<End, RunFault>
-    requires numbers { inputs.first + length inputs.script.now < 2 ^ 32 }
-    requires countable { K.failure_count sink.old < 2 ^ 64 - 1 }
-    ensures ran { K.is_named → Gives (K.given sink.old) (K.given sink.new) (λ written. HasRunSetUp quiet (start_of setup)
-        (read_network_lines (length setup.motes.items) inputs.entry.first (script_lines inputs.entry.script.now)) written result) }
-{
-    let Setup {
-        motes,
-        applications,
-        links,
-        room,
-        rounds,
-    } = setup;
-    let mut applications = Applications {
-        motes: applications,
-    };
-    let network = match Network::new(alloc, motes, links, room as usize, rounds as u64) {
-        Ok(network) => network,
-        Err(NetworkBootFault::Memory) => return Err(RunFault::Memory),
-        // A line with a link that isn't sound is malformed.
-        Err(NetworkBootFault::BadLink) => return Err(RunFault::BadLink),
-    };
-    match run_network(
-        network,
-        &mut applications,
-        sink,
-        inputs.script,
-        inputs.first,
-        quiet,
-    ) {
-        Ok(end) => Ok(end),
-        Err(fault) => Err(RunFault::Run(fault)),
-    }
-}
-
 /// Flushes what was written. Where that fails, writing failed.
-fn flush<W: Write>(writer: &mut W, outcome: Result<End, RunFault>) -> Result<End, RunFault> {
+fn flush<W: Write>(writer: &mut W, outcome: Result<End, SetUpRunFault>) -> Result<End, RunFault> {
     match writer.flush() {
-        Ok(()) => outcome,
+        Ok(()) => Ok(outcome?),
         Err(_) => Err(RunFault::Write),
     }
 }
@@ -163,7 +70,8 @@ pub(crate) fn write_end<W: Write + Drop>(mut writer: W, end: End) -> Result<End,
 ///
 /// # Errors
 ///
-/// `Memory` and `NoMote` before anything is written; `Write` where the writer fails, and `Run` where the network's run comes to no end.
+/// `NoMote`, and where memory was refused, before anything is written; `Write` where the writer fails; otherwise why the network's run
+/// comes to no end.
 pub(crate) fn carry_out<W: Write + Drop>(
     alloc: Global,
     script: &[u8],
@@ -178,7 +86,7 @@ pub(crate) fn carry_out<W: Write + Drop>(
             test_wish(wish, &setup)?;
             run_wish(alloc, setup, inputs, wish, writer)
         }
-        Err((_, LineFault::Memory)) => Err(RunFault::Memory),
+        Err((_, LineFault::Memory)) => Err(RunFault::SetUp(SetUpRunFault::Memory)),
         Err((number, LineFault::Malformed)) => write_end(writer, End::BadLine(number)),
     }
 }

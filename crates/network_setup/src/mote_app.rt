@@ -10,7 +10,7 @@ use std::alloc::Global;
 
 /// An application of a mote.
 #[derive(Drop)]
-pub(crate) enum MoteApp {
+pub enum MoteApp {
     Bundled(Bundled),
     /// A list of calls has room for 128 of them. So that other applications need no such room, it is in a box.
     Boxed(Box<Application>),

@@ -3,8 +3,8 @@ use Rattle.std.specs.Prelude.{◌≡◌, ℕ, Bool, List, [], None, Result, Ok, 
 use Rattle.medium_core.specs.Air.{still_air}
 use Rattle.medium_core.specs.Code.Airs.{link_lists}
 use Rattle.mote_text.specs.declared.script.End.{End}
-use Rattle.network.specs.declared.fault.RunFault.{RunFault}
-use Rattle.network.specs.declared.setup.Setup.{Setup}
+use Rattle.network_setup.specs.declared.fault.SetUpRunFault.{SetUpRunFault}
+use Rattle.network_setup.specs.declared.setup.Setup.{Setup}
 use Rattle.network_run.specs.NetworkRunText.{HasRun}
 use Rattle.network_session.specs.Network.{NetworkView}
 use Rattle.network_text.specs.declared.input.NetworkInput.{NetworkInput}
@@ -22,10 +22,8 @@ start_of setup = record {
 }
 
 -- how the run ended: where there is a network, as its run promises
-abbrev pub HasRunSetUp : Bool → NetworkView → List NetworkInput × End → List ℕ → Result End RunFault → Type 0
+abbrev pub HasRunSetUp : Bool → NetworkView → List NetworkInput × End → List ℕ → Result End SetUpRunFault → Type 0
 HasRunSetUp quiet start script written (Ok end) = HasRun quiet start script written (Ok end)
-HasRunSetUp quiet start script written (Err (RunFault.Run fault)) = HasRun quiet start script written (Err fault)
-HasRunSetUp quiet start script written (Err RunFault.Memory) = written ≡ []
-HasRunSetUp quiet start script written (Err RunFault.BadLink) = written ≡ []
-HasRunSetUp quiet start script written (Err RunFault.Write) = ⊥
-HasRunSetUp quiet start script written (Err (RunFault.NoMote number)) = ⊥
+HasRunSetUp quiet start script written (Err (SetUpRunFault.Run fault)) = HasRun quiet start script written (Err fault)
+HasRunSetUp quiet start script written (Err SetUpRunFault.Memory) = written ≡ []
+HasRunSetUp quiet start script written (Err SetUpRunFault.BadLink) = written ≡ []

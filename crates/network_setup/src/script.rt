@@ -8,11 +8,11 @@ use std::str;
 
 /// The lines of a script from one on.
 #[derive(Clone, Copy, Drop)]
-pub(crate) struct Inputs<'a> {
+pub struct Inputs<'a> {
     /// Their bytes.
-    pub(crate) script: &'a [u8],
+    pub script: &'a [u8],
     /// The number of the first one.
-    pub(crate) first: u32,
+    pub first: u32,
 }
 
 /// A line of a script.

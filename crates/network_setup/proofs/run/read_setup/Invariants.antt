@@ -1,5 +1,5 @@
 use Rattle.std.proofs.Common.{◌+◌, ◌≤◌, ◌^◌, length}
-use Rattle.network.proofs.run.read_setup.Given as goal
+use Rattle.network_setup.proofs.run.read_setup.Given as goal
 
 abbrev pub invariant-loop-line : goal.invariant-loop-line
 invariant-loop-line l = l.lines.number + length l.lines.rest.now ≤ 2 ^ 24

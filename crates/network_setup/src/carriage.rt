@@ -1,7 +1,7 @@
 //! How links carry frames: the end of a line that makes links.
 
 ghost use Rattle.std.specs.Prelude.{◌≡◌};
-ghost use Rattle.network.specs.Setting.{next_loss};
+ghost use Rattle.network_setup.specs.Setting.{next_loss};
 
 use crate::words::{has_word_at, number_at};
 use medium_core::link::Loss;

@@ -1,8 +1,8 @@
 //! The motes and links of a network, as the first lines of its script say them.
 
 ghost use Rattle.std.specs.Prelude.{◌≡◌, ◌≢◌, ◌≤◌, true, false, length, IfOk, IsErrOf};
-ghost use Rattle.network.specs.Setting.{is_fit};
-ghost use Rattle.network.specs.declared.fault.LineFault.{LineFault};
+ghost use Rattle.network_setup.specs.Setting.{is_fit};
+ghost use Rattle.network_setup.specs.declared.fault.LineFault.{LineFault};
 
 use crate::carriage::Carriage;
 use crate::fault::LineFault;
@@ -35,13 +35,13 @@ const DEFAULT_ROUNDS: u32 = 16_777_216;
 
 /// What the first lines set up.
 #[derive(Drop)]
-pub(crate) struct Setup {
-    pub(crate) motes: Vec<Session>,
+pub struct Setup {
+    pub motes: Vec<Session>,
     /// Those of mote 1, of mote 2, and so on; and so with the links.
-    pub(crate) applications: Vec<Vec<MoteApp>>,
-    pub(crate) links: Vec<Vec<Link>>,
-    pub(crate) room: u32,
-    pub(crate) rounds: u32,
+    pub applications: Vec<Vec<MoteApp>>,
+    pub links: Vec<Vec<Link>>,
+    pub room: u32,
+    pub rounds: u32,
 }
 
 /// Sets the size of this name.
@@ -146,7 +146,7 @@ fn read_mote(
 
 impl Setup {
     /// No motes.
-    pub(crate) fn new(alloc: Global) -> Self {
+    pub fn new(alloc: Global) -> Self {
         Setup {
             motes: Vec::new(alloc),
             applications: Vec::new(alloc),
@@ -157,7 +157,7 @@ impl Setup {
     }
 
     /// Does what a line says before the first input.
-    pub(crate) fn take_line(&mut self, alloc: Global, line: &str) -> Result<(), LineFault> {
+    pub fn take_line(&mut self, alloc: Global, line: &str) -> Result<(), LineFault> {
         if let Some(text) = line.strip_prefix("mote ") {
             return self.add_motes(alloc, text);
         }

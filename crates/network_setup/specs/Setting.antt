@@ -2,7 +2,7 @@
 use Rattle.std.specs.Prelude.{ℕ, ◌+◌, ◌%◌, ◌^◌, Bool, ◌&&◌, nat_le, nat_lt}
 use Rattle.medium_core.specs.Links.{is_loss}
 use Rattle.medium_core.specs.declared.link.Loss.{Loss}
-use Rattle.network.specs.declared.carriage.Carriage.{Carriage}
+use Rattle.network_setup.specs.declared.carriage.Carriage.{Carriage}
 
 -- the rule of a line's next link: a lot has the next seed
 abbrev pub next_loss : Loss → Loss

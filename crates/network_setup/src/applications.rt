@@ -8,8 +8,8 @@ use network_run::run::Caller;
 
 /// The applications of mote 1, of mote 2, and so on.
 #[derive(Drop)]
-pub(crate) struct Applications {
-    pub(crate) motes: Vec<Vec<MoteApp>>,
+pub struct Applications {
+    pub motes: Vec<Vec<MoteApp>>,
 }
 
 impl Caller for Applications {
