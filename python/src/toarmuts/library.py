@@ -30,7 +30,7 @@ MOST_ROOM_KEPT = 1 << 24
 
 ROW_SIZE = 56
 ADVANCE_SIZE = 1488
-APPLICATION_SIZE = 148
+APPLICATION_SIZE = 152
 NETWORK_ADVANCE_SIZE = 4304
 
 Configuration = tuple[int, int, int, int, int, int]
