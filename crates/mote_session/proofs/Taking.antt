@@ -1,5 +1,5 @@
 -- The call of a turn is made in its buffer.
-use Rattle.std.proofs.Common.{◌≡◌, ◌≤◌, ◌+◌, ◌∙◌, ap, refl, Option, None, Some}
+use Rattle.std.proofs.Common.{◌≡◌, ◌≤◌, ◌+◌, ◌∙◌, ℕ, ap, refl, Option, None, Some}
 use Rattle.mote_types.specs.declared.entry.Entry.{Entry}
 use Rattle.mote_types.specs.declared.event.Pid.{Pid}
 use Rattle.kernel_core.specs.Calls.{after_call}
@@ -8,6 +8,7 @@ use Rattle.kernel_core.specs.Code.Steps.{entry_of}
 use Rattle.kernel_core.specs.declared.turn.Turn.{Turn}
 use Rattle.mote_session.specs.Code.Places.{session_view}
 use Rattle.mote_session.specs.Code.Working.{MakesCall}
+use Rattle.mote_session.specs.Voices.{IsCall, SpokeLast, Voices}
 use Rattle.mote_session.specs.declared.last_entry.LastEntry.{LastEntry}
 
 pub makes_call : (old new : AwaitingMote) (turn made taken working : Turn) (other : Entry) (last : LastEntry) (pid : Pid) →
@@ -28,4 +29,18 @@ makes_call old new turn made taken working other last pid opened place kept mach
     left = left;
   };
   same = (inputs, clock);
+}
+
+-- the last entry is that turn then
+pub spoke_last : (m : ℕ) (turn made : Turn) (pid : Pid) (before after : Voices) → turn.pid ≡ pid → made ≡ record turn { call = made.call } →
+    IsCall m pid.0 turn.stimulus made.call before after → SpokeLast m (Some (entry_of made)) before after
+spoke_last m turn made pid before after place kept is = record {
+  process = pid;
+  origin = turn.origin;
+  stimulus = turn.stimulus;
+  call = made.call;
+  is_last =
+      ap (λ (t : Turn). Some (entry_of t)) kept
+      ∙ ap (λ (p : Pid). Some (Entry.Turn p turn.origin turn.stimulus made.call)) place;
+  is_call = is;
 }

@@ -6,5 +6,6 @@ pub mod Sent
 pub mod SessionRuns
 pub mod SessionView
 pub mod Steps
+pub mod Voices
 -- What the code keeps.
 pub mod Code

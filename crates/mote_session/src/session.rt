@@ -15,6 +15,8 @@ ghost use Rattle.std.specs.Option.{option_copied};
 ghost use Rattle.mote_session.specs.Code.Shown.{is_last_shown};
 ghost use Rattle.mote_session.specs.Sent.{sent_in};
 ghost use Rattle.mote_session.specs.Code.Places.{AreInPlace, session_view, turn_in};
+ghost use Rattle.mote_session.specs.Code.Speaking.{SpeaksBy};
+ghost use Rattle.mote_session.specs.Voices.{IsCall, SpokeLast};
 ghost use Rattle.mote_session.specs.Code.Working.{MakesCall, TurnTaken, WorksBy};
 ghost use Rattle.mote_session.specs.History.{History, at_boot, with_call, with_input, with_said};
 ghost use Rattle.mote_session.specs.Refusals.{input_refusal, is_input, line_refusal, unfit, unrest};
@@ -163,6 +165,7 @@ fn call_in<H: Caller>(
     requires { kernel.old.turn ≡ Some pid }
     ensures turn { turn.new ≡ record turn.old { call = turn.new.call } }
     ensures machine { result ≡ true → kernel.new.mote.machine ≡ after_call turn.new.call pid.0 kernel.old.mote.machine }
+    ensures call { result ≡ true → IsCall mote pid.0 turn.old.stimulus turn.new.call (H.voices caller.old) (H.voices caller.new) }
     ensures closed { result ≡ true → kernel.new.turn ≡ None }
     ensures clock { kernel.new.mote.machine.clock ≡ kernel.old.mote.machine.clock }
     ensures inputs { kernel.new.mote.inputs ≡ kernel.old.mote.inputs }
@@ -200,6 +203,8 @@ fn take_in<H: Caller>(
     requires place { turn.old.pid ≡ pid }
     ensures submitted { result ≡ true → (taken working : Taken) (other : Made) →
         MakesCall (session_view kernel.old turn.old taken other last.old) (session_view kernel.new working turn.new other last.new) }
+    ensures speaks { result ≡ true → (working : Taken) (other : Made) → SpokeLast mote
+        ((session_view kernel.new working turn.new other last.new).last) (H.voices caller.old) (H.voices caller.new) }
     ensures closed { result ≡ true → kernel.new.turn ≡ None }
     ensures none { result ≡ false → (kernel.new ≡ kernel.old) × (last.new ≡ last.old) }
     ensures turn { turn.new ≡ record turn.old { call = turn.new.call } }
@@ -366,6 +371,7 @@ impl Session {
         caller: &mut H,
     ) -> Result<Worked, SessionRefusal>
         ensures worked { IfOk result (λ worked. (self.old.turn ≡ None) × WorksBy worked self.old self.new) }
+        ensures speaks { IfOk result (λ worked. SpeaksBy worked mote self.new (H.voices caller.old) (H.voices caller.new)) }
         ensures refused { IfErr result (λ refusal. (refusal ≡ SessionRefusal.AwaitsCall) × (self.old.turn ≢ None) × (self.new ≡ self.old)) }
     {
         if self.kernel.turn().is_some() {
@@ -377,7 +383,8 @@ impl Session {
     /// Works as `next_by`, where no turn awaits its call.
     fn advance_by<H: Caller>(&mut self, mote: usize, caller: &mut H) -> Worked
         requires { self.old.turn ≡ None }
-        ensures { WorksBy result self.old self.new }
+        ensures works { WorksBy result self.old self.new }
+        ensures speaks { SpeaksBy result mote self.new (H.voices caller.old) (H.voices caller.new) }
     {
         match self.advance() {
             Next::Turn => self.take_turn(mote, caller),
@@ -390,7 +397,8 @@ impl Session {
     /// Has the caller make the call of the turn that awaits it, if there is one.
     fn take_turn<H: Caller>(&mut self, mote: usize, caller: &mut H) -> Worked
         requires { self.old.turn ≢ None }
-        ensures { TurnTaken result self.old self.new }
+        ensures taken { TurnTaken result self.old self.new }
+        ensures speaks { SpeaksBy result mote self.new (H.voices caller.old) (H.voices caller.new) }
     {
         match self.kernel.turn() {
             Some(pid) if self.end_turn_by(pid, mote, caller) => Worked::Turn,
@@ -402,6 +410,7 @@ impl Session {
     fn end_turn_by<H: Caller>(&mut self, pid: Pid, mote: usize, caller: &mut H) -> bool
         requires { IsSomeAnd self.old.turn (λ turn. turn.process ≡ pid) }
         ensures submitted { result ≡ true → MakesCall self.old self.new }
+        ensures speaks { result ≡ true → SpokeLast mote self.new.last (H.voices caller.old) (H.voices caller.new) }
         ensures none { result ≡ false → self.new ≡ self.old }
     {
         if self.works_in_odd {

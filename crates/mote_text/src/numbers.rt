@@ -4,7 +4,7 @@
 ghost use Rattle.std.specs.Prelude.{◌≡◌, ◌≤◌, ◌+◌, ◌++◌, codes, decimal, length};
 ghost use Rattle.mote_text.specs.Code.Appending.{HasRoom};
 
-use crate::line::OutputBuffer;
+use crate::output_buffer::OutputBuffer;
 
 /// Appends a number in decimal, and a blank.
 #[inline(always)]

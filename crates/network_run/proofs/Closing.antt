@@ -9,8 +9,10 @@ use Rattle.network_session.specs.Promise.{IsLogOf, NetworkPromise}
 use Rattle.network_run.specs.Code.Way.{Ends, Faulted, Place, Reading, RunsIf, Stopped, Went, is_write, place}
 use Rattle.network_run.specs.Code.Writing.{WritesOn}
 use Rattle.network_run.specs.NetworkRunText.{CanEnd, Gives, HasRun, IsSpent, NetworkRan, ending_text}
+use Rattle.mote_session.specs.Voices.{Voices}
 use Rattle.network_run.specs.declared.fault.RunFault.{RunFault}
 use Rattle.network_run.proofs.Scripts.{leads_length}
+use Rattle.network_run.proofs.Speaking.{make_the_calls}
 use Rattle.network_run.proofs.Ways.{faulted_after, stopped_after}
 use Rattle.network_run.proofs.Writing.{nothing_more, then_written}
 use Rattle.network_text.specs.NetworkRuns.{Leads, Move, log_of, moves_text}
@@ -40,12 +42,13 @@ abbrev pub PromiseLaw : Type 0
 PromiseLaw = (configs : ℕ → Config) (room : ℕ) (links : List (List Link)) (log : List Happening) (moves : List Move) (old new : NetworkView) →
     IsLogOf configs room links log old → Leads old moves new → NetworkPromise configs room links (log ++ log_of old moves) new
 
-module _ (law : PromiseLaw) (quiet : Bool) (script : Reading) (start net : NetworkView) where
+module _ (law : PromiseLaw) (quiet : Bool) (script : Reading) (start net : NetworkView) (voices later_voices : Voices) where
   -- what was done, and the text of that
-  ran : (given now due later lost text : List ℕ) (left : List NetworkInput) (ending : Option End) → Stopped quiet script.0 left due (place given [] start) (place now due net) →
+  ran : (said : Voices) (given now due later lost text : List ℕ) (left : List NetworkInput) (ending : Option End) →
+      Stopped quiet script.0 left due (place given [] start voices) (place now due net said) →
       IfSome ending (λ end. CanEnd net left script.1 end) → WritesOn now due later lost text → text ≡ ending_text ending →
-      Gives given later (λ written. NetworkRan quiet start script written lost ending)
-  ran given now due later lost text left ending stopped ends writes is =
+      Gives given later (λ written. NetworkRan quiet start voices script written lost ending)
+  ran said given now due later lost text left ending stopped ends writes is =
       let all = then_written stopped.went.writes writes in (
         all.out,
         all.given,
@@ -54,6 +57,7 @@ module _ (law : PromiseLaw) (quiet : Bool) (script : Reading) (start net : Netwo
           net = net;
           leads = stopped.went.leads;
           left = left;
+          calls = make_the_calls stopped.went.moves start net voices said stopped.went.leads stopped.went.calls;
           inputs = stopped.parts ∙ ap (λ (carried : List NetworkInput). carried ++ left) (sym stopped.went.carried);
           ends = ends;
           is_text = sym all.parted ∙ ap (λ (t : List ℕ). moves_text quiet start stopped.went.moves ++ t) is;
@@ -61,52 +65,52 @@ module _ (law : PromiseLaw) (quiet : Bool) (script : Reading) (start net : Netwo
         },
       )
 
-  pub closed : (end : End) (given now due later : List ℕ) → Ends quiet script end (place given [] start) (place now due net) → WritesOn now due later [] (last_line end) →
-      Gives given later (λ written. HasRun quiet start script written (Ok end))
-  closed end given now due later ends writes = ran given now due later [] (last_line end) ends.left (Some end) ends.stopped ends.can writes refl
+  pub closed : (end : End) (given now due later : List ℕ) → Ends quiet script end (place given [] start voices) (place now due net later_voices) → WritesOn now due later [] (last_line end) →
+      Gives given later (λ written. HasRun quiet start voices script written (Ok end))
+  closed end given now due later ends writes = ran later_voices given now due later [] (last_line end) ends.left (Some end) ends.stopped ends.can writes refl
 
-  pub cut_off : (end : End) (given now due later lost : List ℕ) → Ends quiet script end (place given [] start) (place now due net) →
-      WritesOn now due later lost (last_line end) → Gives given later (λ written. HasRun quiet start script written (Err RunFault.Write))
+  pub cut_off : (end : End) (given now due later lost : List ℕ) → Ends quiet script end (place given [] start voices) (place now due net later_voices) →
+      WritesOn now due later lost (last_line end) → Gives given later (λ written. HasRun quiet start voices script written (Err RunFault.Write))
   cut_off end given now due later lost ends writes =
-      let r = ran given now due later lost (last_line end) ends.left (Some end) ends.stopped ends.can writes refl in (r.0, r.1, (lost, Some end, r.2))
+      let r = ran later_voices given now due later lost (last_line end) ends.left (Some end) ends.stopped ends.can writes refl in (r.0, r.1, (lost, Some end, r.2))
 
-  pub failed_before : (fault : RunFault) (given now due : List ℕ) → is_write fault ≡ true → Faulted quiet script.0 fault (place given [] start) (place now due net) →
-      Gives given now (λ written. HasRun quiet start script written (Err fault))
+  pub failed_before : (fault : RunFault) (given now due : List ℕ) → is_write fault ≡ true → Faulted quiet script.0 fault (place given [] start voices) (place now due net later_voices) →
+      Gives given now (λ written. HasRun quiet start voices script written (Err fault))
   failed_before RunFault.Write given now due is faulted =
-      let r = ran given now faulted.lost now faulted.lost [] faulted.left None
+      let r = ran faulted.voices given now faulted.lost now faulted.lost [] faulted.left None
       (record { carried = faulted.stopped.carried; parts = faulted.stopped.parts; went = faulted.stopped.went }) tt (nothing_more now faulted.lost) refl in
       (r.0, r.1, (faulted.lost, None, r.2))
   failed_before RunFault.NoCall given now due is faulted = absurd (cc)
   failed_before (RunFault.Refused refusal) given now due is faulted = absurd (cc)
 
-  stopped_whole : (fault : RunFault) (given now due : List ℕ) → is_write fault ≡ false → (faulted : Faulted quiet script.0 fault (place given [] start) (place now due net)) →
-      Stopped quiet script.0 faulted.left due (place given [] start) (place now due net)
+  stopped_whole : (fault : RunFault) (given now due : List ℕ) → is_write fault ≡ false → (faulted : Faulted quiet script.0 fault (place given [] start voices) (place now due net later_voices)) →
+      Stopped quiet script.0 faulted.left due (place given [] start voices) (place now due net faulted.voices)
   stopped_whole fault given now due not faulted =
-      subst (λ (lost : List ℕ). Stopped quiet script.0 faulted.left lost (place given [] start) (place now due net)) (faulted.kept not) faulted.stopped
+      subst (λ (lost : List ℕ). Stopped quiet script.0 faulted.left lost (place given [] start voices) (place now due net faulted.voices)) (faulted.kept not) faulted.stopped
 
-  pub failed_now : (fault : RunFault) (given now due later lost : List ℕ) → is_write fault ≡ false → Faulted quiet script.0 fault (place given [] start) (place now due net) →
-      WritesOn now due later lost [] → Gives given later (λ written. HasRun quiet start script written (Err RunFault.Write))
+  pub failed_now : (fault : RunFault) (given now due later lost : List ℕ) → is_write fault ≡ false → Faulted quiet script.0 fault (place given [] start voices) (place now due net later_voices) →
+      WritesOn now due later lost [] → Gives given later (λ written. HasRun quiet start voices script written (Err RunFault.Write))
   failed_now fault given now due later lost not faulted writes =
-      let r = ran given now due later lost [] faulted.left None (stopped_whole fault given now due not faulted) tt writes refl in (r.0, r.1, (lost, None, r.2))
+      let r = ran faulted.voices given now due later lost [] faulted.left None (stopped_whole fault given now due not faulted) tt writes refl in (r.0, r.1, (lost, None, r.2))
 
-  with_fault : (fault : RunFault) (written : List ℕ) → is_write fault ≡ false → NetworkRan quiet start script written [] None → HasRun quiet start script written (Err fault)
+  with_fault : (fault : RunFault) (written : List ℕ) → is_write fault ≡ false → NetworkRan quiet start voices script written [] None → HasRun quiet start voices script written (Err fault)
   with_fault RunFault.Write written not r = absurd (cc)
   with_fault RunFault.NoCall written not r = r
   with_fault (RunFault.Refused refusal) written not r = r
 
-  pub failed : (fault : RunFault) (given now due later : List ℕ) → is_write fault ≡ false → Faulted quiet script.0 fault (place given [] start) (place now due net) →
-      WritesOn now due later [] [] → Gives given later (λ written. HasRun quiet start script written (Err fault))
+  pub failed : (fault : RunFault) (given now due later : List ℕ) → is_write fault ≡ false → Faulted quiet script.0 fault (place given [] start voices) (place now due net later_voices) →
+      WritesOn now due later [] [] → Gives given later (λ written. HasRun quiet start voices script written (Err fault))
   failed fault given now due later not faulted writes =
-      let r = ran given now due later [] [] faulted.left None (stopped_whole fault given now due not faulted) tt writes refl in
+      let r = ran faulted.voices given now due later [] [] faulted.left None (stopped_whole fault given now due not faulted) tt writes refl in
       (r.0, r.1, with_fault fault r.0 not r.2)
 
 -- the fault that is handed on is that of a write
-pub at_write : (quiet : Bool) (script : Reading) (start : NetworkView) (given later : List ℕ) (result : Result End RunFault) (fault : RunFault) →
-    IsErrAnd result (λ (handed : RunFault). handed ≡ fault) → fault ≡ RunFault.Write → Gives given later (λ written. HasRun quiet start script written (Err RunFault.Write)) →
-    Gives given later (λ written. HasRun quiet start script written result)
-at_write quiet script start given later (Ok end) fault is write gives = absurd is
-at_write quiet script start given later (Err handed) fault is write gives =
-    subst (λ (f : RunFault). Gives given later (λ written. HasRun quiet start script written (Err f))) (sym (is ∙ write)) gives
+pub at_write : (quiet : Bool) (script : Reading) (start : NetworkView) (voices : Voices) (given later : List ℕ) (result : Result End RunFault) (fault : RunFault) →
+    IsErrAnd result (λ (handed : RunFault). handed ≡ fault) → fault ≡ RunFault.Write → Gives given later (λ written. HasRun quiet start voices script written (Err RunFault.Write)) →
+    Gives given later (λ written. HasRun quiet start voices script written result)
+at_write quiet script start voices given later (Ok end) fault is write gives = absurd is
+at_write quiet script start voices given later (Err handed) fault is write gives =
+    subst (λ (f : RunFault). Gives given later (λ written. HasRun quiet start voices script written (Err f))) (sym (is ∙ write)) gives
 
 -- nothing is due any more
 pub emptied : {g₀ d₀ g₁ due text : List ℕ} → due ≡ [] → WritesOn g₀ d₀ g₁ due text → WritesOn g₀ d₀ g₁ [] text

@@ -3,6 +3,7 @@ pub mod Writing
 pub mod Fates
 pub mod StepText
 pub mod Doing
+pub mod Speaking
 pub mod Ways
 pub mod Scripts
 pub mod Closing

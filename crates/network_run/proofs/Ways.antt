@@ -4,6 +4,9 @@ use Rattle.network_session.specs.Network.{NetworkView}
 use Rattle.network_run.specs.Code.Way.{Faulted, Goes, Place, Stopped, Takes, TakesIf, Went, is_write, place}
 use Rattle.network_run.specs.Code.Writing.{Puts, WritesOn}
 use Rattle.network_run.specs.declared.fault.RunFault.{RunFault}
+use Rattle.network_run.specs.Code.Calls.{Speaks}
+use Rattle.mote_session.specs.Voices.{Voices}
+use Rattle.network_run.proofs.Speaking.{speak_on}
 use Rattle.network_run.proofs.Writing.{nothing_more, then_written}
 use Rattle.network_text.specs.NetworkRuns.{IsMove, Move, after_move, inputs_of, move_lines}
 use Rattle.network_text.specs.declared.input.NetworkInput.{NetworkInput}
@@ -29,12 +32,13 @@ on_any (Err fault) p = tt
 
 module _ (quiet : Bool) where
   pub went_nowhere : (here : Place) → Went quiet [] here here
-  went_nowhere here = record { moves = []; leads = refl; carried = refl; writes = nothing_more here.given here.due }
+  went_nowhere here = record { moves = []; leads = refl; calls = refl; carried = refl; writes = nothing_more here.given here.due }
 
   pub went_on : {inputs more : List NetworkInput} {from mid to : Place} → Went quiet inputs from mid → Went quiet more mid to → Went quiet (inputs ++ more) from to
   went_on {inputs} {more} {from} {mid} {to} first second = record {
     moves = first.moves ++ second.moves;
     leads = leads_on first.moves second.moves from.net mid.net to.net first.leads second.leads;
+    calls = speak_on first.moves second.moves from.net mid.net from.voices mid.voices to.voices first.leads first.calls second.calls;
     carried = inputs_on first.moves second.moves ∙ (ap (λ (v : List NetworkInput). v ++ inputs_of second.moves) first.carried ∙ ap (λ (v : List NetworkInput). inputs ++ v) second.carried);
     writes = subst (λ (text : List ℕ). WritesOn from.given from.due to.given to.due text)
         (sym (text_on quiet first.moves second.moves from.net mid.net first.leads)) (then_written first.writes second.writes);
@@ -45,37 +49,42 @@ module _ (quiet : Bool) where
   went_further {inputs} {from} {mid} {to} first second = subst (λ (all : List NetworkInput). Went quiet all from to) (append-nil inputs) (went_on first second)
 
   -- one move
-  pub went_move : (move : Move) (inputs : List NetworkInput) (old new : NetworkView) {given due given_later due_later : List ℕ} → IsMove old move →
-      after_move move ≡ new → inputs_of (move ∷ []) ≡ inputs → WritesOn given due given_later due_later (move_lines quiet old move) →
-      Went quiet inputs (place given due old) (place given_later due_later new)
-  went_move move inputs old new {given} {due} {given_later} {due_later} is after carried writes = record {
+  pub went_move : (move : Move) (inputs : List NetworkInput) (old new : NetworkView) {given due given_later due_later : List ℕ} {voices later : Voices} →
+      IsMove old move → after_move move ≡ new → Speaks old move voices later → inputs_of (move ∷ []) ≡ inputs →
+      WritesOn given due given_later due_later (move_lines quiet old move) →
+      Went quiet inputs (place given due old voices) (place given_later due_later new later)
+  went_move move inputs old new {given} {due} {given_later} {due_later} {later = later} is after speaks carried writes = record {
     moves = move ∷ [];
     leads = (is, after);
+    calls = (later, speaks, refl);
     carried = carried;
     writes = subst (λ (text : List ℕ). WritesOn given due given_later due_later text) (sym (append-nil (move_lines quiet old move))) writes;
   }
 
   -- a move with no line
-  pub went_mute : (move : Move) (inputs : List NetworkInput) (old new : NetworkView) (given due : List ℕ) → IsMove old move → after_move move ≡ new →
-      inputs_of (move ∷ []) ≡ inputs → move_lines quiet old move ≡ [] → Went quiet inputs (place given due old) (place given due new)
-  went_mute move inputs old new given due is after carried none =
-      went_move move inputs old new is after carried (subst (λ (text : List ℕ). WritesOn given due given due text) (sym none) (nothing_more given due))
+  pub went_mute : (move : Move) (inputs : List NetworkInput) (old new : NetworkView) (given due : List ℕ) (voices later : Voices) →
+      IsMove old move → after_move move ≡ new → Speaks old move voices later → inputs_of (move ∷ []) ≡ inputs → move_lines quiet old move ≡ [] →
+      Went quiet inputs (place given due old voices) (place given due new later)
+  went_mute move inputs old new given due voices later is after speaks carried none =
+      went_move move inputs old new is after speaks carried (subst (λ (text : List ℕ). WritesOn given due given due text) (sym none) (nothing_more given due))
 
   -- nothing is left, and nothing is lost but by a write
   pub all_carried : {inputs : List NetworkInput} {from to : Place} (lost : List ℕ) → Went quiet inputs from (record to { due = lost }) → Stopped quiet inputs [] lost from to
   all_carried {inputs} lost went = record { carried = inputs; parts = sym (append-nil inputs); went = went }
 
   -- a move whose lines are put
-  pub goes_move : {T : Type 0} (result : Result T RunFault) (move : Move) (inputs : List NetworkInput) (old new : NetworkView) (given due given_later due_later : List ℕ) →
-      IsMove old move → after_move move ≡ new → inputs_of (move ∷ []) ≡ inputs → IfErr result (λ fault. fault ≡ RunFault.Write) →
-      Puts result given due given_later due_later (move_lines quiet old move) →
-      Goes result quiet inputs (place given due old) (place given_later due_later new)
-  goes_move (Ok x) move inputs old new given due given_later due_later is after carried write puts = went_move move inputs old new is after carried puts
-  goes_move (Err fault) move inputs old new given due given_later due_later is after carried write puts = record {
+  pub goes_move : {T : Type 0} (result : Result T RunFault) (move : Move) (inputs : List NetworkInput) (old new : NetworkView) (given due given_later due_later : List ℕ)
+      (voices later : Voices) → IsMove old move → after_move move ≡ new → Speaks old move voices later → inputs_of (move ∷ []) ≡ inputs →
+      IfErr result (λ fault. fault ≡ RunFault.Write) → Puts result given due given_later due_later (move_lines quiet old move) →
+      Goes result quiet inputs (place given due old voices) (place given_later due_later new later)
+  goes_move (Ok x) move inputs old new given due given_later due_later voices later is after speaks carried write puts =
+      went_move move inputs old new is after speaks carried puts
+  goes_move (Err fault) move inputs old new given due given_later due_later voices later is after speaks carried write puts = record {
     left = [];
     lost = puts.0;
     kept = only_write fault write;
-    stopped = all_carried puts.0 (went_move move inputs old new is after carried puts.1);
+    voices = later;
+    stopped = record { carried = inputs; parts = sym (append-nil inputs); went = went_move move inputs old new is after speaks carried puts.1 };
   }
 
   -- and before that, others
@@ -90,7 +99,7 @@ module _ (quiet : Bool) where
 
   pub faulted_after : {inputs more : List NetworkInput} {fault : RunFault} {from mid to : Place} → Went quiet inputs from mid → Faulted quiet more fault mid to →
       Faulted quiet (inputs ++ more) fault from to
-  faulted_after first second = record { left = second.left; lost = second.lost; kept = second.kept; stopped = stopped_after first second.stopped }
+  faulted_after first second = record { left = second.left; lost = second.lost; kept = second.kept; voices = second.voices; stopped = stopped_after first second.stopped }
 
   pub goes_after : {T : Type 0} (result : Result T RunFault) (inputs more : List NetworkInput) (from mid to : Place) → Went quiet inputs from mid →
       Goes result quiet more mid to → Goes result quiet (inputs ++ more) from to
@@ -109,12 +118,23 @@ module _ (quiet : Bool) where
 
   pub faulted_before : {inputs : List NetworkInput} (more : List NetworkInput) {fault : RunFault} {from to : Place} → Faulted quiet inputs fault from to →
       Faulted quiet (inputs ++ more) fault from to
-  faulted_before more first = record { left = first.left ++ more; lost = first.lost; kept = first.kept; stopped = stopped_before more first.stopped }
+  faulted_before more first = record { left = first.left ++ more; lost = first.lost; kept = first.kept; voices = first.voices; stopped = stopped_before more first.stopped }
 
   -- a fault before anything was done
   pub faulted_here : (inputs : List NetworkInput) (fault : RunFault) (here : Place) → Faulted quiet inputs fault here here
   faulted_here inputs fault here =
-      record { left = inputs; lost = here.due; kept = λ not. refl; stopped = record { carried = []; parts = refl; went = went_nowhere here } }
+      record { left = inputs; lost = here.due; kept = λ not. refl; voices = here.voices; stopped = record { carried = []; parts = refl; went = went_nowhere here } }
+
+  -- whatever the application said that has no such turn
+  pub faulted_mute : (inputs : List NetworkInput) (fault : RunFault) (given due : List ℕ) (net : NetworkView) (voices later : Voices) →
+      Faulted quiet inputs fault (place given due net voices) (place given due net later)
+  faulted_mute inputs fault given due net voices later = record {
+    left = inputs;
+    lost = due;
+    kept = λ not. refl;
+    voices = voices;
+    stopped = record { carried = []; parts = refl; went = went_nowhere (place given due net voices) };
+  }
 
   -- an input is carried out, and the network rests after it, or not
   pub takes_all : (result : Result Bool RunFault) (inputs : List NetworkInput) (from to : Place) → Goes result quiet inputs from to → TakesIf result quiet inputs from to
@@ -122,25 +142,31 @@ module _ (quiet : Bool) where
   takes_all (Err fault) inputs from to faulted = faulted
 
   -- a network that refuses is as it was
-  pub faulted_same : (inputs : List NetworkInput) (fault : RunFault) (given due : List ℕ) (old new : NetworkView) → new ≡ old →
-      Faulted quiet inputs fault (place given due old) (place given due new)
-  faulted_same inputs fault given due old new same = rw same (faulted_here inputs fault (place given due old))
+  pub faulted_same : (inputs : List NetworkInput) (fault : RunFault) (given due : List ℕ) (old new : NetworkView) (voices later : Voices) → new ≡ old →
+      Faulted quiet inputs fault (place given due old voices) (place given due new later)
+  faulted_same inputs fault given due old new voices later same = rw same (faulted_mute inputs fault given due old voices later)
 
   -- a move whose lines are lost
-  pub faulted_move : (fault : RunFault) (move : Move) (inputs : List NetworkInput) (old new : NetworkView) (given due given_later due_later lost : List ℕ) →
-      IsMove old move → after_move move ≡ new → inputs_of (move ∷ []) ≡ inputs → fault ≡ RunFault.Write →
+  pub faulted_move : (fault : RunFault) (move : Move) (inputs : List NetworkInput) (old new : NetworkView) (given due given_later due_later lost : List ℕ)
+      (voices later : Voices) → IsMove old move → after_move move ≡ new → Speaks old move voices later → inputs_of (move ∷ []) ≡ inputs → fault ≡ RunFault.Write →
       WritesOn given due given_later lost (move_lines quiet old move) →
-      Faulted quiet inputs fault (place given due old) (place given_later due_later new)
-  faulted_move fault move inputs old new given due given_later due_later lost is after carried write writes =
-      record { left = []; lost = lost; kept = only_write fault write; stopped = all_carried lost (went_move move inputs old new is after carried writes) }
+      Faulted quiet inputs fault (place given due old voices) (place given_later due_later new later)
+  faulted_move fault move inputs old new given due given_later due_later lost voices later is after speaks carried write writes = record {
+    left = [];
+    lost = lost;
+    kept = only_write fault write;
+    voices = later;
+    stopped = record { carried = inputs; parts = sym (append-nil inputs); went = went_move move inputs old new is after speaks carried writes };
+  }
 
   -- the network rests after the inputs
 
   pub takes_went : {inputs : List NetworkInput} {from to : Place} → Went quiet inputs from to → Takes quiet inputs true from to
   takes_went {to = to} went = record { left = []; all = λ yes. refl; stopped = all_carried to.due went }
 
-  pub takes_same : (given due : List ℕ) (old new : NetworkView) → new ≡ old → Takes quiet [] true (place given due old) (place given due new)
-  takes_same given due old new same = rw same (takes_went (went_nowhere (place given due old)))
+  pub takes_same : (given due : List ℕ) (old new : NetworkView) (voices : Voices) → new ≡ old →
+      Takes quiet [] true (place given due old voices) (place given due new voices)
+  takes_same given due old new voices same = rw same (takes_went (went_nowhere (place given due old voices)))
 
   pub went_of : {inputs : List NetworkInput} {rests : Bool} {from to : Place} → Takes quiet inputs rests from to → rests ≡ true → Went quiet inputs from to
   went_of {inputs} {from = from} {to = to} takes rests =

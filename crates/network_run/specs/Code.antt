@@ -1,4 +1,5 @@
 -- The code's own invariants.
+pub mod Calls
 pub mod Lines
 pub mod StepText
 pub mod Steps

@@ -8,6 +8,8 @@ use Rattle.network_session.specs.Promise.{IsLogOf, NetworkPromise}
 use Rattle.network_session.specs.Schedule.{due_step}
 use Rattle.network_session.specs.declared.outcome.Outcome.{Outcome}
 use Rattle.network_run.specs.declared.fault.RunFault.{RunFault}
+use Rattle.mote_session.specs.Voices.{Voices}
+use Rattle.network_run.specs.Voices.{MakeTheCalls}
 use Rattle.network_text.specs.NetworkRuns.{IsResting, Leads, Move, inputs_of, log_of, moves_text}
 use Rattle.network_text.specs.NetworkText.{last_line}
 use Rattle.network_text.specs.declared.input.NetworkInput.{NetworkInput}
@@ -45,15 +47,16 @@ abbrev pub ending_text : Option End → List ℕ
 ending_text None = []
 ending_text (Some end) = last_line end
 
--- Moves of a network from its start on: they carry out the script's inputs, in order, up to those that are left. Their text was
--- written but for the rest
-pub record NetworkRan (quiet : Bool) (start : NetworkView) (script : List NetworkInput × End) (written rest : List ℕ)
-    (ending : Option End) : Type 0 where
+-- Moves of a network from its start on: they carry out the script's inputs, in order, up to those that are left, with the calls of
+-- these applications. Their text was written but for the rest
+pub record NetworkRan (quiet : Bool) (start : NetworkView) (voices : Voices) (script : List NetworkInput × End)
+    (written rest : List ℕ) (ending : Option End) : Type 0 where
   pub moves : List Move
   pub net : NetworkView
   pub leads : Leads start moves net
   pub left : List NetworkInput
   pub inputs : script.0 ≡ inputs_of moves ++ left
+  pub calls : MakeTheCalls voices (log_of start moves)
   pub ends : IfSome ending (λ end. CanEnd net left script.1 end)
   pub is_text : written ++ rest ≡ moves_text quiet start moves ++ ending_text ending
   -- of a network that has just booted, what happened keeps the promise
@@ -61,12 +64,12 @@ pub record NetworkRan (quiet : Bool) (start : NetworkView) (script : List Networ
       NetworkPromise configs room links (log_of start moves) net
 
 -- how it ended: all was written, unless writing failed
-abbrev pub HasRun : Bool → NetworkView → List NetworkInput × End → List ℕ → Result End RunFault → Type 0
-HasRun quiet start script written (Ok end) = NetworkRan quiet start script written [] (Some end)
-HasRun quiet start script written (Err RunFault.Write) =
-    (rest : List ℕ) × (ending : Option End) × NetworkRan quiet start script written rest ending
-HasRun quiet start script written (Err RunFault.NoCall) = NetworkRan quiet start script written [] None
-HasRun quiet start script written (Err (RunFault.Refused fault)) = NetworkRan quiet start script written [] None
+abbrev pub HasRun : Bool → NetworkView → Voices → List NetworkInput × End → List ℕ → Result End RunFault → Type 0
+HasRun quiet start voices script written (Ok end) = NetworkRan quiet start voices script written [] (Some end)
+HasRun quiet start voices script written (Err RunFault.Write) =
+    (rest : List ℕ) × (ending : Option End) × NetworkRan quiet start voices script written rest ending
+HasRun quiet start voices script written (Err RunFault.NoCall) = NetworkRan quiet start voices script written [] None
+HasRun quiet start voices script written (Err (RunFault.Refused fault)) = NetworkRan quiet start voices script written [] None
 
 -- what was given since then is this
 abbrev pub Gives : List ℕ → List ℕ → (List ℕ → Type 0) → Type 0

@@ -49,7 +49,8 @@ fn pass_time<K: ByteSink, H: Caller>(
     requires rests { IsResting network.old }
     requires countable { K.failure_count sink.old < 2 ^ 64 - 1 }
     ensures takes { K.is_named → TakesIf result quiet (NetworkInput.Tick ticks ∷ [])
-        (place (K.given sink.old) text.old.due.items network.old) (place (K.given sink.new) text.new.due.items network.new) }
+        (place (K.given sink.old) text.old.due.items network.old (H.voices caller.old))
+        (place (K.given sink.new) text.new.due.items network.new (H.voices caller.new)) }
     ensures rests { IfOk result (λ rests. RestsIf rests network.new) }
     ensures failures { CountsFaults result (K.failure_count sink.old) (K.failure_count sink.new) }
 {
@@ -71,7 +72,8 @@ fn catch_up<K: ByteSink, H: Caller>(
     requires rests { IsResting network.old }
     requires countable { K.failure_count sink.old < 2 ^ 64 - 1 }
     ensures takes { K.is_named → TakesIf result quiet []
-        (place (K.given sink.old) text.old.due.items network.old) (place (K.given sink.new) text.new.due.items network.new) }
+        (place (K.given sink.old) text.old.due.items network.old (H.voices caller.old))
+        (place (K.given sink.new) text.new.due.items network.new (H.voices caller.new)) }
     ensures rests { IfOk result (λ rests. RestsIf rests network.new) }
     ensures failures { CountsFaults result (K.failure_count sink.old) (K.failure_count sink.new) }
 {
@@ -106,7 +108,8 @@ fn feed<K: ByteSink, H: Caller>(
     requires rests { IsResting network.old }
     requires countable { K.failure_count sink.old < 2 ^ 64 - 1 }
     ensures takes { K.is_named → TakesIf result quiet (NetworkInput.ForMote (mote + 1) input ∷ [])
-        (place (K.given sink.old) text.old.due.items network.old) (place (K.given sink.new) text.new.due.items network.new) }
+        (place (K.given sink.old) text.old.due.items network.old (H.voices caller.old))
+        (place (K.given sink.new) text.new.due.items network.new (H.voices caller.new)) }
     ensures rests { IfOk result (λ rests. RestsIf rests network.new) }
     ensures failures { CountsFaults result (K.failure_count sink.old) (K.failure_count sink.new) }
 {
@@ -133,7 +136,8 @@ pub(crate) fn take_input<K: ByteSink, H: Caller>(
     requires for_some { is_for_some (length network.old.motes) input ≡ true }
     requires countable { K.failure_count sink.old < 2 ^ 64 - 1 }
     ensures takes { K.is_named → TakesIf result quiet (input ∷ [])
-        (place (K.given sink.old) text.old.due.items network.old) (place (K.given sink.new) text.new.due.items network.new) }
+        (place (K.given sink.old) text.old.due.items network.old (H.voices caller.old))
+        (place (K.given sink.new) text.new.due.items network.new (H.voices caller.new)) }
     ensures rests { IfOk result (λ rests. RestsIf rests network.new) }
     ensures failures { CountsFaults result (K.failure_count sink.old) (K.failure_count sink.new) }
 {

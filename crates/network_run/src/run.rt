@@ -3,6 +3,7 @@
 ghost use Rattle.std.specs.Prelude.{◌≡◌, ◌<◌, ◌+◌, ◌-◌, ◌^◌, [], ℕ, Bool, List, None, false, length, IfOk};
 ghost use Rattle.network_run.specs.Code.Way.{CountsFaults, Ends, Faulted, HasCome, LineRuns, Place, Reading, RunsIf, is_write, place};
 ghost use Rattle.network_run.specs.NetworkRunText.{Gives, HasRun, script_lines};
+ghost use Rattle.mote_session.specs.Voices.{Voices};
 ghost use Rattle.network_session.specs.Network.{NetworkView};
 ghost use Rattle.network_text.specs.NetworkRuns.{IsResting};
 ghost use Rattle.network_text.specs.NetworkScript.{read_network_line, read_network_lines, with_network_line};
@@ -32,8 +33,9 @@ fn take_line<K: ByteSink, H: Caller>(
     requires countable { K.failure_count sink.old < 2 ^ 64 - 1 }
     ensures runs { K.is_named → (script later : Reading) (from : Place) →
         HasCome quiet script (with_network_line number (read_network_line (length from.net.motes) line.now) later) from
-        (place (K.given sink.old) text.old.due.items network.old) →
-        LineRuns result quiet script later from (place (K.given sink.new) text.new.due.items network.new) }
+        (place (K.given sink.old) text.old.due.items network.old (H.voices caller.old)) →
+        LineRuns result quiet script later from
+        (place (K.given sink.new) text.new.due.items network.new (H.voices caller.new)) }
     ensures rests { IfOk result (λ ending. ending ≡ None → IsResting network.new) }
     ensures failures { CountsFaults result (K.failure_count sink.old) (K.failure_count sink.new) }
 {
@@ -64,7 +66,8 @@ fn take_lines<K: ByteSink, H: Caller>(
     requires numbers { first + length script.now < 2 ^ 32 }
     requires countable { K.failure_count sink.old < 2 ^ 64 - 1 }
     ensures runs { K.is_named → RunsIf result quiet (read_network_lines (length network.old.motes) first (script_lines script.now))
-        (place (K.given sink.old) text.old.due.items network.old) (place (K.given sink.new) text.new.due.items network.new) }
+        (place (K.given sink.old) text.old.due.items network.old (H.voices caller.old))
+        (place (K.given sink.new) text.new.due.items network.new (H.voices caller.new)) }
     ensures failures { CountsFaults result (K.failure_count sink.old) (K.failure_count sink.new) }
 {
     let mut rest = script;
@@ -93,7 +96,8 @@ fn carry_out<K: ByteSink, H: Caller>(
     requires numbers { first + length script.now < 2 ^ 32 }
     requires countable { K.failure_count sink.old < 2 ^ 64 - 1 }
     ensures runs { K.is_named → RunsIf result quiet (read_network_lines (length network.old.motes) first (script_lines script.now))
-        (place (K.given sink.old) text.old.due.items network.old) (place (K.given sink.new) text.new.due.items network.new) }
+        (place (K.given sink.old) text.old.due.items network.old (H.voices caller.old))
+        (place (K.given sink.new) text.new.due.items network.new (H.voices caller.new)) }
     ensures failures { CountsFaults result (K.failure_count sink.old) (K.failure_count sink.new) }
 {
     if run_to_rest(sink, text, caller, network, quiet)? {
@@ -106,9 +110,10 @@ fn carry_out<K: ByteSink, H: Caller>(
 /// Writes all text that is due, and the last line of a run that ended so.
 fn close<K: ByteSink>(sink: &mut K, text: &mut DueText, end: End) -> Result<End, RunFault>
     requires countable { K.failure_count sink.old < 2 ^ 64 - 1 }
-    ensures ran { K.is_named → (quiet : Bool) (script : Reading) (start net : NetworkView) (given : List ℕ) →
-        Ends quiet script end (place given [] start) (place (K.given sink.old) text.old.due.items net) →
-        Gives given (K.given sink.new) (λ written. HasRun quiet start script written result) }
+    ensures ran { K.is_named →
+        (quiet : Bool) (script : Reading) (start net : NetworkView) (voices later : Voices) (given : List ℕ) →
+        Ends quiet script end (place given [] start voices) (place (K.given sink.old) text.old.due.items net later) →
+        Gives given (K.given sink.new) (λ written. HasRun quiet start voices script written result) }
     ensures failures { CountsFaults result (K.failure_count sink.old) (K.failure_count sink.new) }
 {
     texts_go_on();
@@ -131,9 +136,10 @@ fn is_write(fault: RunFault) -> bool
 /// Writes all text that is due after a fault, unless writing failed.
 fn fail<K: ByteSink>(sink: &mut K, text: &mut DueText, fault: RunFault) -> Result<End, RunFault>
     requires countable { is_write fault ≡ false → K.failure_count sink.old < 2 ^ 64 - 1 }
-    ensures ran { K.is_named → (quiet : Bool) (script : Reading) (start net : NetworkView) (given : List ℕ) →
-        Faulted quiet script.0 fault (place given [] start) (place (K.given sink.old) text.old.due.items net) →
-        Gives given (K.given sink.new) (λ written. HasRun quiet start script written result) }
+    ensures ran { K.is_named →
+        (quiet : Bool) (script : Reading) (start net : NetworkView) (voices later : Voices) (given : List ℕ) →
+        Faulted quiet script.0 fault (place given [] start voices) (place (K.given sink.old) text.old.due.items net later) →
+        Gives given (K.given sink.new) (λ written. HasRun quiet start voices script written result) }
 {
     texts_go_on();
     if is_write(fault) {
@@ -147,7 +153,8 @@ fn fail<K: ByteSink>(sink: &mut K, text: &mut DueText, fault: RunFault) -> Resul
 /// `quiet` is true, only the lines of a quiet transcript. First the motes are started. Then each line's input is carried out, at rest,
 /// until the network rests again, or the input has used up its rounds: that ends the run. A malformed line ends it, too.
 ///
-/// What is written is the text of the moves that the network made, and the last line. A network that has just booted keeps its promise.
+/// What is written is the text of the moves that the network made, with the calls of the caller's applications, and the last line. A
+/// network that has just booted keeps its promise.
 ///
 /// # Errors
 ///
@@ -164,7 +171,8 @@ pub fn run_network<K: ByteSink, H: Caller>(
     requires numbers { first + length script.now < 2 ^ 32 }
     requires countable { K.failure_count sink.old < 2 ^ 64 - 1 }
     ensures ran { K.is_named → Gives (K.given sink.old) (K.given sink.new) (λ written.
-        HasRun quiet network (read_network_lines (length network.motes) first (script_lines script.now)) written result) }
+        HasRun quiet network (H.voices caller.old)
+        (read_network_lines (length network.motes) first (script_lines script.now)) written result) }
 {
     let mut network = network;
     let mut text = DueText::new();

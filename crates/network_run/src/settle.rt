@@ -3,6 +3,8 @@
 ghost use Rattle.std.specs.Prelude.{◌≡◌, ◌<◌, ◌-◌, ◌^◌, [], Some, None, IfOk, IfSome, OnOk};
 ghost use Rattle.network_session.specs.Code.Measures.{IsNearerRest, to_do};
 ghost use Rattle.network_session.specs.Code.Working.{Works};
+ghost use Rattle.mote_session.specs.Voices.{Voices};
+ghost use Rattle.network_run.specs.Code.Calls.{SpeaksIn};
 ghost use Rattle.network_run.specs.Code.Steps.{DidDueStep, rests_after};
 ghost use Rattle.network_session.specs.Network.{NetworkView};
 ghost use Rattle.network_run.specs.Code.Way.{CountsFaults, Goes, RestsIf, place};
@@ -27,7 +29,9 @@ fn put_work<K: ByteSink>(
 ) -> Result<(), RunFault>
     requires countable { K.failure_count sink.old < 2 ^ 64 - 1 }
     ensures goes { K.is_named → (before : NetworkView) → before.active ≡ Some mote → Works mote worked before network.now →
-        Goes result quiet [] (place (K.given sink.old) text.old.due.items before) (place (K.given sink.new) text.new.due.items network.now) }
+        (voices later : Voices) → SpeaksIn worked mote network.now.motes voices later →
+        Goes result quiet [] (place (K.given sink.old) text.old.due.items before voices)
+        (place (K.given sink.new) text.new.due.items network.now later) }
     ensures nearer { OnOk result ((before : NetworkView) → Works mote worked before network.now → IsNearerRest before network.now) }
     ensures failures { CountsFaults result (K.failure_count sink.old) (K.failure_count sink.new) }
 {
@@ -51,8 +55,9 @@ fn work_once<K: ByteSink, H: Caller>(
 ) -> Result<(), RunFault>
     requires active { network.old.active ≡ Some mote }
     requires countable { K.failure_count sink.old < 2 ^ 64 - 1 }
-    ensures goes { K.is_named → Goes result quiet [] (place (K.given sink.old) text.old.due.items network.old)
-        (place (K.given sink.new) text.new.due.items network.new) }
+    ensures goes { K.is_named →
+        Goes result quiet [] (place (K.given sink.old) text.old.due.items network.old (H.voices caller.old))
+        (place (K.given sink.new) text.new.due.items network.new (H.voices caller.new)) }
     ensures nearer { OnOk result (IsNearerRest network.old network.new) }
     ensures failures { CountsFaults result (K.failure_count sink.old) (K.failure_count sink.new) }
 {
@@ -71,8 +76,9 @@ fn settle<K: ByteSink, H: Caller>(
     quiet: bool,
 ) -> Result<(), RunFault>
     requires countable { K.failure_count sink.old < 2 ^ 64 - 1 }
-    ensures goes { K.is_named → Goes result quiet [] (place (K.given sink.old) text.old.due.items network.old)
-        (place (K.given sink.new) text.new.due.items network.new) }
+    ensures goes { K.is_named →
+        Goes result quiet [] (place (K.given sink.old) text.old.due.items network.old (H.voices caller.old))
+        (place (K.given sink.new) text.new.due.items network.new (H.voices caller.new)) }
     ensures same { OnOk result (to_do network.new ≡ to_do network.old) }
     ensures idle { OnOk result (network.new.active ≡ None) }
     ensures failures { CountsFaults result (K.failure_count sink.old) (K.failure_count sink.new) }
@@ -93,7 +99,8 @@ fn finish_step<K: ByteSink>(
 ) -> Result<(), RunFault>
     requires countable { K.failure_count sink.old < 2 ^ 64 - 1 }
     ensures goes { K.is_named → (before : NetworkView) → before.active ≡ None → DidDueStep outcome before network.now →
-        Goes result quiet [] (place (K.given sink.old) text.old.due.items before) (place (K.given sink.new) text.new.due.items network.now) }
+        (voices : Voices) → Goes result quiet [] (place (K.given sink.old) text.old.due.items before voices)
+        (place (K.given sink.new) text.new.due.items network.now voices) }
     ensures failures { CountsFaults result (K.failure_count sink.old) (K.failure_count sink.new) }
 {
     put_step(sink, text, network, outcome, quiet)
@@ -108,8 +115,9 @@ fn take_step<K: ByteSink>(
 ) -> Result<Outcome, RunFault>
     requires idle { network.old.active ≡ None }
     requires countable { K.failure_count sink.old < 2 ^ 64 - 1 }
-    ensures goes { K.is_named → Goes result quiet [] (place (K.given sink.old) text.old.due.items network.old)
-        (place (K.given sink.new) text.new.due.items network.new) }
+    ensures goes { K.is_named → (voices : Voices) →
+        Goes result quiet [] (place (K.given sink.old) text.old.due.items network.old voices)
+        (place (K.given sink.new) text.new.due.items network.new voices) }
     ensures did { IfOk result (λ outcome. DidDueStep outcome network.old network.new) }
     ensures failures { CountsFaults result (K.failure_count sink.old) (K.failure_count sink.new) }
 {
@@ -142,8 +150,9 @@ pub(crate) fn run_to_rest<K: ByteSink, H: Caller>(
     quiet: bool,
 ) -> Result<bool, RunFault>
     requires countable { K.failure_count sink.old < 2 ^ 64 - 1 }
-    ensures goes { K.is_named → Goes result quiet [] (place (K.given sink.old) text.old.due.items network.old)
-        (place (K.given sink.new) text.new.due.items network.new) }
+    ensures goes { K.is_named →
+        Goes result quiet [] (place (K.given sink.old) text.old.due.items network.old (H.voices caller.old))
+        (place (K.given sink.new) text.new.due.items network.new (H.voices caller.new)) }
     ensures rests { IfOk result (λ rests. RestsIf rests network.new) }
     ensures failures { CountsFaults result (K.failure_count sink.old) (K.failure_count sink.new) }
 {

@@ -9,6 +9,7 @@ ghost use Rattle.network_session.specs.declared.fault.NetworkBootFault.{NetworkB
 ghost use Rattle.network_session.specs.declared.outcome.Outcome.TheVariants.{Woken};
 ghost use Rattle.network_session.specs.Steps.{SubmittedIn, HandedIn, IsNetworkSubmitted, IsNetworkFed, IsToldTime, Steps, ToldIn, WorkedIn, aired_if};
 ghost use Rattle.network_session.specs.Code.Wakes.{AreWakes, IsSteady};
+ghost use Rattle.mote_session.specs.Code.Speaking.{SpeaksBy};
 ghost use Rattle.network_session.specs.Code.Working.{Works, WorksIn};
 ghost use Rattle.kernel_core.specs.Conditions.{ticks_of};
 ghost use Rattle.network_session.specs.Time.{is_work};
@@ -117,6 +118,8 @@ fn work_by_in<H: Caller>(
 ) -> Result<Worked, NetworkFault>
     requires { m < length motes.old.items }
     ensures worked { IfOk result (λ worked. WorksIn m worked motes.old.items motes.new.items) }
+    ensures speaks { IfOk result (λ worked. (one : SessionView) → slice_get motes.new.items m ≡ Some one →
+        SpeaksBy worked m one (H.voices caller.old) (H.voices caller.new)) }
     ensures refused { IfErr result (λ _. motes.new.items ≡ motes.old.items) }
 {
     match motes[m].next_by(m, caller) {
@@ -246,6 +249,8 @@ impl Network {
     pub fn work_by<H: Caller>(&mut self, m: usize, caller: &mut H) -> Result<Worked, NetworkFault>
         requires { self.old.active ≡ Some m }
         ensures worked { IfOk result (λ worked. Works m worked self.old self.new) }
+        ensures speaks { IfOk result (λ worked. (one : SessionView) → slice_get self.new.motes m ≡ Some one →
+            SpeaksBy worked m one (H.voices caller.old) (H.voices caller.new)) }
         ensures refused { IfErr result (λ _. self.new ≡ self.old) }
     {
         match work_by_in(&mut self.motes, m, caller)? {

@@ -3,24 +3,28 @@ use Rattle.std.specs.Prelude.{◌≡◌, ◌+◌, ℕ, Bool, true, false, List, 
 use Rattle.mote_text.specs.declared.script.End.{End}
 use Rattle.network_session.specs.Network.{NetworkView}
 use Rattle.network_run.specs.NetworkRunText.{CanEnd, IsSpent}
+use Rattle.mote_session.specs.Voices.{Voices}
+use Rattle.network_run.specs.Code.Calls.{Speak}
 use Rattle.network_run.specs.Code.Writing.{WritesOn}
 use Rattle.network_run.specs.declared.fault.RunFault.{RunFault}
 use Rattle.network_text.specs.NetworkRuns.{IsResting, Leads, Move, inputs_of, moves_text}
 use Rattle.network_text.specs.declared.input.NetworkInput.{NetworkInput}
 
--- where a run is: what was written, text that is due, and the network
+-- where a run is: what was written, text that is due, the network, and what the applications say from now on
 pub record Place : Type 0 where
   pub given : List ℕ
   pub due : List ℕ
   pub net : NetworkView
+  pub voices : Voices
 
-abbrev pub place : List ℕ → List ℕ → NetworkView → Place
-place given due net = record { given = given; due = due; net = net }
+abbrev pub place : List ℕ → List ℕ → NetworkView → Voices → Place
+place given due net voices = record { given = given; due = due; net = net; voices = voices }
 
--- moves carried out these inputs; their text was written, or is due
+-- moves carried out these inputs, with the calls of the applications; their text was written, or is due
 pub record Went (quiet : Bool) (inputs : List NetworkInput) (from to : Place) : Type 0 where
   pub moves : List Move
   pub leads : Leads from.net moves to.net
+  pub calls : Speak from.net moves from.voices to.voices
   pub carried : inputs_of moves ≡ inputs
   pub writes : WritesOn from.given from.due to.given to.due (moves_text quiet from.net moves)
 
@@ -35,12 +39,13 @@ pub record Stopped (quiet : Bool) (inputs : List NetworkInput) (left : List Netw
   pub parts : inputs ≡ carried ++ left
   pub went : Went quiet carried from (record to { due = lost })
 
--- a fault: text is lost only where writing failed
+-- a fault: text is lost only where writing failed. A call that was refused is no move
 pub record Faulted (quiet : Bool) (inputs : List NetworkInput) (fault : RunFault) (from to : Place) : Type 0 where
   pub left : List NetworkInput
   pub lost : List ℕ
   pub kept : is_write fault ≡ false → lost ≡ to.due
-  pub stopped : Stopped quiet inputs left lost from to
+  pub voices : Voices
+  pub stopped : Stopped quiet inputs left lost from (record to { voices = voices })
 
 -- these inputs were carried out, unless there was a fault
 abbrev pub Goes : {T : Type 0} → Result T RunFault → Bool → List NetworkInput → Place → Place → Type 0

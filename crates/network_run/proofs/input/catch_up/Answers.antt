@@ -4,22 +4,22 @@ use Rattle.network_text.specs.NetworkRuns.{Move}
 use Rattle.network_run.proofs.input.catch_up.Goals as goal
 
 pub returns-then-is_halted-clause-takes : goal.returns-then-is_halted-clause-takes
-returns-then-is_halted-clause-takes g c = λ named. takes_same c.args.quiet _ _ _ _ refl
+returns-then-is_halted-clause-takes g c = λ named. takes_same c.args.quiet _ _ _ _ _ refl
 
 pub returns-then-not-is_behind-clause-takes : goal.returns-then-not-is_behind-clause-takes
-returns-then-not-is_behind-clause-takes g c = λ named. takes_same c.args.quiet _ _ _ _ refl
+returns-then-not-is_behind-clause-takes g c = λ named. takes_same c.args.quiet _ _ _ _ _ refl
 
 pub returns-then-is_told-clause-takes : goal.returns-then-is_told-clause-takes
 returns-then-is_told-clause-takes g c = λ named.
     let quiet = c.args.quiet in
     takes_all quiet c.run_to_rest.result [] _ _
     (goes_after quiet c.run_to_rest.result [] [] _ _ _
-    (went_mute quiet (Move.Tell c.args.mote c.catch_up.new.self) [] c.args.network.now c.catch_up.new.self _ _
-    (record { rested = c.requires.rests; behind = c.if-not-is_behind.ensures refl; told = c.in-Ok.ensures.told c.if-is_told.true }) refl refl refl)
+    (went_mute quiet (Move.Tell c.args.mote c.catch_up.new.self) [] c.args.network.now c.catch_up.new.self _ _ _ _
+    (record { rested = c.requires.rests; behind = c.if-not-is_behind.ensures refl; told = c.in-Ok.ensures.told c.if-is_told.true }) refl refl refl refl)
     (c.run_to_rest.ensures.goes named))
 
 pub returns-else-is_told-clause-takes : goal.returns-else-is_told-clause-takes
-returns-else-is_told-clause-takes g c = λ named. takes_same c.args.quiet _ _ _ _ (c.in-Ok.ensures.untold c.if-is_told.false)
+returns-else-is_told-clause-takes g c = λ named. takes_same c.args.quiet _ _ _ _ _ (c.in-Ok.ensures.untold c.if-is_told.false)
 
 pub returns-in-Err-clause-takes : goal.returns-in-Err-clause-takes
-returns-in-Err-clause-takes g c = λ named. faulted_same c.args.quiet _ _ _ _ _ _ c.in-Err.ensures.refused.1
+returns-in-Err-clause-takes g c = λ named. faulted_same c.args.quiet _ _ _ _ _ _ _ _ c.in-Err.ensures.refused.1

@@ -10,8 +10,8 @@ returns-in_err-put_unheard-clause-takes g c = λ named.
     let inputs = NetworkInput.ForMote (c.args.mote + 1) c.args.input ∷ [] in
     let cut = c.in_err-put_unheard.ensures.puts named in
     fault_on c.from_residual.result _ _ _ c.from_residual.ensures.1
-    (faulted_move c.args.quiet _ (Move.Miss c.args.mote c.args.input net) inputs net net _ _ _ _ cut.0
-    (record { rested = c.requires.rests; halted = c.if-is_halted.ensures refl; result = refl }) refl refl c.in_err-put_unheard.ensures.failures.2 cut.1)
+    (faulted_move c.args.quiet _ (Move.Miss c.args.mote c.args.input net) inputs net net _ _ _ _ cut.0 _ _
+    (record { rested = c.requires.rests; halted = c.if-is_halted.ensures refl; result = refl }) refl refl refl c.in_err-put_unheard.ensures.failures.2 cut.1)
 
 pub returns-then-is_halted-clause-takes : goal.returns-then-is_halted-clause-takes
 returns-then-is_halted-clause-takes g c = λ named.
@@ -19,7 +19,7 @@ returns-then-is_halted-clause-takes g c = λ named.
     let inputs = NetworkInput.ForMote (c.args.mote + 1) c.args.input ∷ [] in
     takes_went c.args.quiet
     (went_move c.args.quiet (Move.Miss c.args.mote c.args.input net) inputs net net
-    (record { rested = c.requires.rests; halted = c.if-is_halted.ensures refl; result = refl }) refl refl (c.in_ok-put_unheard.ensures.puts named))
+    (record { rested = c.requires.rests; halted = c.if-is_halted.ensures refl; result = refl }) refl refl refl (c.in_ok-put_unheard.ensures.puts named))
 
 pub returns-in-Ok-clause-takes : goal.returns-in-Ok-clause-takes
 returns-in-Ok-clause-takes g c = λ named.
@@ -27,9 +27,9 @@ returns-in-Ok-clause-takes g c = λ named.
     let inputs = NetworkInput.ForMote (c.args.mote + 1) c.args.input ∷ [] in
     takes_all quiet c.run_to_rest.result inputs _ _
     (goes_after quiet c.run_to_rest.result inputs [] _ _ _
-    (went_mute quiet (Move.Hand c.args.mote c.args.input c.feed.new.self) inputs c.args.network.now c.feed.new.self _ _
-    (record { rested = c.requires.rests; fed = c.in-Ok.ensures.fed }) refl refl refl)
+    (went_mute quiet (Move.Hand c.args.mote c.args.input c.feed.new.self) inputs c.args.network.now c.feed.new.self _ _ _ _
+    (record { rested = c.requires.rests; fed = c.in-Ok.ensures.fed }) refl refl refl refl)
     (c.run_to_rest.ensures.goes named))
 
 pub returns-in-Err-clause-takes : goal.returns-in-Err-clause-takes
-returns-in-Err-clause-takes g c = λ named. faulted_same c.args.quiet _ _ _ _ _ _ c.in-Err.ensures.refused.1
+returns-in-Err-clause-takes g c = λ named. faulted_same c.args.quiet _ _ _ _ _ _ _ _ c.in-Err.ensures.refused.1

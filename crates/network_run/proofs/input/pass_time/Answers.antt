@@ -10,9 +10,9 @@ returns-in-Ok-clause-takes g c = λ named.
     let inputs = NetworkInput.Tick c.args.ticks ∷ [] in
     takes_all quiet c.run_to_rest.result inputs _ _
     (goes_after quiet c.run_to_rest.result inputs [] _ _ _
-    (went_mute quiet (Move.Tick c.args.ticks c.pass_time.new.self) inputs c.args.network.now c.pass_time.new.self _ _
-    (record { rested = c.requires.rests; result = c.in-Ok.ensures.passes.1 }) refl refl refl)
+    (went_mute quiet (Move.Tick c.args.ticks c.pass_time.new.self) inputs c.args.network.now c.pass_time.new.self _ _ _ _
+    (record { rested = c.requires.rests; result = c.in-Ok.ensures.passes.1 }) refl refl refl refl)
     (c.run_to_rest.ensures.goes named))
 
 pub returns-in-Err-clause-takes : goal.returns-in-Err-clause-takes
-returns-in-Err-clause-takes g c = λ named. faulted_same c.args.quiet _ _ _ _ _ _ c.in-Err.ensures.refused.1
+returns-in-Err-clause-takes g c = λ named. faulted_same c.args.quiet _ _ _ _ _ _ _ _ c.in-Err.ensures.refused.1

@@ -10,8 +10,8 @@ invariant-loop-line g l = record {
   came : g.K.ByteSink.is_named → HasCome l.quiet
       (read_network_lines (length l.fn.network.motes) l.first (script_lines l.script))
       (read_network_lines (length l.fn.network.motes) l.number (script_lines l.rest))
-      (place (g.K.ByteSink.given l.fn.sink) l.fn.text.due.items l.fn.network)
-      (place (g.K.ByteSink.given l.sink) l.text.due.items l.network);
+      (place (g.K.ByteSink.given l.fn.sink) l.fn.text.due.items l.fn.network (g.H.Caller.voices l.fn.caller))
+      (place (g.K.ByteSink.given l.sink) l.text.due.items l.network (g.H.Caller.voices l.caller));
   same : g.K.ByteSink.failure_count l.sink ≡ g.K.ByteSink.failure_count l.fn.sink;
   rests : IsResting l.network;
   numbers : l.number + length l.rest < 2 ^ 32;

@@ -1,13 +1,15 @@
-use Rattle.std.proofs.Common.{◌≡◌, [], Some, ap, refl, sym}
+use Rattle.std.proofs.Common.{◌≡◌, [], Some, ap, refl, slice_get, sym}
 use Rattle.network_session.proofs.Nearer.{nearer_made, nearer_turn, nearer_worked}
+use Rattle.mote_session.specs.Voices.{SpokeLast}
 use Rattle.mote_session.specs.declared.session.Next.{Next}
 use Rattle.network_session.specs.Code.Working.{TakesTurn}
 use Rattle.network_session.specs.Network.{NetworkView}
 use Rattle.network_session.specs.Steps.{Worked}
 use Rattle.network_session.specs.declared.outcome.Outcome.{Outcome}
 use Rattle.network_run.proofs.Doing.{does_work}
+use Rattle.network_run.proofs.Speaking.{there_submitted, there_worked}
 use Rattle.network_run.proofs.StepText.{other_is, submitted_is}
-use Rattle.network_run.proofs.Ways.{faulted_after, faulted_here, goes_after, goes_move, on_any, went_mute}
+use Rattle.network_run.proofs.Ways.{faulted_after, faulted_mute, goes_after, goes_move, on_any, went_mute}
 use Rattle.network_run.proofs.Writing.{puts_as}
 use Rattle.network_run.specs.Code.Way.{place}
 use Rattle.network_run.specs.declared.fault.RunFault.{RunFault}
@@ -15,16 +17,20 @@ use Rattle.network_text.specs.NetworkRuns.{Move}
 use Rattle.network_run.proofs.settle.put_work.Goals as goal
 
 pub returns-in-Turn-clause-goes : goal.returns-in-Turn-clause-goes
-returns-in-Turn-clause-goes g c = λ named before active works.
+returns-in-Turn-clause-goes g c = λ named before active works voices later speaks.
     let m = c.args.mote in
     let turn : TakesTurn m before c.args.network.now = rw c.in-Turn.is at works in
     let quiet = c.args.quiet in
     let after = c.args.network.now in
     let mid = turn.mid in
     let opened : mid.active ≡ Some m = ap (λ (v : NetworkView). v.active) turn.opens.result in
+    let there : slice_get after.motes m ≡ Some turn.submitted.submitted.after = there_submitted m turn.call mid after opened turn.submitted in
+    let spoke : SpokeLast m turn.submitted.submitted.after.last voices later = rw c.in-Turn.is at (speaks turn.submitted.submitted.after there) in
     goes_after quiet c.put_entry.result [] [] _ _ _
-    (went_mute quiet (Move.Step (Outcome.Turn m) mid) [] before mid _ _ (does_work (Outcome.Turn m) m before mid active turn.opens refl) refl refl refl)
-    (goes_move quiet c.put_entry.result (Move.Submit turn.call after) [] mid after _ _ _ _ turn.submitted refl refl c.put_entry.ensures.failures.2
+    (went_mute quiet (Move.Step (Outcome.Turn m) mid) [] before mid _ _ voices voices (does_work (Outcome.Turn m) m before mid active turn.opens refl) refl refl refl
+    refl)
+    (goes_move quiet c.put_entry.result (Move.Submit turn.call after) [] mid after _ _ _ _ voices later turn.submitted refl
+    (record { m = m; active = opened; mote = turn.submitted.submitted.after; there = there; spoke = spoke }) refl c.put_entry.ensures.failures.2
     (puts_as c.put_entry.result _ _ _ _ _ _ (sym (submitted_is quiet m turn.call mid after opened turn.submitted)) (c.put_entry.ensures.puts named)))
 
 pub returns-in-Turn-clause-nearer : goal.returns-in-Turn-clause-nearer
@@ -34,13 +40,14 @@ returns-in-Turn-clause-nearer g c =
     nearer_turn c.args.mote turn.call before turn.mid c.args.network.now turn.opens turn.submitted)
 
 pub returns-in-Entry-clause-goes : goal.returns-in-Entry-clause-goes
-returns-in-Entry-clause-goes g c = λ named before active works.
+returns-in-Entry-clause-goes g c = λ named before active works voices later speaks.
     let m = c.args.mote in
     let made : Worked m Next.Entry before c.args.network.now = rw c.in-Entry.is at works in
     let quiet = c.args.quiet in
     let after = c.args.network.now in
-    goes_move quiet c.put_entry-in-Entry.result (Move.Step (Outcome.Made m) after) [] before after _ _ _ _
-    (does_work (Outcome.Made m) m before after active made refl) refl refl c.put_entry-in-Entry.ensures.failures.2
+    let same : later ≡ voices = rw c.in-Entry.is at (speaks made.worked.after (there_worked m Next.Entry before after made)) in
+    goes_move quiet c.put_entry-in-Entry.result (Move.Step (Outcome.Made m) after) [] before after _ _ _ _ voices later
+    (does_work (Outcome.Made m) m before after active made refl) refl same refl c.put_entry-in-Entry.ensures.failures.2
     (puts_as c.put_entry-in-Entry.result _ _ _ _ _ _ (sym (other_is quiet m before after made)) (c.put_entry-in-Entry.ensures.puts named))
 
 pub returns-in-Entry-clause-nearer : goal.returns-in-Entry-clause-nearer
@@ -50,21 +57,24 @@ returns-in-Entry-clause-nearer g c =
     nearer_made c.args.mote before c.args.network.now made)
 
 pub returns-in-NoCall-clause-goes : goal.returns-in-NoCall-clause-goes
-returns-in-NoCall-clause-goes g c = λ named before active works.
+returns-in-NoCall-clause-goes g c = λ named before active works voices later speaks.
     let m = c.args.mote in
     let opens : Worked m Next.Turn before c.args.network.now = rw c.in-NoCall.is at works in
     let quiet = c.args.quiet in
     let after = c.args.network.now in
     faulted_after quiet
-    (went_mute quiet (Move.Step (Outcome.Turn m) after) [] before after _ _ (does_work (Outcome.Turn m) m before after active opens refl) refl refl refl)
-    (faulted_here quiet [] RunFault.NoCall _)
+    (went_mute quiet (Move.Step (Outcome.Turn m) after) [] before after _ _ voices voices (does_work (Outcome.Turn m) m before after active opens refl) refl refl
+    refl refl)
+    (faulted_mute quiet [] RunFault.NoCall _ _ _ voices later)
 
 pub returns-in-Rest-clause-goes : goal.returns-in-Rest-clause-goes
-returns-in-Rest-clause-goes g c = λ named before active works.
+returns-in-Rest-clause-goes g c = λ named before active works voices later speaks.
     let m = c.args.mote in
     let rested : Worked m Next.Rest before c.args.network.now = rw c.in-Rest.is at works in
     let after = c.args.network.now in
-    went_mute c.args.quiet (Move.Step (Outcome.Rested m) after) [] before after _ _ (does_work (Outcome.Rested m) m before after active rested refl) refl refl refl
+    let same : later ≡ voices = rw c.in-Rest.is at (speaks rested.worked.after (there_worked m Next.Rest before after rested)) in
+    went_mute c.args.quiet (Move.Step (Outcome.Rested m) after) [] before after _ _ voices later
+    (does_work (Outcome.Rested m) m before after active rested refl) refl same refl refl
 
 pub returns-in-Rest-clause-nearer : goal.returns-in-Rest-clause-nearer
 returns-in-Rest-clause-nearer g c = λ before works.
@@ -72,11 +82,13 @@ returns-in-Rest-clause-nearer g c = λ before works.
     nearer_worked (Outcome.Rested c.args.mote) before c.args.network.now rested refl (λ m e. absurd (cc))
 
 pub returns-in-Halted-clause-goes : goal.returns-in-Halted-clause-goes
-returns-in-Halted-clause-goes g c = λ named before active works.
+returns-in-Halted-clause-goes g c = λ named before active works voices later speaks.
     let m = c.args.mote in
     let stopped : Worked m Next.Halted before c.args.network.now = rw c.in-Halted.is at works in
     let after = c.args.network.now in
-    went_mute c.args.quiet (Move.Step (Outcome.Stopped m) after) [] before after _ _ (does_work (Outcome.Stopped m) m before after active stopped refl) refl refl refl
+    let same : later ≡ voices = rw c.in-Halted.is at (speaks stopped.worked.after (there_worked m Next.Halted before after stopped)) in
+    went_mute c.args.quiet (Move.Step (Outcome.Stopped m) after) [] before after _ _ voices later
+    (does_work (Outcome.Stopped m) m before after active stopped refl) refl same refl refl
 
 pub returns-in-Halted-clause-nearer : goal.returns-in-Halted-clause-nearer
 returns-in-Halted-clause-nearer g c = λ before works.

@@ -5,8 +5,8 @@ use Rattle.network_run.proofs.settle.run_to_rest.Given as goal
 
 abbrev pub invariant-loop-outcome : goal.invariant-loop-outcome
 invariant-loop-outcome g l = record {
-  went : g.K.ByteSink.is_named → Went l.quiet [] (place (g.K.ByteSink.given l.fn.sink) l.fn.text.due.items l.fn.network)
-      (place (g.K.ByteSink.given l.sink) l.text.due.items l.network);
+  went : g.K.ByteSink.is_named → Went l.quiet [] (place (g.K.ByteSink.given l.fn.sink) l.fn.text.due.items l.fn.network (g.H.Caller.voices l.fn.caller))
+      (place (g.K.ByteSink.given l.sink) l.text.due.items l.network (g.H.Caller.voices l.caller));
   same : g.K.ByteSink.failure_count l.sink ≡ g.K.ByteSink.failure_count l.fn.sink;
   idle : l.network.active ≡ None;
 }
