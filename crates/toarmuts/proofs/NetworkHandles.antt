@@ -1,7 +1,7 @@
 -- The machine value of a network that C holds, and what it owns. Assumes `Logic`.
 --     made, seen    a network is made of what it owns, and is taken apart into that
 --     by_state      it is open or closed, and its two fields tell which
-use Rattle.std.proofs.Common.{◌≡◌, ◌∙◌, List, ◌∷◌, ◌++◌, refl, lit<, Bool, true, false, Option, None, Some, []}
+use Rattle.std.proofs.Common.{◌≡◌, ◌∙◌, List, ◌∷◌, ◌++◌, refl, Bool, true, false, Option, None, Some, []}
 use Rattle.std_alloc.proofs.BoxSteps.Form as box
 use Rattle.std_alloc.specs.Box.Ownership.{box_owns}
 use Rattle.std_heap.proofs.Global.TheLaws as global_laws
@@ -13,20 +13,17 @@ use Rattle.toarmuts.specs.contracts.held_network.HeldNetwork as network
 use Rattle.toarmuts.specs.contracts.open_network.OpenNetwork as held
 use Rattle.toarmuts.specs.declared.held_network.HeldNetwork.{HeldNetwork}
 use Rattle.toarmuts.specs.declared.open_network.OpenNetwork.{OpenNetwork as Held}
-use base.Logic.{emp, never_e}
-use contract.Monad.{fact, fact_i}
+use base.Logic.{never_e}
 use denote.Builtin.{RawPtr, bool}
 use denote.RattleType.{Valss}
-use denote.RawPtr.{Ptr, block_ptr, null_ptr, ptr_val}
+use denote.RawPtr.{Ptr, ptr_val}
 use denote.Steps.{nothing}
 use denote.Struct.Owning.{shape}
 use denote.Struct.Struct.{within}
-use lib.Dec.{T}
-use mathlib.Core.Bool.{◌&&◌}
-use mir.Syntax.{impl, tnil, dnil, ty_ptr, ty_bool}
-use mir.Val.{Val, vbool, vstruct, vcons, vnil, of_list, has_ty, WT}
+use mir.Syntax.{impl, tnil, dnil}
+use mir.Val.{Val, vbool, vstruct, of_list}
 use seplogic.Ra.Ura.{Ura}
-use types.Kit.{Item, Goal, Seq, Step, step, ‵, raw, ◌$◌, by, keep, drop, fsplit, fjoin, fpick, fpack, use0, feq_i, feq_l}
+use types.Kit.{Item, Goal, Seq, Step, step, ‵, ◌$◌, by, keep, drop, fsplit, fjoin, fpick, fpack, feq_i, feq_l}
 use types.Logic.{Logic}
 use Rattle.toarmuts.proofs.Handles.{mote_val}
 

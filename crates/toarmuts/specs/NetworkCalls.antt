@@ -1,23 +1,18 @@
 -- What the calls say of which a network is asked step by step. A network in hand is closed, or has what is stepped.
-use Rattle.std.specs.Prelude.{◌≡◌, ◌+◌, ℕ, ◌&&◌, true, Bool, List, [], ◌∷◌, ◌++◌, length, map, slice_get, Option, Some, None, is_some, is_none, option_map, IsSomeAnd, if◌then◌else◌, ◌==◌, nat_le, nat_lt}
-use Rattle.std.specs.List.{list_all}
+use Rattle.std.specs.Prelude.{◌≡◌, ◌+◌, ℕ, Bool, List, [], ◌∷◌, ◌++◌, length, slice_get, Option, Some, None, is_some, is_none, option_map, IsSomeAnd, if◌then◌else◌, ◌==◌, nat_lt}
 use Rattle.kernel_core.specs.declared.config.Config.{Config}
-use Rattle.kernel_core.specs.Machine.{is_bootable}
-use Rattle.medium_core.specs.Air.{with_link}
-use Rattle.mote_session.specs.History.{at_boot}
-use Rattle.mote_session.specs.SessionView.{AwaitedCall, SessionView}
+use Rattle.mote_session.specs.SessionView.{SessionView}
 use Rattle.mote_types.specs.declared.call.Call.{Call}
 use Rattle.mote_types.specs.declared.entry.Input.{Input}
 use Rattle.network_session.specs.Steps.{IsNetworkSubmitted}
 use Rattle.network_steps.specs.Lines.{came_line}
 use Rattle.network_steps.specs.Refusals.{awaited_turn, feed_refusal, link_refusal, tick_refusal}
 use Rattle.network_steps.specs.StepsView.{StepsView, opened_steps}
-use Rattle.network_steps.specs.Works.{GoesNext, TakesFeed, TakesLink, TakesTicks}
+use Rattle.network_steps.specs.Works.{GoesNext}
 use Rattle.network_steps.specs.declared.came.Came.{Came}
 use Rattle.network_steps.specs.declared.fault.StepsFault.{StepsFault}
 use Rattle.timer_core.specs.Deadlines.{next_deadline}
 use Rattle.toarmuts.specs.Calls.{call_said}
-use Rattle.toarmuts.specs.Inputs.{input_said}
 use Rattle.toarmuts.specs.Networks.{happening_of, link_said, place_of}
 use Rattle.toarmuts.specs.Steps.{IsOpened, TellsTurn, config_in, due_status_of, refusal_status}
 use Rattle.toarmuts.specs.declared.call.PlainCall.{PlainCall}

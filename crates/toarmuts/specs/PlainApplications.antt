@@ -6,7 +6,6 @@ use Rattle.mote_apps.specs.declared.blink.Blink.{Blink}
 use Rattle.mote_apps.specs.declared.bundled.Bundled.{Bundled}
 use Rattle.mote_apps.specs.declared.churn.Churn.{Churn}
 use Rattle.mote_apps.specs.declared.echo.Echo.{Echo}
-use Rattle.mote_apps.specs.declared.hello.Hello.{Hello}
 use Rattle.mote_apps.specs.declared.ping.Ping.{Ping}
 use Rattle.mote_apps.specs.declared.ping.Stage.{Stage}
 use Rattle.mote_apps.specs.declared.relay.Relay.{Relay}
