@@ -61,7 +61,8 @@ def test_each_transcript_has_a_network() -> None:
     """No file beside the worked networks is forgotten."""
     for folder in {script.parent for script in WORKED}:
         names = {path.stem for path in WORKED if path.parent == folder}
-        assert names == {path.stem for path in folder.glob("*.transcript")} == {path.stem for path in folder.iterdir()}
+        assert names == {path.stem for path in folder.glob("*.transcript")} == {
+            path.stem for path in folder.iterdir() if path.suffix != ".scenario"}
 
 
 def test_a_halted_mote() -> None:

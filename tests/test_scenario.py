@@ -259,6 +259,100 @@ def test_rules_of_rows(folder: Folder) -> None:
     assert folder("--thorough", "rules") == (0, "rules: 6 of 6 runs as told, 90 in pieces", "")
 
 
+# ---- Networks ----
+
+NETWORKS = sorted((EXAMPLES / "networks").glob("*.scenario"))
+WORKED = [*sorted((ROOT / "tests/networks").glob("*.net")), *sorted((EXAMPLES / "networks").glob("*.net"))]
+# A line of a network's transcript, which may be repeated.
+OF_NETWORK = re.compile("(?:times ([0-9]+) )?((?:=|lost|full|missed) .*|[0-9]+ (?!serial |frame ).*)")
+
+
+@pytest.mark.parametrize("file", NETWORKS, ids=lambda file: str(file.name))
+def test_network_example(folder: Folder, file: Path) -> None:
+    """The worked examples of networks come out as they are written, and without their transcripts they write these."""
+    lines = file.read_text(encoding="utf-8").splitlines()
+    folder.write(file.name, lines_of(*lines))
+    runs = lines.count("network")
+    assert folder(file.name) == (0, f"{file.name}: {runs} of {runs} runs as told", "")
+    found = [(line, OF_NETWORK.fullmatch(line)) for line in lines]
+    folder.write("bare", lines_of(*(line for line, match in found if match is None)))
+    told = [text for line, match in found for text in ([match[2]] * int(match[1] or 1) if match else [line] * line.startswith("== "))]
+    assert folder("bare") == (0, "\n".join(told), "")
+
+
+@pytest.mark.parametrize("is_plain", [True, False], ids=["lines", "lines of a script"])
+def test_worked_networks(folder: Folder, is_plain: bool) -> None:
+    """Worked networks of the program network come out with the same transcripts, and so by `script`, where a line may be malformed."""
+    runs = 0
+    text = []
+    for network in WORKED:
+        about = network.with_suffix(".run")
+        how = about.read_text(encoding="utf-8") if about.exists() else ""
+        if "--only" in how or "status 2" in how and is_plain:
+            continue
+        runs += 1
+        before = "" if is_plain else "script "
+        text += [f"== {network.stem}", "network", *(["quiet"] if "--quiet" in how else []),
+                 *(before + line for line in network.read_text(encoding="utf-8").splitlines()),
+                 *network.with_suffix(".transcript").read_text(encoding="utf-8").splitlines(),
+                 *(["ends finished"] if network.with_suffix(".transcript").stat().st_size == 0 else [])]
+    folder.write("worked", lines_of(*text))
+    assert folder("worked") == (0, f"worked: {runs} of {runs} runs as told", "") and runs > 30
+
+
+HELLO = ["1 4 synch 129 - -> print 68690a", "1 4 answer done -> wait"]
+NETWORKS_AS_TOLD = {
+    "quotes, names and gaps": [
+        r'mote 1 calls print "a, \"b\"\n", post 4 MSG x"hi"', '1 serial "hi"', r'1 4 synch INIT - -> print "a, \"b\"\n"',
+        '1 4 answer done -> post 4 MSG x"hi"', "...", '1 4 event MSG x"hi" -> wait', "...", '1 > serial "hi"'],
+    "a quiet transcript": ["quiet", "mote 1..2 hello", r'1 4 synch INIT - -> print "hi\n"', "2 4 synch 129 - -> print 68690a"],
+    "a malformed line that sets up": ["script # nothing", "mote 1 hello", "script mote 1", "bad line 3"],
+    "a line that sets up after an input": ["mote 1 hello", "tick 1", "script mote 2", *HELLO, "= 1", "bad line 3"],
+    "the last line has no end": ["mote 1", "script", "last tick 5", "= 5"],
+    "inputs and lines that are repeated": ["mote 1", "times 3 tick 2", "at 9", "at 9", "= 2", "times 1 = 4", "= 6", "= 9"],
+    "links that are repeated": ["mote 1 calls mmem-alloc 0 1, packet-send 0", "mote 2 hello", "times 2 link 1 2 delay 1", "...", "tick 1",
+                                "= 1", "2 > tick 1", "2 > frame 00", "2 > frame 00"],
+    "a line takes all its rounds": ["rounds 0", "mote 1", "tick 1", "halt"],
+    "nothing is written": ["# no mote", "", "ends finished"],
+    "too many bytes": ["times 1000000 script " + "#" * 16, "too long"],
+}
+
+
+@pytest.mark.parametrize("name", NETWORKS_AS_TOLD)
+def test_network_as_told(folder: Folder, name: str) -> None:
+    """What the lines of a network's run say."""
+    folder.write("it", lines_of("network", *NETWORKS_AS_TOLD[name]))
+    assert folder("--thorough", "it") == (0, "it: 1 of 1 runs as told, 15 in pieces", "")
+
+
+def test_network_that_differs(folder: Folder) -> None:
+    """The first line that differs is shown, and what differs is mended; a transcript that lacks is put below the run."""
+    lines = ["== one", "network", "mote 1 hello", "tick 3", *HELLO, "= 4", "", "== two", "network", "mote 1", "tick 1", ""]
+    folder.write("two", lines_of(*lines))
+    assert folder("two") == (1, """\
+two: one: line 3 of the transcript differs
+          1 4 synch 129 - -> print 68690a
+          1 4 answer done -> wait
+wanted:   = 4
+found:    = 3
+
+== two
+= 1
+two: 0 of 1 runs as told""", "")
+    assert folder("--write", "two") == (0, "two: 2 of 2 transcripts put in place", "")
+    lines[6] = "= 3"
+    assert folder.read("two") == lines_of(*lines[:-1], "= 1", "")
+    assert folder("two") == (0, "two: 2 of 2 runs as told", "")
+
+
+def test_json_of_a_network(folder: Folder) -> None:
+    """What a file says of a network, for other programs."""
+    folder.write("net", 'network\nquiet\nmote 1 calls print "hi"\n1 serial "a"\nhalt\n')
+    assert folder("--json", "net") == (0, """\
+{"applications":[],"ends":"halted","file":"net","name":null,"network":true,\
+"script":"mote 1 calls print 6869\\n1 serial 61\\n","transcript":"halt\\n","words":["--quiet"]}""", "")
+
+
 # ---- Malformed files ----
 
 LONG = " " * 256
@@ -347,6 +441,46 @@ on line: print told,exit|there is no space after a comma
 """
 
 
+# The same as the fourth line of a run of a network, of two motes.
+MALFORMED_NETWORKS = """\
+network|network is the first line of a run, or none
+app hello|unknown word app
+calls wait|unknown word calls
+mmem 8|unknown word mmem
+text hi|unknown word text
+walk 1..2 delay 1|unknown word walk
+tick|tick is no line of a script
+1 serial|1 serial is no line of a script
+1 frame 0|1 frame 0 is no line of a script
+3 serial 61|there is no mote 3
+0 frame 61|there is no mote 0
+1 tick 5|1 tick 5 is no line of a transcript
+1 5|1 5 is no line of a transcript
+= x|= x is no line of a transcript
+lost 1|lost 1 is no line of a transcript
+mote 2 hello|MOTE
+mote 3  hello|two spaces stand side by side
+mote 3 hello --mmem 6|MOTE
+mote 3 nobody|no application nobody
+mote 3 calls frob|no call frob
+mote 3 calls wait,clock|there is no space after a comma
+mote 3 calls kill|kill lacks a word
+link 1 3 delay 1|LINK
+link 1 2 delay 0|LINK
+link 1 2 delay 1 every 0|LINK
+line 1..3 delay 1|line and mesh N..M delay D are for motes that there are, and D is at least 1
+ring 1..2 delay 1|ring N..M delay D is for three motes or more that there are, and D is at least 1
+grid 1..2 delay 1|grid N..M width W delay D is for motes that there are, and W and D are at least 1
+rounds many|room and rounds take a number up to 4294967295
+mote 3 calls LIST|a line of a network's script has at most 1024 bytes
+1 serial "a|quotes hold a text with \\n for byte 10, \\" and \\\\, and stand where hex digits do
+ends early|no end of a run: early
+at noon|noon is no clock
+"""
+WORDS = {"MOTE": "mote N WORD.. sets up the next motes, N or N..M, as mote does with these words",
+         "LINK": "link A B delay D is for two motes that there are, and D is at least 1"}
+
+
 def table(text: str) -> list[tuple[str, str]]:
     """The rows of such a table: a line and a reason."""
     rows = [row.partition("|") for row in text.splitlines() if row]
@@ -379,7 +513,18 @@ def test_malformed_row(folder: Folder, line: str, reason: str) -> None:
     assert folder.refused(f"rows\n{line}\n") == f"line 2: {reason}"
 
 
+@pytest.mark.parametrize(("line", "reason"), table(MALFORMED_NETWORKS))
+def test_malformed_line_of_a_network(folder: Folder, line: str, reason: str) -> None:
+    """A malformed line of a network is told of."""
+    line = line.replace("LIST", ", ".join(["memb-write 0 0 0 00"] * 50))
+    assert folder.refused(f"== net\nnetwork\nmote 1..2 hello\n{line}\n") == f"line 4: {WORDS.get(reason, reason)}"
+
+
 @pytest.mark.parametrize(("text", "reason"), [
+    ("network\nmote 1\ntick 1\nlink 1 1 delay 1\n", "line 4: link sets a network up, and is below an input"),
+    ("tick 1\nnetwork\n", "line 2: network is the first line of a run, or none"),
+    ("network please\n", "line 1: network takes no word"),
+    ("app hello\nmote 1 hello\n", "line 2: a run with a line mote begins with a line network"),
     ("rows\non 136 0: wait\non TIMER 0: exit\n", "line 3: the row's stimulus has a row above"),
     ("\ufefftick 1\n", "line 1: the file begins with a byte order mark"),
     ("# above\n == one\n== two\n", "line 2: the line begins with a space"),
@@ -495,9 +640,9 @@ def test_json(folder: Folder) -> None:
     folder.write("record", '== a run\nmmem 8\nquiet\napp hello\nrows\non INIT: wait\ntext "hi"\n...\n')
     folder.write("one", "tick 1\n")
     assert folder("--json", "record", "one") == (0, """\
-{"applications":[["app hello"],["rows","on 129: wait"]],"ends":null,"file":"record","name":"a run","script":"serial 226869220a\\n",\
-"transcript":"...\\n","words":["--mmem","8","--heap","4096","--header","16","--quiet"]}
-{"applications":[],"ends":"finished","file":"one","name":null,"script":"tick 1\\n","transcript":null,\
+{"applications":[["app hello"],["rows","on 129: wait"]],"ends":null,"file":"record","name":"a run","network":false,\
+"script":"serial 226869220a\\n","transcript":"...\\n","words":["--mmem","8","--heap","4096","--header","16","--quiet"]}
+{"applications":[],"ends":"finished","file":"one","name":null,"network":false,"script":"tick 1\\n","transcript":null,\
 "words":["--mmem","4096","--heap","4096","--header","16"]}""", "")
 
 

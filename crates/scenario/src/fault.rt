@@ -33,6 +33,19 @@ pub(crate) enum Fault<'a> {
     ClockIsPast(u64),
     #[error("the clock goes on by at most 4294967295 ticks at once")]
     ClockIsFar,
+    /// A line sets nothing up: its form.
+    #[error("{0}")]
+    Form(&'static str),
+    #[error("a line of a network's script has at most 1024 bytes")]
+    LongLine,
+    #[error("there is no mote {0}")]
+    NoMote(u32),
+    #[error("{0} sets a network up, and is below an input")]
+    BehindInput(&'a str),
+    #[error("a run with a line mote begins with a line network")]
+    NoNetwork,
+    #[error("network is the first line of a run, or none")]
+    NotFirst,
     #[error("the script has ended with its last line")]
     ScriptHasEnded,
     #[error("no end of a run: {0}")]
@@ -72,6 +85,7 @@ impl Fault<'_> {
                 | Fault::NoScriptLine(_)
                 | Fault::NoTranscriptLine(_)
                 | Fault::NoClock(_)
+                | Fault::Form(_)
                 | Fault::NoEnd(_)
                 | Fault::AboveTheFirstRun
         )

@@ -13,7 +13,10 @@ fn flaw_of_spaces(line: &str) -> Option<&'static str> {
 
 /// What is wrong with the commas of a list of calls.
 fn flaw_of_commas(line: &str) -> Option<&'static str> {
-    if !line.starts_with("calls ") && !line.starts_with("on ") {
+    if !["calls ", "on ", "mote "]
+        .iter()
+        .any(|word| line.starts_with(*word))
+    {
         None
     } else if line.trim_end().ends_with(',') {
         Some("there is no call after the last comma")

@@ -44,12 +44,13 @@ impl Inputs {
             "tick" | "serial" | "frame" if input_of(line).is_some() => self.push(count, line),
             "tick" | "serial" | "frame" => Err(Fault::NoScriptLine(line)),
             "text" => self.push(count, serial_line(alloc, rest)?.as_str()),
+            "mote" => Err(Fault::NoNetwork),
             _ => Err(Fault::UnknownWord(word)),
         }
     }
 
     /// Appends a line a number of times.
-    fn push<'a>(&mut self, count: u32, line: &str) -> Result<(), Fault<'a>> {
+    pub(crate) fn push<'a>(&mut self, count: u32, line: &str) -> Result<(), Fault<'a>> {
         if self.has_ended {
             return Err(Fault::ScriptHasEnded);
         }

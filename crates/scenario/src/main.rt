@@ -1,5 +1,5 @@
 //! Executes the runs in files, and compares them with the transcripts there. Its contracts promise that it is safe and
-//! that it ends; what a run writes is promised by the contract of `mote_run`'s `run`.
+//! that it ends; what a run writes is promised by the contracts of `mote_run`'s `run` and `network_setup`'s `run_setup`.
 #![tactic(auto)]
 
 mod command_line;
@@ -7,6 +7,8 @@ mod fault;
 mod files;
 mod flaw;
 mod inputs;
+mod network;
+mod network_script;
 mod parts;
 mod program;
 mod record;

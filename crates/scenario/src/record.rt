@@ -21,20 +21,22 @@ fn text_of(alloc: Global, text: Option<&str>) -> Result<Value, AllocError> {
     }
 }
 
-/// The arguments of `mote` and `mote-picture` for the sizes of a run, and `--quiet`.
+/// The arguments of `mote` and `mote-picture` for the sizes of a run, and `--quiet`; for a network those of `network`.
 fn words_of(alloc: Global, scenario: &Scenario<'_>) -> Result<Value, AllocError> {
     let mut words = Vec::new(alloc);
     let sizes = scenario.sizes();
-    let quota = sizes.quota.unwrap_or(0);
     for (name, size) in [
-        ("--mmem", sizes.mmem),
-        ("--heap", sizes.heap),
-        ("--quota", quota),
-        ("--header", sizes.header),
+        ("--mmem", Some(sizes.mmem)),
+        ("--heap", Some(sizes.heap)),
+        ("--quota", sizes.quota),
+        ("--header", Some(sizes.header)),
     ] {
-        if name != "--quota" || sizes.quota.is_some() {
-            words.push(Value::String(String::from_str(alloc, name)?))?;
-            words.push(Value::String(format!(in alloc; "{size}")?))?;
+        match size {
+            Some(size) if !scenario.is_network => {
+                words.push(Value::String(String::from_str(alloc, name)?))?;
+                words.push(Value::String(format!(in alloc; "{size}")?))?;
+            }
+            _ => {}
         }
     }
     if scenario.quiet {
@@ -62,6 +64,7 @@ pub(crate) fn record_of(
     let record = json!(in alloc; {
         "file": text_of(alloc, Some(path))?,
         "name": text_of(alloc, name)?,
+        "network": Value::Bool(scenario.is_network),
         "words": words_of(alloc, &scenario)?,
         "applications": Value::Array(applications),
         "script": text_of(alloc, Some(scenario.inputs.script.as_str()))?,

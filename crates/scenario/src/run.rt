@@ -2,6 +2,7 @@
 
 ghost use Rattle.std.specs.Prelude.{◌<◌};
 
+use crate::network_script::run_network_script;
 use crate::program::{Acts, Program};
 use crate::scenario::Scenario;
 use call_lists::Reactions;
@@ -58,6 +59,9 @@ pub(crate) fn outcome_of(
     scenario: &mut Scenario<'_>,
     widths: Widths,
 ) -> Result<Outcome, AllocError> {
+    if scenario.is_network {
+        return outcome_of_network(alloc, scenario, widths.taken);
+    }
     let mut boxes: Vec<Box<dyn App>> = Vec::new(alloc);
     for program in mem::replace(&mut scenario.programs, Vec::new(alloc)) {
         let Program { acts, .. } = program;
@@ -84,6 +88,31 @@ pub(crate) fn outcome_of(
         Ok(end) => (end_words(alloc, end)?, true),
         Err(MoteFault::Memory) => return Err(AllocError),
         Err(fault) => (fault.to_string(alloc)?, false),
+    };
+    Ok(Outcome {
+        end,
+        has_ended,
+        transcript: sink.text,
+    })
+}
+
+/// Executes the run of a network.
+fn outcome_of_network(
+    alloc: Global,
+    scenario: &Scenario<'_>,
+    taken: usize,
+) -> Result<Outcome, AllocError>
+    requires { 0 < taken }
+{
+    let mut sink = Transcript::new(alloc).in_pieces_of(taken);
+    let (end, has_ended) = match run_network_script(
+        alloc,
+        scenario.script(),
+        &mut sink,
+        scenario.quiet,
+    )? {
+        Some(end) => (end_words(alloc, end)?, true),
+        None => (String::from_str(alloc, "too many inputs or ticks")?, false),
     };
     Ok(Outcome {
         end,
@@ -133,7 +162,9 @@ pub(crate) fn comes_out<R: AllocGlobal + Print>(
             scenario.end().unwrap_or("")
         )?;
     }
-    let keeps = !way.walks || keeps_laws(rt, name, applications, scenario.quiet, outcome.text())?;
+    // A quiet transcript has no turns to walk over, and a network's has those of several motes.
+    let walks = way.walks && !scenario.quiet && !scenario.is_network;
+    let keeps = !walks || keeps_laws(rt, name, applications, outcome.text())?;
     let shows = is_shown(rt, name, &scenario, &outcome, way.tells_all)?;
     Ok(is_same && keeps && shows)
 }
@@ -199,11 +230,9 @@ fn keeps_laws<R: AllocGlobal + Print>(
     rt: &R,
     name: &str,
     applications: usize,
-    quiet: bool,
     transcript: &str,
 ) -> io::Result<bool> {
-    // a quiet transcript has no turns to walk over
-    let are_kept = quiet || are_laws_kept(rt.alloc(), applications, transcript)?;
+    let are_kept = are_laws_kept(rt.alloc(), applications, transcript)?;
     if !are_kept {
         println!(rt; "{name}: a law of memory, events or timers is broken")?;
     }

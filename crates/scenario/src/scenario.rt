@@ -2,13 +2,17 @@
 
 use crate::fault::Fault;
 use crate::inputs::{Inputs, push_lines};
+use crate::network;
+use crate::network::NetworkLines;
 use crate::parts::Part;
 use crate::program::Program;
 use crate::sizes::{Given, GivenSizes, are_few};
 use call_lists::number_of;
 use mote_kit::difference::GAP;
+use network_facts::read_network_line;
 use node_memory::Sizes;
 use std::alloc::{AllocError, Global};
+use std::mem;
 use transcript_lines::line::read_line;
 
 /// How often a line may be repeated.
@@ -29,6 +33,10 @@ pub(crate) struct ToldLine {
 /// What is run, and the expected result.
 #[derive(Drop)]
 pub(crate) struct Scenario<'a> {
+    /// Whether it is a run of a network.
+    pub(crate) is_network: bool,
+    /// What its script has set up, while it is read.
+    network: Option<NetworkLines>,
     sizes: GivenSizes,
     pub(crate) programs: Vec<Program<'a>>,
     pub(crate) inputs: Inputs,
@@ -39,6 +47,8 @@ pub(crate) struct Scenario<'a> {
     pub(crate) told: Vec<ToldLine>,
     /// Whether some line of the transcript matches any lines.
     pub(crate) has_gaps: bool,
+    /// Whether there is a line that is neither empty nor a comment.
+    has_line: bool,
     /// The number of the last line that is neither empty nor a comment, or of the one above the first if there is none.
     pub(crate) last_line: usize,
 }
@@ -63,6 +73,8 @@ impl From<AllocError> for Misread<'_> {
 impl<'a> Scenario<'a> {
     fn new(alloc: Global, last_line: usize) -> Self {
         Scenario {
+            is_network: false,
+            network: None,
             sizes: GivenSizes::none(),
             programs: Vec::new(alloc),
             inputs: Inputs::new(alloc),
@@ -71,6 +83,7 @@ impl<'a> Scenario<'a> {
             transcript: String::new(alloc),
             told: Vec::new(alloc),
             has_gaps: false,
+            has_line: false,
             last_line,
         }
     }
@@ -92,6 +105,7 @@ impl<'a> Scenario<'a> {
                 });
             }
         }
+        scenario.forget_network();
         if let Some((line, fault)) = scenario.fault_of_sizes() {
             return Err(Misread { line, fault });
         }
@@ -136,21 +150,60 @@ impl<'a> Scenario<'a> {
             return Ok(());
         }
         self.last_line = number;
+        let is_first = !mem::replace(&mut self.has_line, true);
         let (word, rest) = line.split_once(' ').unwrap_or((line, ""));
         match word {
-            "app" | "calls" | "rows" | "on" => self.take_application(alloc, number, line),
+            "network" => self.begin_network(alloc, is_first, rest),
             "last" => self.inputs.end_with(rest),
             "at" => self.inputs.go_on_to(alloc, rest),
             "times" => self.repeat(alloc, number, rest),
+            "quiet" | "ends" => self.set_outcome(number, word, rest),
+            "==" => Err(Fault::NoName),
+            _ if line == GAP => self.push_gap(number),
+            _ if self.is_network => self.append(alloc, number, 1, line),
+            _ => self.take_line_of_mote(alloc, number, line),
+        }
+    }
+
+    /// Reads what only the run of a mote has, and otherwise a line of the script or the transcript.
+    fn take_line_of_mote(
+        &mut self,
+        alloc: Global,
+        number: usize,
+        line: &'a str,
+    ) -> Result<(), Fault<'a>> {
+        let (word, rest) = line.split_once(' ').unwrap_or((line, ""));
+        match word {
+            "app" | "calls" | "rows" | "on" => self.take_application(alloc, number, line),
             "mmem" | "heap" | "quota" | "header" => {
                 let size = number_of(rest, 0, u32::MAX)?;
                 self.sizes.take(word, Given { size, line: number })
             }
-            "quiet" | "ends" => self.set_outcome(number, word, rest),
-            "==" => Err(Fault::NoName),
-            _ if line == GAP => self.push_gap(number),
             _ => self.append(alloc, number, 1, line),
         }
+    }
+
+    /// From here on the lines are those of a network.
+    fn begin_network(
+        &mut self,
+        alloc: Global,
+        is_first: bool,
+        rest: &'a str,
+    ) -> Result<(), Fault<'a>> {
+        if !rest.is_empty() {
+            return Err(Fault::TooManyWords("network"));
+        }
+        if !is_first {
+            return Err(Fault::NotFirst);
+        }
+        self.is_network = true;
+        self.network = Some(NetworkLines::new(alloc));
+        Ok(())
+    }
+
+    /// Frees the memory of what was set up: a run sets it up anew.
+    fn forget_network(&mut self) {
+        self.network = None;
     }
 
     /// Reads the line of an application, or a row of the last one.
@@ -202,13 +255,32 @@ impl<'a> Scenario<'a> {
         count: u32,
         line: &'a str,
     ) -> Result<(), Fault<'a>> {
-        if !is_of_transcript(line) {
-            return self.inputs.read_line(alloc, count, line);
+        let (is_of_transcript, is_line) = if self.is_network {
+            (
+                network::is_of_transcript(line),
+                read_network_line(line).is_some(),
+            )
+        } else {
+            (is_of_transcript(line), read_line(line).is_some())
+        };
+        if !is_of_transcript {
+            return self.take_input(alloc, count, line);
         }
-        if read_line(line).is_none() {
+        if !is_line {
             return Err(Fault::NoTranscriptLine(line));
         }
         self.push_told(number, count, line)
+    }
+
+    /// Appends a line a number of times to the script.
+    fn take_input(&mut self, alloc: Global, count: u32, line: &'a str) -> Result<(), Fault<'a>> {
+        match &mut self.network {
+            Some(network) => {
+                let line = network.script_line(alloc, count, line)?;
+                self.inputs.push(count, line)
+            }
+            None => self.inputs.read_line(alloc, count, line),
+        }
     }
 
     fn push_gap(&mut self, number: usize) -> Result<(), Fault<'a>> {

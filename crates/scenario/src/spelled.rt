@@ -26,8 +26,10 @@ fn event_number(name: &str) -> Option<u8> {
 /// Whether names and quotes may be in a line, apart from `times` and a number before it.
 fn may_have(line: &str) -> bool {
     let word = line.split(' ').next().unwrap_or("");
-    matches!(word, "calls" | "on" | "serial" | "frame" | ">" | "note")
-        || line.starts_with(|c: char| c.is_ascii_digit())
+    matches!(
+        word,
+        "calls" | "on" | "mote" | "serial" | "frame" | ">" | "note"
+    ) || line.starts_with(|c: char| c.is_ascii_digit())
 }
 
 /// The count of a line that is repeated, where it is, and that line.
@@ -132,7 +134,8 @@ fn is_code_behind(before: (&str, &str), index: usize) -> bool {
     match before {
         ("post" | "post-synch", _) => true,
         (_, "broadcast") => true,
-        (_, "event" | "synch" | "poll") => index == 2,
+        // In a network's transcript the number of a mote is in front.
+        (_, "event" | "synch" | "poll") => index == 2 || index == 3,
         (_, "on") => index == 1,
         _ => false,
     }
