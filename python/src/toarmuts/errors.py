@@ -198,7 +198,7 @@ class BadScenario(ToarmutsError, ValueError):
 
 
 class NotInPython(BadScenario):
-    """What only the program `scenario` reads: rows that react, ``...``, names of events and texts in quotes."""
+    """What only the program `scenario` reads: rows that react, ``...``, names of events, texts in quotes; of a network some more."""
 
 
 class BadTranscript(ToarmutsError, ValueError):

@@ -31,10 +31,17 @@ _ENDS = ("finished", "halted", "too long", BAD_SIZES)
 _FLAWS = tuple((re.compile(form), words) for form, words in (
     ("\\A\ufeff", "the file begins with a byte order mark"), ("\0", "there is a byte 0 in the line"),
     (r"\r\Z", "the line ends with byte 13, as lines of Windows do"), (r"\A ", "the line begins with a space"),
-    (r"\t", "there is a tab in the line"), (r"\Acalls .*,\s*\Z", "there is no call after the last comma"),
-    (r"\Acalls .* ,", "there is a space before a comma"), (r"\Acalls .*,[^ ]", "there is no space after a comma")))
+    (r"\t", "there is a tab in the line"), (r"\A(?:calls|mote) .*,\s*\Z", "there is no call after the last comma"),
+    (r"\A(?:calls|mote) .* ,", "there is a space before a comma"), (r"\A(?:calls|mote) .*,[^ ]", "there is no space after a comma")))
 # Rows, gaps, names of events and texts in quotes, where only `./scenario` has them.
-_OF_PROGRAM = re.compile(r'(?:rows|on .*|\.\.\.)\Z|(?:calls|serial|frame|[0-9]+|>|times [0-9]+) .*"|[0-9]+ (?:synch|event) [A-Z]')
+_OF_PROGRAM = re.compile(r'(?:rows|on .*|\.\.\.)\Z|(?:calls|mote|serial|frame|[0-9]+|>|times [0-9]+) .*"'
+                         r"|[0-9]+ (?:[0-9]+ )?(?:synch|event) [A-Z]")
+
+
+def read_only_by_program(line: str) -> None:
+    """Refuses what only `./scenario` reads."""
+    if _OF_PROGRAM.match(line):
+        raise NotInPython("rows, ..., names of events and quotes are read by ./scenario alone")
 
 
 @dataclass(frozen=True)
@@ -115,8 +122,7 @@ class Scenario:
     def _read_line(self, line: str) -> None:
         """Takes a line of a file; raises BadCall or BadScenario where it is malformed."""
         word, _, rest = line.partition(" ")
-        if _OF_PROGRAM.match(line):
-            raise NotInPython("rows, ..., names of events and quotes are read by ./scenario alone")
+        read_only_by_program(line)
         if word in ("app", "calls"):
             self._read_application(word, rest)
         elif word == "last":
@@ -133,6 +139,8 @@ class Scenario:
             self.sizes[word] = read_number(rest, 2**32 - 1)
         elif word == "==":
             raise _BadPlace("a run has no name")
+        elif word == "network":
+            raise _BadPlace("network is the first line of a run, or none") if not rest else BadScenario("network takes no word")
         elif word in ("quiet", "ends"):
             self._set_outcome(word, rest)
         elif line and not line.startswith("#"):
@@ -186,6 +194,8 @@ class Scenario:
             if len(data) > MOST_TEXT:
                 raise _BadPlace("a text has at most 255 bytes")
             self._push(count, f"serial {data.hex()}0a")
+        elif word == "mote":
+            raise _BadPlace("a run with a line mote begins with a line network")
         elif word not in ("tick", "serial", "frame"):
             raise BadScenario(f"unknown word {word}")
         elif has_form(line):
@@ -215,7 +225,7 @@ def is_line(line: str) -> bool:
     """
     if not line or line.startswith("#"):
         return False
-    if line.startswith("== "):
+    if line.startswith("== ") or line == "network":
         return len(line) > len("== ")
     if _OF_TRANSCRIPT.match(line) and not _OF_PROGRAM.match(line):
         return Transcript(line).is_well_formed
@@ -252,8 +262,16 @@ def _parts(text: str) -> Iterator[tuple[str | None, int, list[str]]]:
         yield name, head + 2, lines[head + 1:behind]
 
 
+def _scenario_of(name: str | None, first_line: int, lines: list[str]) -> Scenario:
+    """A run of a mote or of a network, whose lines are to be read."""
+    from .network_scenario import NetworkScenario
+
+    is_network = next((line for line in lines if line and not line.startswith("#")), "") == "network"
+    return NetworkScenario(name, first_line) if is_network else Scenario(name, first_line)
+
+
 def read_scenarios(text: str) -> list[Scenario]:
-    """The runs of a file, by its text; raises BadScenario at the first malformed line.
+    """The runs of a file, by its text; raises BadScenario at the first malformed line. One of a network is a NetworkScenario.
 
     >>> read_scenarios("calls wait, kill")
     Traceback (most recent call last):
@@ -268,7 +286,7 @@ def read_scenarios(text: str) -> list[Scenario]:
         raise BadScenario(f"line {number}: a text must be text in UTF-8, which {text[fault.start:fault.end]!r} is not") from None
     made = []
     for name, first_line, lines in _parts(text):
-        scenario = Scenario(name, first_line)
+        scenario = _scenario_of(name, first_line, lines)
         for number, line in enumerate(lines, first_line):
             try:
                 scenario._read_line(line)
