@@ -7,7 +7,8 @@ use std::alloc::{AllocError, Global};
 const VERSION: &str = "0.2.0";
 
 const ABOUT: &str = "\
-Carries out what files tell: runs of applications on a simulated Contiki-NG node.
+Carries out what files tell: runs of applications on a simulated Contiki-NG node,
+and of networks of such nodes.
 
 Where a file has a run's transcript, the run is compared with it, and the first
 line that differs is shown. Where it has none, the transcript is written.";
@@ -16,6 +17,8 @@ const AFTER_HELP: &str = "\
 The lines of a file:
   # ...           a comment
   == NAME         one more run; a file with no such line is one run
+  network         the first line of a run of a network: it has the lines of the
+                  script and of the transcript of the program network
   app NAME        one more application: hello, blink, echo, relay, churn, ping,
                   or clock-watcher, which asks for the clock at every turn
   calls CALL, ..  one more application, which makes these calls, 128 at most,
