@@ -1,2 +1,3 @@
+pub mod MoteApps
 pub mod Setting
 pub mod SetUpRuns

@@ -6,6 +6,7 @@ use Rattle.mote_text.specs.declared.script.End.{End}
 use Rattle.network_setup.specs.declared.fault.SetUpRunFault.{SetUpRunFault}
 use Rattle.network_setup.specs.declared.setup.Setup.{Setup}
 use Rattle.network_run.specs.NetworkRunText.{HasRun}
+use Rattle.mote_session.specs.Voices.{Voices}
 use Rattle.network_session.specs.Network.{NetworkView}
 use Rattle.network_text.specs.declared.input.NetworkInput.{NetworkInput}
 
@@ -22,8 +23,8 @@ start_of setup = record {
 }
 
 -- how the run ended: where there is a network, as its run promises
-abbrev pub HasRunSetUp : Bool → NetworkView → List NetworkInput × End → List ℕ → Result End SetUpRunFault → Type 0
-HasRunSetUp quiet start script written (Ok end) = HasRun quiet start script written (Ok end)
-HasRunSetUp quiet start script written (Err (SetUpRunFault.Run fault)) = HasRun quiet start script written (Err fault)
-HasRunSetUp quiet start script written (Err SetUpRunFault.Memory) = written ≡ []
-HasRunSetUp quiet start script written (Err SetUpRunFault.BadLink) = written ≡ []
+abbrev pub HasRunSetUp : Bool → NetworkView → Voices → List NetworkInput × End → List ℕ → Result End SetUpRunFault → Type 0
+HasRunSetUp quiet start voices script written (Ok end) = HasRun quiet start voices script written (Ok end)
+HasRunSetUp quiet start voices script written (Err (SetUpRunFault.Run fault)) = HasRun quiet start voices script written (Err fault)
+HasRunSetUp quiet start voices script written (Err SetUpRunFault.Memory) = written ≡ []
+HasRunSetUp quiet start voices script written (Err SetUpRunFault.BadLink) = written ≡ []

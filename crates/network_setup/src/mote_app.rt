@@ -1,5 +1,7 @@
 //! The applications of a network's motes.
 
+ghost use Rattle.network_setup.specs.MoteApps.{mote_app_says};
+
 use crate::fault::LineFault;
 use call_lists::Application;
 use mote_apps::bundled::Bundled;
@@ -43,9 +45,18 @@ impl MoteApp {
             Err(_) => Err(LineFault::Malformed),
         }
     }
+}
 
-    /// Puts what it calls after this stimulus into `call`.
-    pub(crate) fn turn_into(&mut self, stimulus: &Stimulus, call: &mut Call) {
+impl App for MoteApp {
+    ghost says = { mote_app_says };
+
+    fn turn(&mut self, stimulus: &Stimulus) -> Call {
+        let mut call = Call::Wait;
+        self.turn_into(stimulus, &mut call);
+        call
+    }
+
+    fn turn_into(&mut self, stimulus: &Stimulus, call: &mut Call) {
         match self {
             MoteApp::Bundled(application) => application.turn_into(stimulus, call),
             MoteApp::Boxed(application) => application.turn_into(stimulus, call),

@@ -1,0 +1,53 @@
+-- A turn of one application among those of all motes.
+use Rattle.std.proofs.Common.{◌≡◌, ◌≢◌, ◌<◌, ◌==◌, ◌&&◌, ℕ, zero, suc, Bool, true, false, List, [], ◌∷◌, length, set, get_or, slice_get, refl, ap, sym, ◌∙◌, arith, Option, Some}
+use Rattle.std.proofs.lemmas.Bool.Decides.{nat_tests}
+use Rattle.std.specs.Global.{Vec}
+use Rattle.mote_types.proofs.Voices.{slice_get_set_other}
+use Rattle.mote_types.specs.Applications.{says_of}
+use Rattle.mote_types.specs.declared.call.Call.{Call}
+use Rattle.mote_types.specs.declared.event.Stimulus.{Stimulus}
+use Rattle.mote_session.specs.Voices.{IsCall}
+use Rattle.network_setup.specs.MoteApps.{mote_app_says, says_of_mote, voices_of}
+use Rattle.network_setup.specs.declared.mote_app.MoteApp.{MoteApp}
+
+there_at : {X : Type 0} (xs : List X) (i : ℕ) (d : X) → i < length xs → slice_get xs i ≡ Some (get_or xs i d)
+there_at [] i d within = absurd (omega arith)
+there_at (x ∷ xs) zero d within = refl
+there_at (x ∷ xs) (suc i) d within = there_at xs i d (omega arith)
+
+set_there : {X : Type 0} (xs : List X) (i : ℕ) (y : X) → i < length xs → slice_get (set xs i y) i ≡ Some y
+set_there [] i y within = absurd (omega arith)
+set_there (x ∷ xs) zero y within = refl
+set_there (x ∷ xs) (suc i) y within = set_there xs i y (omega arith)
+
+module _ (motes : List (Vec MoteApp)) (m p : ℕ) (stimulus : Stimulus) (call : Call) (before after : Vec MoteApp)
+    (within : m < length motes) (there : before ≡ get_or motes m before) where
+  abbrev old : List Stimulus → Call
+  old stimuli = says_of mote_app_says before.items p stimuli
+
+  abbrev new : List Stimulus → Call
+  new stimuli = says_of mote_app_says after.items p stimuli
+
+  module _ (made : call ≡ old (stimulus ∷ [])) (law : (next : Stimulus) (later : List Stimulus) → new (next ∷ later) ≡ old (stimulus ∷ next ∷ later))
+      (same : (q : ℕ) (stimuli : List Stimulus) → q ≢ p → says_of mote_app_says after.items q stimuli ≡ says_of mote_app_says before.items q stimuli) where
+    get_old : slice_get motes m ≡ Some before
+    get_old = there_at motes m before within ∙ ap (λ (v : Vec MoteApp). Some v) (sym there)
+
+    get_new : slice_get (set motes m after) m ≡ Some after
+    get_new = set_there motes m after within
+
+    other_said : (n q : ℕ) (is : Bool) → (n == m) ≡ is → (n == m && q == p) ≡ false → (next : Stimulus) (later : List Stimulus) →
+        voices_of (set motes m after) n q (next ∷ later) ≡ voices_of motes n q (next ∷ later)
+    other_said n q true e other next later =
+        let number : n ≡ m = grind (arith, nat_tests) in
+        let apart : q ≢ p = grind (arith, nat_tests) in
+        rw (number, get_new, get_old) (same q (next ∷ later) apart)
+    other_said n q false e other next later =
+        let apart : n ≢ m = grind (arith, nat_tests) in rw (slice_get_set_other motes m n after apart) refl
+
+    pub turn_is_call : IsCall m p stimulus call (voices_of motes) (voices_of (set motes m after))
+    turn_is_call = record {
+      made = rw get_old (sym made);
+      law = λ next later. rw (get_new, get_old) (law next later);
+      others = λ n q other next later. other_said n q (n == m) refl other next later;
+    }
