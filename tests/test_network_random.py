@@ -1,8 +1,11 @@
 """The built program network on random networks: mote by mote beside `mote` and `scenario`, and a replay in lists that finds each arrival.
+The same networks as a script, as a scenario file, from C and from Python give the same bytes.
 
-The gate tries a few networks. For more, TOARMUTS_NETWORKS is their number, and TOARMUTS_NETWORKS_FROM the first one's:
+The gate tries a few networks. For more, TOARMUTS_NETWORKS is their number, and TOARMUTS_NETWORKS_FROM the first one's (not of those that
+are made in C):
 
     TOARMUTS_NETWORKS=10000 /usr/bin/python3 -m pytest -n auto tests/test_network_random.py
+    TOARMUTS_NETWORKS=2000 /usr/bin/python3 -m pytest tests/test_network_random.py -k all_ways
 """
 from __future__ import annotations
 
@@ -11,14 +14,26 @@ import random
 from collections import defaultdict
 from dataclasses import dataclass, field
 from pathlib import Path
+from typing import Callable
 
 import pytest
 
-from tools import program, run, succeed
+import test_library
+import test_python
+from tools import all_hold, program, run, succeed
 
 NETWORKS = int(os.environ.get("TOARMUTS_NETWORKS", "120"))
 FIRST = int(os.environ.get("TOARMUTS_NETWORKS_FROM", "0"))
 PARTS = 8
+MADE_IN_C = int(os.environ.get("TOARMUTS_NETWORKS", "60"))
+# Runs the networks of a folder in Python, by the reader of scenario files, and writes what each comes to.
+IN_PYTHON = """
+import pathlib, sys, toarmuts
+for script in pathlib.Path(sys.argv[1]).glob("*.net"):
+    scenario, = toarmuts.read_scenarios("network\\n" + script.read_text())
+    script.with_suffix(".python").write_bytes(scenario.run().transcript.data)
+"""
+sanitized, environments = test_library.sanitized, test_python.environments
 APPLICATIONS = ("hello", "blink", "echo", "relay", "ping", "churn")
 BEATS = {"blink": 10, "ping": 5}
 CALLS = (
@@ -283,3 +298,21 @@ def test_random_networks(network: Path, mote: Path, scenario: Path, tmp_path: Pa
             check_network(seed, tmp_path)
         except AssertionError as fault:
             raise AssertionError(f"network {seed}: {fault}") from fault
+
+
+@test_library.with_sanitizers
+@test_python.lacks("venv", "ensurepip", "setuptools")
+def test_all_ways(network: Path, scenario: Path, sanitized: Callable[[test_library.Program], Path],
+                  environments: test_python.Environments, tmp_path: Path) -> None:
+    """A network whose calls are made in C has the bytes of the same network as a script, as a scenario file and from Python."""
+    all_hold(run(sanitized(test_library.NETWORK), "write", MADE_IN_C, tmp_path, timeout=3600))
+    succeed(environments.python("environment"), "-c", IN_PYTHON, tmp_path, settings={"PYTHONDONTWRITEBYTECODE": "1"})
+    scripts = sorted(tmp_path.glob("*.net"))
+    assert len(scripts) == MADE_IN_C
+    text = ""
+    for script in scripts:
+        wanted = script.with_suffix(".transcript").read_bytes()
+        assert run(network, stdin=script).stdout == wanted == script.with_suffix(".python").read_bytes(), script.read_text(encoding="ascii")
+        text += f"== {script.stem}\nnetwork\n{script.read_text(encoding='ascii')}{wanted.decode()}" + "ends finished\n" * (wanted == b"")
+    (tmp_path / "all").write_text(text, encoding="ascii")
+    assert succeed(scenario, "all", cwd=tmp_path).stdout.decode() == f"all: {MADE_IN_C} of {MADE_IN_C} runs as told\n"
