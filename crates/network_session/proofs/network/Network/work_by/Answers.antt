@@ -96,3 +96,17 @@ returns-in-Entry-clause-worked g c =
       rounds = c.self.inside.rounds;
     })
     c.work_by_in.new.motes.items c.air_in.new.medium c.index.result.now e h c.index.ensures c.air_in.ensures)
+
+-- what the applications say
+
+pub returns-in-Turn-clause-speaks : goal.returns-in-Turn-clause-speaks
+returns-in-Turn-clause-speaks g c = λ one there. rw c.in-Turn.is at (c.in_ok-work_by_in.ensures.speaks one there)
+
+pub returns-in-Entry-clause-speaks : goal.returns-in-Entry-clause-speaks
+returns-in-Entry-clause-speaks g c = λ one there. rw c.in-Entry.is at (c.in_ok-work_by_in.ensures.speaks one there)
+
+pub returns-in-Rest-clause-speaks : goal.returns-in-Rest-clause-speaks
+returns-in-Rest-clause-speaks g c = λ one there. rw c.in-Rest.is at (c.in_ok-work_by_in.ensures.speaks one there)
+
+pub returns-in-Halted-clause-speaks : goal.returns-in-Halted-clause-speaks
+returns-in-Halted-clause-speaks g c = λ one there. rw c.in-Halted.is at (c.in_ok-work_by_in.ensures.speaks one there)
