@@ -4,7 +4,7 @@ ghost use Rattle.std.specs.Prelude.{◌<◌, ◌-◌, ◌^◌};
 
 use mote_kit::transcript::Transcript;
 use mote_run::End;
-use mote_text::line::OutputBuffer;
+use mote_text::output_buffer::OutputBuffer;
 use mote_text::script::SCRIPT_LIMIT;
 use network_run::fault::RunFault;
 use network_setup::fault::{LineFault, SetUpRunFault};
