@@ -124,7 +124,7 @@ class ScenarioItem(pytest.Item):
     def _page_words(self, run: "Run | None") -> str:
         folder = self.config.getoption(_PAGES)
         # The run of a network has no page.
-        if not folder or not hasattr(run, "page"):
+        if not folder or run is None or not hasattr(run, "page"):
             return ""
         place = pathlib.Path(folder) / (re.sub(r"[^A-Za-z0-9]+", "-", f"{self.path.stem}-{self.name}")[:80] + ".html")
         place.parent.mkdir(parents=True, exist_ok=True)

@@ -16,6 +16,7 @@ from .links import MOST_NUMBER
 from .network import Network
 from .network_runs import NetworkRun, run_setup
 from .network_setup import read_input
+from .options import Options
 from .rules import RULES
 from .scenario import Scenario, read_only_by_program
 from .script import MOST_SCRIPT_LINE, encoded
@@ -70,7 +71,7 @@ def _add_motes(network: Network, text: str) -> None:
             sizes[name] = _size(next(rest, ""))
         else:
             raise BadNetwork(f"no size {name}")
-    network.add(*applications, *([read_calls(listed[1:])] if calls else []), count=len(motes), **sizes)
+    network.add(*applications, *([read_calls(listed[1:])] if calls else []), count=len(motes), options=replace(Options(), **sizes))
 
 
 def _size(word: str) -> int:
