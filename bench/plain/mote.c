@@ -12,100 +12,6 @@ enum refusal { FULL = 1, ALREADY = 3, BUSY = 4, NO_ROOM = 12 };
 
 static bool quiet;
 
-static void
-flush(void)
-{
-  size_t done = 0;
-  while(done < out_length) {
-    ssize_t written = write(STDOUT_FILENO, out + done, out_length - done);
-    if(written >= 0)
-      done += (size_t)written;
-    else if(errno != EINTR)
-      fail("write failed", STATUS_WRITE);
-  }
-  out_length = 0;
-}
-
-static void
-put(const void *bytes, size_t length)
-{
-  memcpy(out + out_length, bytes, length);
-  out_length += length;
-}
-
-#define PUT(text) put(text, sizeof(text) - 1)
-
-static void
-make_room(void)
-{
-  if(out_length >= PIECE) flush();
-}
-
-// Writes a number to an address, and returns where it ends.
-static char *
-write_number(uint32_t number, char *to)
-{
-  char digits[10];
-  size_t count = 0;
-  do {
-    digits[count++] = (char)('0' + number % 10);
-    number /= 10;
-  } while(number > 0);
-  while(count > 0) *to++ = digits[--count];
-  return to;
-}
-
-static void
-put_number(uint32_t number)
-{
-  out_length = (size_t)(write_number(number, out + out_length) - out);
-}
-
-// The two digits of each byte, which main fills.
-static char pairs[256][2];
-
-static void
-fill_pairs(void)
-{
-  static const char digits[] = "0123456789abcdef";
-  for(unsigned byte = 0; byte < 256; byte++) {
-    pairs[byte][0] = digits[byte / 16];
-    pairs[byte][1] = digits[byte % 16];
-  }
-}
-
-static void
-put_hex(const uint8_t *bytes, size_t length)
-{
-  char *to = out + out_length;
-  for(size_t i = 0; i < length; i++) memcpy(to + 2 * i, pairs[bytes[i]], 2);
-  out_length += 2 * length;
-}
-
-// Bytes as a word, a dash where there are none.
-static void
-put_bytes(const uint8_t *bytes, size_t length)
-{
-  if(length == 0) PUT("-");
-  put_hex(bytes, length);
-}
-
-// The last words of a line.
-
-static void
-end_with_number(uint32_t number)
-{
-  put_number(number);
-  PUT("\n");
-}
-
-static void
-end_with_bytes(const uint8_t *bytes, size_t length)
-{
-  put_bytes(bytes, length);
-  PUT("\n");
-}
-
 // Processes and events.
 
 struct payload {
@@ -134,7 +40,7 @@ static struct {
 } events[EVENTS];
 static unsigned first_event, event_count, polls, work;
 
-// What the current process received last: an event, or the reply to its call.
+// What the current process was told last: an event, or the answer to its call.
 static struct {
   enum { EVENT, SYNCH, DONE, REFUSED, NUM, BYTES } kind;
   const struct event *event;
@@ -362,7 +268,7 @@ tick(uint32_t ticks)
   if(next_expiry <= now) process_poll(&etimer_process);
 }
 
-// Managed memory: the blocks follow one another. If one is freed, those after it move down.
+// Managed memory: the blocks lie one behind the other. Where one is freed, those behind it move down.
 
 struct mmem {
   struct mmem *next;
@@ -439,7 +345,7 @@ serial_input(const uint8_t *bytes, size_t length)
   process_poll(&serial_process);
 }
 
-// Frames that arrived, and the process that receives them.
+// Frames that came in, and the process that is told of them.
 
 struct frame {
   struct mmem block;
@@ -480,7 +386,7 @@ frame_input(const uint8_t *bytes, size_t length)
   return 0;
 }
 
-// The calls of applications: each is a turn, and its reply is in the next one.
+// The calls of applications: each is a turn, and its answer is told in the next one.
 
 struct application {
   struct process process;
@@ -725,7 +631,7 @@ read_piece(void)
   in_end = rest + (size_t)count - is_too_long;
 }
 
-// The next line of the script, NULL after the last one. A line that is too long may be cut, but stays too long.
+// The next line of the script, NULL behind the last one. A line that is too long may be cut, which keeps it too long.
 static const char *
 next_line(size_t *length)
 {
@@ -741,49 +647,6 @@ next_line(size_t *length)
     if(is_at_end) return NULL;
     read_piece();
   }
-}
-
-// What follows the word that a line begins with.
-static const char *
-argument_of(const char *line, size_t *length, const char *word)
-{
-  size_t skipped = strlen(word);
-  if(*length < skipped || memcmp(line, word, skipped) != 0) return NULL;
-  *length -= skipped;
-  return line + skipped;
-}
-
-static bool
-read_number(const char *digits, size_t length, uint32_t *number)
-{
-  uint64_t value = 0;
-  if(length == 0 || length > 10 || (length > 1 && digits[0] == '0')) return false;
-  for(size_t i = 0; i < length; i++) {
-    if(digits[i] < '0' || digits[i] > '9') return false;
-    value = 10 * value + (uint64_t)(digits[i] - '0');
-  }
-  *number = (uint32_t)value;
-  return value <= UINT32_MAX;
-}
-
-// The value of each hex digit plus 1; 0 for other characters.
-static const uint8_t digit_values[256] = {
-  ['0'] = 1,  ['1'] = 2,  ['2'] = 3,  ['3'] = 4,  ['4'] = 5,  ['5'] = 6,  ['6'] = 7,  ['7'] = 8,  ['8'] = 9,  ['9'] = 10, ['a'] = 11,
-  ['b'] = 12, ['c'] = 13, ['d'] = 14, ['e'] = 15, ['f'] = 16, ['A'] = 11, ['B'] = 12, ['C'] = 13, ['D'] = 14, ['E'] = 15, ['F'] = 16,
-};
-
-// The number of bytes, 0 if they are malformed.
-static size_t
-read_hex(const char *text, size_t length, size_t most, uint8_t *bytes)
-{
-  const uint8_t *digits = (const uint8_t *)text;
-  if(length % 2 != 0 || length > 2 * most) return 0;
-  for(size_t i = 0; i < length / 2; i++) {
-    unsigned high = digit_values[digits[2 * i]], low = digit_values[digits[2 * i + 1]];
-    if(high == 0 || low == 0) return 0;
-    bytes[i] = (uint8_t)((high - 1) << 4 | (low - 1));
-  }
-  return length / 2;
 }
 
 static bool

@@ -5,6 +5,7 @@ pub mod by_value;
 mod calls;
 mod hex_blocks;
 pub mod hex_digits;
+pub mod numbers;
 pub mod output_buffer;
 mod page;
 pub mod script;

@@ -10,8 +10,8 @@ ghost use Rattle.network_text.specs.NetworkText.{clock_line, fate_line, frame_li
 use itoa::Buffer;
 use medium_core::link::Fate;
 use mote_session::session::Session;
-use mote_text::line::OutputBuffer;
 use mote_text::numbers::push_number_word;
+use mote_text::output_buffer::OutputBuffer;
 use mote_text::script::End;
 use mote_text::transcript::push_final_line;
 
