@@ -98,7 +98,7 @@ fn run_words<R: AllocGlobal + io::Input + Print + Eprint>(
 ///
 /// # Errors
 ///
-/// `OutOfMemory` where memory was refused for the words.
+/// `OutOfMemory` where memory ran out for the words.
 fn work<R: AllocGlobal + io::Input + Print + Eprint>(
     rt: &R,
     words: &[String],

@@ -16,42 +16,43 @@ pub(crate) struct Wish {
 const ABOUT: &str = "\
 Runs a network of simulated Contiki-NG nodes.
 
-Reads a script from standard input. Its first lines set the network up:
-  mote N WORD..       the next mote, or motes N..M: names of applications, and
-                      sizes, as the program mote has them
+Reads a script from standard input, and executes it. Its first lines set the
+network up:
+  mote N WORD..       mote N, the next one, or motes N..M: names of applications,
+                      and sizes, as in the arguments of the program mote
   mote N calls CALL, CALL, ..
                       the same, with one more application, which makes these calls
-  link A B delay D    what mote A sends, mote B hears D ticks later, at least 1
+  link A B delay D    mote B hears what mote A sends, D ticks later, at least 1
   line, ring or mesh N..M delay D
   grid N..M width W delay D
                       links both ways between neighbours
   .. every N          after a delay: each N-th frame is lost
   .. lot C seed S     after a delay: of 65536 frames about C are lost
-  room N              the number of frames that can be in flight (default: 1024)
-  rounds N            how much one line can lead to (default: 16777216)
+  room N              the most frames in flight (default: 1024)
+  rounds N            the most rounds of one input (default: 16777216)
 Each further line is an input:
-  tick N              the clock goes on by N ticks
-  N serial HEX        bytes come in on the serial line of mote N
-  N frame HEX         a radio frame from outside comes in at mote N
+  tick N              advances the clock by N ticks, 0 to 4294967295
+  N serial HEX        the serial line of mote N receives 1 to 256 bytes
+  N frame HEX         the radio of mote N receives a frame of 1 to 127 bytes
 An empty line and one that begins with '#' do nothing.
 
 Writes a transcript to standard output: the lines of each mote, with its number
-in front ('2 > tick 3'), '= 14' where the clock goes on, and 'lost A B',
+in front ('2 > tick 3'), '= 14' where the clock advances, and 'lost A B',
 'full A B' and 'missed A B' where a frame isn't heard.";
 
 const AFTER_HELP: &str = "\
 Applications:
-  hello, blink, echo, relay, churn, ping, as the program mote has them, and
-  clock-watcher, which asks for the clock without end
+  hello, blink, echo, relay, churn, ping, as in the program mote, and
+  clock-watcher, which calls 'clock' in each turn and never waits
 
 Exit status:
-  0     the script was carried out, or this text or the version was printed
+  0     the script was executed, or the help or the version was printed
   2     the script has a malformed line: 'bad line N' ends the transcript
   3     a line took all its rounds: 'halt' ends the transcript
   4     the script has more than 16777216 bytes: 'too long' is the transcript
   5, 6  standard input can't be read, standard output can't be written
-  64    invalid arguments, or --only with a mote that there isn't
-  70    memory was refused, or a limit of the program was reached
+  64    invalid arguments, or --only with a mote that doesn't exist
+  70    out of memory, or a limit of the program was reached
 
 Example:
   printf 'mote 1..2 relay\\nlink 1 2 delay 3\\n1 frame 0a0b\\ntick 5\\n' | network";
@@ -92,7 +93,7 @@ fn parse<'a>(alloc: Global, words: &'a [&'a str]) -> Result<ArgMatches<'a>, Fail
 ///
 /// # Errors
 ///
-/// `Request` or `Words` with what the parser finds, or `OutOfMemory` where memory was refused.
+/// `Request` or `Words` with what the parser finds, or `OutOfMemory` where memory ran out.
 pub(crate) fn wish_of(alloc: Global, words: &[&str]) -> Result<Wish, Failure<'static>> {
     let matches = parse(alloc, words)?;
     Ok(Wish {

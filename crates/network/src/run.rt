@@ -16,7 +16,7 @@ use network_text::lines::last_text;
 use std::alloc::Global;
 use std::io::Write;
 
-/// Refuses a wish for the lines of a mote that there isn't.
+/// Refuses a wish for the lines of a mote that doesn't exist.
 fn test_wish(wish: Wish, setup: &Setup) -> Result<(), RunFault> {
     match wish.only {
         Some(only) if only as usize > setup.motes.len() => Err(RunFault::NoMote(only)),

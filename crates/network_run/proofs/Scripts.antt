@@ -96,7 +96,7 @@ leads_length (move ∷ moves) old new leads = leads_length moves (after_move mov
 abbrev Script : Type 0
 Script = List NetworkInput × End
 
--- an input for a mote that there is
+-- an input for a mote that exists
 number_is : (motes number : ℕ) (input : Input) → is_for_some motes (NetworkInput.ForMote number input) ≡ true → number - 1 + 1 ≡ number
 number_is motes number input some = grind (arith, nat_tests)
 

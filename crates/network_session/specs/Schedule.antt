@@ -7,7 +7,7 @@ use Rattle.mote_session.specs.SessionView.{SessionView}
 use Rattle.network_session.specs.Network.{NetworkView, wakes_of}
 use Rattle.network_session.specs.declared.outcome.Outcome.{Outcome}
 
--- nobody hears a frame of no bytes, one for a halted mote, or one for a mote that there isn't
+-- nobody hears a frame of no bytes, one for a halted mote, or one for a mote that doesn't exist
 abbrev pub is_unheard : Flight → Option SessionView → Bool
 is_unheard f None = true
 is_unheard f (Some mote) = mote.machine.is_halted || length f.bytes.items == 0

@@ -19,7 +19,7 @@ pub enum StepsFault {
     /// There are as many links as there can be.
     #[error("no room")]
     NoRoom,
-    /// A link isn't sound, or leads from or to a mote that there isn't.
+    /// A link isn't sound, or leads from or to a mote that doesn't exist.
     #[error("bad link")]
     BadLink,
     /// Memory was refused.

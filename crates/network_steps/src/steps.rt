@@ -129,7 +129,7 @@ impl NetworkSteps {
     /// # Errors
     ///
     /// `IsStarted` once `next` was called; `NoRoom` for a link too many; `BadLink` where the link isn't sound, or leads from or to a
-    /// mote that there isn't; `Memory` where memory is refused.
+    /// mote that doesn't exist; `Memory` where memory is refused.
     pub fn add_link(&mut self, from: usize, link: Link) -> Result<(), StepsFault>
         ensures added { IfOk result (λ _. TakesLink from link self.old self.new) }
         ensures accepted { IfOk result (λ _. link_refusal from link self.old ≡ None) }

@@ -46,7 +46,7 @@ abbrev pub if_for_some : ℕ → Option NetworkInput → Option (Option NetworkI
 if_for_some motes None = None
 if_for_some motes (Some input) = if is_for_some motes input then Some (Some input) else None
 
--- what a line says: an input, or nothing where it is empty or a comment. None, where it is malformed, or for a mote that there isn't
+-- what a line says: an input, or nothing where it is empty or a comment. None, where it is malformed, or for a mote that doesn't exist
 abbrev pub read_network_line : ℕ → List ℕ → Option (Option NetworkInput)
 read_network_line motes line =
     if nat_lt line_limit (length line) then None
