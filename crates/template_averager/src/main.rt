@@ -3,8 +3,6 @@
 
 mod averager;
 mod runner;
-#[cfg(test)]
-mod tests;
 
 use averager::Averager;
 use mote_shell::{Program, after_help, exit_code, words_of, work};
