@@ -291,11 +291,13 @@ def test_text_of_begun_lines(runner: Runner, tmp_path: Path) -> None:
 
 HELLO = EXAMPLES / "contiki/hello-world.c"
 NO_MOTE = "malformed: there is no such mote"
-NO_SOURCE = "malformed: a mote's words are the names of sources among the arguments"
+NO_SOURCE = "malformed: a mote's words are the names of sources among the arguments, as `client.c`"
 NO_SIZES = "malformed: no mote has these sizes"
 ONE_SPACE = "malformed: one space separates words"
-NEXT = "malformed: the next mote has the number after the last one's"
-AS_LINK = "malformed: as `link 1 2 delay 3`"
+NEXT = "malformed: as `mote 3 client.c` or `mote 3..5 client.c`, where the last mote before was 2"
+AS_LINK = "malformed: as `link 1 2 delay 3`, `link 1 2 delay 3 every 2` or `link 1 2 delay 3 lot 655 seed 1`"
+AS_SHAPE = "malformed: as `line 1..3 delay 2` or `grid 1..6 width 3 delay 2`; a ring has at least three motes"
+AS_NUMBER = "malformed: as `room 8` or `rounds 900`"
 OPTIONS = "malformed: options are --mmem N, --heap N, --quota N and --header N"
 FIRST_LINES = "malformed: it sets up motes, links, line, ring, mesh, grid, room or rounds; inputs are in the script"
 TWO_MOTES = "mote 1..2 hello-world.c\n"
@@ -313,9 +315,9 @@ MALFORMED = {
     TWO_MOTES + "link 1 2 delay 1 every\n": AS_LINK, TWO_MOTES + "link 1 2 delay 1 lot 65537 seed 1\n": AS_LINK,
     TWO_MOTES + "link 1 2 delay 1 lot 5\n": AS_LINK, TWO_MOTES + "link 1 2 delay 1 lot 5 seed 1 2\n": AS_LINK,
     TWO_MOTES + "link 1 2 delay 1 every 2 every 3\n": AS_LINK, TWO_MOTES + "link 1 2 delay 4294967296\n": AS_LINK,
-    TWO_MOTES + "ring 1..2 delay 1\n": "malformed", TWO_MOTES + "grid 1..2 delay 1\n": "malformed",
-    TWO_MOTES + "grid 1..2 width 0 delay 1\n": "malformed", TWO_MOTES + "line 2..1 delay 1\n": "malformed",
-    "room\n": "malformed", "room 5 6\n": "malformed", "rounds many\n": "malformed",
+    TWO_MOTES + "ring 1..2 delay 1\n": AS_SHAPE, TWO_MOTES + "grid 1..2 delay 1\n": AS_SHAPE,
+    TWO_MOTES + "grid 1..2 width 0 delay 1\n": AS_SHAPE, TWO_MOTES + "line 2..1 delay 1\n": AS_SHAPE,
+    "room\n": AS_NUMBER, "room 5 6\n": AS_NUMBER, "rounds many\n": AS_NUMBER,
     "tick 5\n": FIRST_LINES, TWO_MOTES + "1 serial 61\n": FIRST_LINES, "\n# nothing\nwalk\n": FIRST_LINES,
     "#" + "x" * 1024 + "\n": "malformed: it has more than 1,024 bytes", "room 5\0\n": "malformed: it has a byte 0",
     "\ufeffroom 5\n": "malformed: it begins with a byte order mark: save the file without one",

@@ -5,7 +5,9 @@
 
 enum { MOST_MOTES = UINT16_MAX, MOST_CHANCE = 65536 };
 
-static const char MALFORMED[] = "malformed";
+static const char AS_NUMBER[] = "malformed: as `room 8` or `rounds 900`";
+static const char AS_SHAPE[] = "malformed: as `line 1..3 delay 2` or `grid 1..6 width 3 delay 2`; a ring has at least three motes";
+static const char AS_LINK[] = "malformed: as `link 1 2 delay 3`, `link 1 2 delay 3 every 2` or `link 1 2 delay 3 lot 655 seed 1`";
 static const char NO_SUCH_MOTE[] = "malformed: there is no such mote";
 
 /* Motes whose numbers follow one another. */
@@ -154,14 +156,14 @@ take_motes(struct network_setup *setup, uint64_t number, char **text)
   char sources[LINE_LIMIT + 1] = "";
   const char *why;
   if(!takes_span(text, &span) || span.first != setup->mote_count + 1) {
-    return "malformed: the next mote has the number after the last one's";
+    return "malformed: as `mote 3 client.c` or `mote 3..5 client.c`, where the last mote before was 2";
   }
   if(span.last > MOST_MOTES) {
     return "malformed: a network of programs in C has at most 65,535 motes";
   }
   why = take_mote_words(&mote.configuration, sources, text);
   if(why == NULL && !is_program(sources)) {
-    why = "malformed: a mote's words are the names of sources among the arguments";
+    why = "malformed: a mote's words are the names of sources among the arguments, as `client.c`";
   }
   if(why == NULL && !are_sizes(&mote.configuration)) {
     why = NO_SIZES;
@@ -233,7 +235,7 @@ take_link(struct network_setup *setup, char **text)
   struct carriage carriage;
   uint32_t from, to;
   if(!takes_number(text, &from) || !takes_number(text, &to) || !takes_carriage(text, &carriage)) {
-    return "malformed: as `link 1 2 delay 3`";
+    return AS_LINK;
   }
   if(from == 0 || from > setup->mote_count || to == 0 || to > setup->mote_count) {
     return NO_SUCH_MOTE;
@@ -298,7 +300,7 @@ take_shape(struct network_setup *setup, const char *shape, char **text)
   uint32_t width = 0;
   if(!takes_span(text, &span) || (is_grid && !(takes_word(text, "width") && takes_number(text, &width) && width > 0)) ||
      !takes_carriage(text, &carriage) || (is_ring && span.last - span.first < 2)) {
-    return MALFORMED;
+    return AS_SHAPE;
   }
   if(span.last > setup->mote_count) {
     return NO_SUCH_MOTE;
@@ -319,7 +321,7 @@ take_shape(struct network_setup *setup, const char *shape, char **text)
 static const char *
 take_number(char **text, uint32_t *number)
 {
-  return takes_number(text, number) && *text == NULL ? NULL : MALFORMED;
+  return takes_number(text, number) && *text == NULL ? NULL : AS_NUMBER;
 }
 
 static bool
