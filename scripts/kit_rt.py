@@ -13,7 +13,6 @@ OF_CHECKS = ("--logic-built", "--jobs")
 
 
 def load_rt() -> Any:
-    """The module of rt that reads crates."""
     told = subprocess.run(["rt", "doc"], check=True, capture_output=True, text=True).stdout.strip()
     spec = importlib.util.spec_from_file_location("rtlib", Path(told).parent / "bin/rtlib.py")
     assert spec is not None and spec.loader is not None

@@ -37,7 +37,6 @@ class Launch:
         self.proving = "./prove" if crate == "mote" else f"./prove {crate}"
 
     def tell(self, text: str) -> None:
-        """Prints a line on standard error."""
         print(f"{self.name}: {text}", file=sys.stderr, flush=True)
 
     def give_up(self, why: str, status: int = 125) -> NoReturn:
@@ -46,7 +45,6 @@ class Launch:
         sys.exit(status)
 
     def run(self) -> NoReturn:
-        """Runs the proved program where there is one; otherwise runs it unproved."""
         if self.is_proved():
             self.tell_of_input()
             os.execv(self.program, [self.program, *self.words])
@@ -84,7 +82,6 @@ class Launch:
             pass
 
     def tell_of_files(self) -> None:
-        """Checks the files that the arguments name."""
         for word in filter(os.path.isfile, self.words):
             try:
                 with open(word, "rb") as opened:
@@ -107,7 +104,6 @@ class Launch:
     # ---- An unproved run ----
 
     def run_unproved(self) -> NoReturn:
-        """Runs the program by `rt try`, and ends with its status."""
         import shutil
         import signal
         if shutil.which("rt") is None:
@@ -134,7 +130,6 @@ class Launch:
         self.judge(status, *streams)
 
     def no_room(self) -> NoReturn:
-        """Ends since nothing can be stored."""
         folder = os.environ.get("TMPDIR") or "/tmp"
         self.give_up(f"an unproved run keeps its input and output in {folder}, which is full or can't be written; "
                      "TMPDIR names another folder")
@@ -250,7 +245,6 @@ def is_text(word: str) -> bool:
 
 
 def is_open(number: int) -> bool:
-    """Whether a stream is open."""
     try:
         os.fstat(number)
     except OSError:
@@ -259,7 +253,6 @@ def is_open(number: int) -> bool:
 
 
 def has_room(kept: BinaryIO) -> bool:
-    """Whether the file system of this file has room for another block."""
     try:
         kept.seek(0, os.SEEK_END)
         kept.write(b" " * 8192)
@@ -269,7 +262,6 @@ def has_room(kept: BinaryIO) -> bool:
 
 
 def write_all(number: int, content: bytes) -> bool:
-    """Writes to a stream. Returns whether all was written."""
     try:
         while content:
             content = content[os.write(number, content):]

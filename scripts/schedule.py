@@ -65,7 +65,6 @@ class Schedule:
         return not self.under_way or used <= self.most * 2 and ahead <= self.most * 3 // 2
 
     def begin(self) -> Iterator[Share]:
-        """Those to start now."""
         for name in self._ready():
             share = self._share(name)
             if not self._has_room(share):

@@ -33,7 +33,6 @@ class Sources:
                 self.libraries_for_c.add(name)
 
     def is_program(self, name: str) -> bool:
-        """Whether a program is made of this crate."""
         return (self.root / "crates" / name / "src/main.rt").is_file()
 
     def is_product(self, name: str) -> bool:
@@ -41,11 +40,9 @@ class Sources:
         return name in self.lines and (self.is_program(name) or name in self.libraries_for_c)
 
     def built_as(self, name: str) -> str:
-        """The name of the file that is built."""
         return name if self.is_program(name) else f"lib{name}.a"
 
     def product(self, name: str) -> Path:
-        """What is built: a program or a library."""
         return self.root / "crates" / name / "out" / self.built_as(name)
 
     def mark(self, name: str) -> Path:
@@ -77,13 +74,11 @@ class Sources:
         return ["crates.txt", *(it for it in parts if (self.root / it).is_dir())]
 
     def files(self, name: str) -> list[str]:
-        """The files of a crate and of all below it."""
         places = self.places(name)[1:]
         return sorted((os.path.relpath(os.path.join(at, file), self.root) for place in places
                        for at, _, files in os.walk(self.root / place) for file in files), key=os.fsencode)
 
     def name_of_sources(self, name: str) -> str:
-        """A hash of the sources of a crate and of all below it."""
         names = self.with_all_below(name)
         told = hashlib.sha256("".join(f"{line}\n" for it, line in self.lines.items() if it in names).encode())
         for file in self.files(name):
@@ -97,7 +92,6 @@ class Sources:
         return all(it.lstat().st_ctime_ns < when for it in [*places, *inner])
 
     def mark_text(self, name: str, product: Path) -> str:
-        """The content of the mark of a product that was built from these sources."""
         lines = [self.name_of_sources(name), f"{sum_of(product)}  -", kit(), *self.places(name)]
         return "".join(f"{line}\n" for line in lines)
 
@@ -117,15 +111,12 @@ class Sources:
         return True
 
     def kit_of(self, name: str) -> str:
-        """The kit that built it, from the mark."""
         return (self.mark(name).read_text(encoding="utf-8").splitlines() + [""] * 3)[2]
 
 
 def kit() -> str:
-    """The kit that proves."""
     return subprocess.run(["rt", "version"], check=True, capture_output=True, text=True).stdout.rstrip("\n")
 
 
 def sum_of(file: Path) -> str:
-    """A hash of a file's content."""
     return hashlib.sha256(file.read_bytes()).hexdigest()

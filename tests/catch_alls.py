@@ -42,7 +42,6 @@ def in_definitions(text: str) -> Iterator[str]:
 
 
 def arms_of(body: str) -> Iterator[Tuple[str, str]]:
-    """The pattern of each arm of a match, and what it does."""
     while "=>" in body:
         pattern, _, rest = body.partition("=>")
         rest = rest.lstrip()

@@ -16,13 +16,11 @@ BUILT_LAST = ({"toarmuts_library", "modules_library"}, {"page_file", "proofs"})
 
 
 def pytest_addoption(parser: pytest.Parser) -> None:
-    """The options of these tests."""
     parser.addoption("--whole", action="store_true", help="also try what takes minutes more: the web page and a release where programs "
                      "must be proved once more for them, and a release in a clean Debian, which comes from a mirror")
 
 
 def pytest_configure(config: pytest.Config) -> None:
-    """The marks of these tests."""
     config.addinivalue_line("markers", "whole: is carried out with --whole alone")
 
 
@@ -35,13 +33,11 @@ def pytest_collection_modifyitems(config: pytest.Config, items: list[pytest.Item
 
 
 def fixtures_of(item: pytest.Item) -> list[str]:
-    """The names of the fixtures that a test needs."""
     return list(getattr(item, "fixturenames", ()))
 
 
 @pytest.fixture(scope="session")
 def shared(tmp_path_factory: pytest.TempPathFactory) -> Path:
-    """A folder of the session, the same for all workers."""
     base = tmp_path_factory.getbasetemp()
     folder = (base.parent if "PYTEST_XDIST_WORKER" in os.environ else base) / "shared"
     folder.mkdir(exist_ok=True)
@@ -50,31 +46,26 @@ def shared(tmp_path_factory: pytest.TempPathFactory) -> Path:
 
 @pytest.fixture(scope="session")
 def mote() -> Path:
-    """The built program mote."""
     return program("mote")
 
 
 @pytest.fixture(scope="session")
 def scenario() -> Path:
-    """The built program scenario."""
     return program("scenario")
 
 
 @pytest.fixture(scope="session")
 def mote_picture() -> Path:
-    """The built program mote_picture."""
     return program("mote_picture")
 
 
 @pytest.fixture(scope="session")
 def network() -> Path:
-    """The built program network."""
     return program("network")
 
 
 @pytest.fixture(scope="session")
 def network_picture() -> Path:
-    """The built program network_picture."""
     return program("network_picture")
 
 
@@ -91,7 +82,6 @@ def toarmuts_library(shared: Path) -> Path:
 
 @pytest.fixture(scope="session")
 def modules_library(shared: Path) -> Path:
-    """A folder with the archive of the memory modules for C of crates/modules_c: libmodules_c.a."""
     def gather(folder: Path) -> None:
         folder.mkdir(exist_ok=True)
         shutil.copy2(library("modules_c"), folder)
@@ -100,7 +90,6 @@ def modules_library(shared: Path) -> Path:
 
 @pytest.fixture(scope="session")
 def c_examples(toarmuts_library: Path, shared: Path) -> Path:
-    """The folder examples/c, in which the examples over the library are built."""
     def make(mark: Path) -> None:
         current_library("toarmuts")
         succeed("make", "-s", "-C", EXAMPLES / "c", "blink", "beat")
@@ -111,13 +100,11 @@ def c_examples(toarmuts_library: Path, shared: Path) -> Path:
 
 @pytest.fixture(scope="session")
 def contiki(toarmuts_library: Path, shared: Path) -> Contiki:
-    """The command `contiki` over that library."""
     return Contiki(toarmuts_library, shared / "contiki")
 
 
 @pytest.fixture(params=["gcc", "clang"])
 def sanitizing_compiler(request: pytest.FixtureRequest) -> str:
-    """Each compiler for C, with the sanitizers."""
     compiler = str(request.param)
     if not sanitizes(compiler):
         pytest.skip(f"no {compiler} with sanitizers here")

@@ -38,29 +38,24 @@ def program_of(statement: str, functions: str = "") -> str:
 
 
 def write_source(folder: Path, text: str) -> Path:
-    """Writes a program into a folder."""
     source = folder / "program.c"
     source.write_text(text, encoding="utf-8")
     return source
 
 
 def script_of(source: Path) -> bytes:
-    """The script beside a source."""
     return source.with_suffix(".script").read_bytes()
 
 
 def transcript_of(source: Path) -> bytes:
-    """The transcript beside a source."""
     return source.with_suffix(".transcript").read_bytes()
 
 
 def place(process: str, stimulus: str, line: int, calls: object) -> str:
-    """The text that names where a process is stopped."""
     return f"contiki: process {process}, handling {stimulus} at line {line} of the transcript, after {calls} calls: "
 
 
 def outcome(ran: Completed) -> tuple[int, str, str]:
-    """The status of a command, and what it wrote."""
     return ran.returncode, ran.stdout.decode(errors="replace"), ran.stderr.decode(errors="replace")
 
 
@@ -78,7 +73,6 @@ class Contiki:
 
     def __call__(self, *words: Word, stdin: bytes | Path = b"", settings: Mapping[str, str] | None = None,
                  cwd: Path | None = None) -> Completed:
-        """Runs the command."""
         return run(ROOT / "contiki", "--library", self.library, *words, stdin=stdin, settings=settings, cwd=cwd)
 
     def build(self, source: Path, compiler: str = "gcc", *words: str) -> Path:

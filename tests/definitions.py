@@ -38,7 +38,6 @@ def names_used(text: str) -> dict[str, tuple[str, str | None]]:
 
 
 def whole(home: tuple[str, str | None] | None) -> Place | None:
-    """A place, where a name was given."""
     return (home[0], home[1]) if home and home[1] else None
 
 
@@ -68,7 +67,6 @@ def definitions(file: str) -> dict[str, tuple[list[str], str]]:
 
 
 def declared_type(file: str, name: str) -> list[str]:
-    """The lines of a type of code, from its comment to its end."""
     lines = (ROOT / file).read_text(encoding="utf-8").splitlines()
     at = next(i for i, line in enumerate(lines) if re.match(rf"pub (?:struct|enum|type) {name}\b", line))
     start = at
@@ -81,7 +79,6 @@ def declared_type(file: str, name: str) -> list[str]:
 
 
 def types_within(file: str, name: str) -> Iterator[Place]:
-    """The types of these crates that a type is made of."""
     text = (ROOT / file).read_text(encoding="utf-8")
     words = set(re.findall(r"\b[A-Z]\w+", "\n".join(line for line in declared_type(file, name) if "///" not in line)))
     for crate, path, several, single in CODE_USE.findall(text):
@@ -95,7 +92,6 @@ def types_within(file: str, name: str) -> Iterator[Place]:
 
 
 def spoken_of(file: str, name: str) -> Iterator[Place]:
-    """What a definition speaks of in the crates here."""
     lines, module = definitions(file)[name]
     text = "\n".join(line.partition("--")[0] for line in [module, *lines])
     homes = names_used((ROOT / file).read_text(encoding="utf-8"))
@@ -110,7 +106,6 @@ def spoken_of(file: str, name: str) -> Iterator[Place]:
 
 
 def reached(todo: list[Place]) -> set[Place]:
-    """All definitions and types that these speak of, with themselves."""
     seen: set[Place] = set()
     while todo:
         place = todo.pop()
@@ -132,7 +127,6 @@ def promised() -> tuple[set[Place], set[Place]]:
 
 
 def lines_by_file(places: Iterable[Place]) -> collections.Counter[str]:
-    """How many lines these definitions and types have, by file."""
     counts: collections.Counter[str] = collections.Counter()
     for file, name in places:
         counts[file] += len(declared_type(file, name) if file.endswith(".rt") else definitions(file)[name][0])

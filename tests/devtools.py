@@ -27,7 +27,6 @@ class NoAnswer(RuntimeError):
 
 
 def chromium() -> str:
-    """Where Chromium is, or nothing."""
     return shutil.which("chromium") or shutil.which("chromium-browser") or ""
 
 
@@ -70,7 +69,6 @@ class Browser:
         os.close(self._answers)
 
     def call(self, method: str, session: Optional[str] = None, **parameters: Any) -> Dict[str, Any]:
-        """A command, and its result."""
         self._number += 1
         message: Dict[str, Any] = {"id": self._number, "method": method, "params": parameters}
         if session:
@@ -96,7 +94,6 @@ class Browser:
             page.events.append(told)
 
     def _read(self, seconds: float) -> Dict[str, Any]:
-        """The next message."""
         parts = [self._rest]
         while b"\0" not in parts[-1]:
             if seconds <= 0 or not select.select([self._answers], [], [], seconds)[0]:
@@ -125,18 +122,14 @@ class Browser:
 
 
 class Page:
-    """A page of a browser, and what it has reported."""
-
     def __init__(self, browser: Browser, session: str, target: str) -> None:
         self._browser, self._session, self._target = browser, session, target
         self.events: List[Dict[str, Any]] = []
 
     def call(self, method: str, **parameters: Any) -> Dict[str, Any]:
-        """A command for this page."""
         return self._browser.call(method, self._session, **parameters)
 
     def ask(self, script: str) -> Any:
-        """What the body of an asynchronous function returns. Raises ScriptError."""
         told = self.call("Runtime.evaluate", expression=f"(async () => {{ {script} }})()", awaitPromise=True, returnByValue=True,
                          userGesture=True)
         if "exceptionDetails" in told:
@@ -145,7 +138,6 @@ class Page:
         return told["result"].get("value")
 
     def wait_for(self, condition: str, seconds: float = 90.0) -> None:
-        """Waits until an expression is true. Raises ScriptError."""
         end = time.monotonic() + seconds
         while True:
             try:
@@ -175,21 +167,17 @@ class Page:
         self.call("Emulation.setEmulatedMedia", features=[{"name": "prefers-color-scheme", "value": "dark" if dark else "light"}])
 
     def press(self, key: str, code: int = 0, modifiers: int = 0, text: str = "") -> None:
-        """Presses and releases a key."""
         told = {"key": key, "windowsVirtualKeyCode": code, "modifiers": modifiers}
         self.call("Input.dispatchKeyEvent", type="keyDown", text=text, **told)
         self.call("Input.dispatchKeyEvent", type="keyUp", **told)
 
     def insert(self, text: str) -> None:
-        """Types a text where the cursor is."""
         self.call("Input.insertText", text=text)
 
     def picture(self, path: Path) -> None:
-        """Writes what the window shows to a file, as PNG."""
         path.write_bytes(base64.b64decode(self.call("Page.captureScreenshot")["data"]))
 
     def requests(self) -> List[str]:
-        """The addresses that the page has asked for."""
         return [it["params"]["request"]["url"] for it in self.events if it["method"] == "Network.requestWillBeSent"]
 
     def errors(self) -> List[str]:
@@ -200,5 +188,4 @@ class Page:
         return thrown + [it["text"] for it in logged if it["level"] == "error"]
 
     def close(self) -> None:
-        """Closes the page."""
         self._browser.call("Target.closeTarget", targetId=self._target)

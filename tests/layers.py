@@ -30,7 +30,6 @@ def parts() -> list[tuple[str, list[str]]]:
 
 
 def crates() -> list[Crate]:
-    """All crates, in the order of crates.txt."""
     heights: dict[str, int] = {}
     found = []
     for column, (_, lines) in enumerate(parts()):
@@ -48,7 +47,6 @@ def titles() -> list[str]:
 
 
 def rows(cells: list[list[str]], widths: list[int], label: str) -> list[str]:
-    """The lines of a row: the lines of each cell side by side, after the row's label."""
     lines = []
     for number in range(max(len(cell) for cell in cells)):
         texts = (cell[number] if number < len(cell) else "" for cell in cells)
@@ -58,7 +56,6 @@ def rows(cells: list[list[str]], widths: list[int], label: str) -> list[str]:
 
 
 def figure() -> str:
-    """The figure: a column for each part of crates.txt, a row for each height, the highest first."""
     all_crates = crates()
     columns = range(len(parts()))
     widths = [max(map(len, [*title.split(), *(crate.name for crate in all_crates if crate.column == column)]))

@@ -20,7 +20,6 @@ Told = list[dict[str, Any]]
 
 
 def picture(words: Sequence[str], transcript: str) -> Completed:
-    """Runs the built program mote_picture on a transcript."""
     return run(program("mote_picture"), *words, stdin=transcript.encode())
 
 
@@ -43,19 +42,16 @@ def data_in(page: str) -> tuple[str, Any]:
 
 
 def items_in(data: Any, name: str) -> Iterator[dict[str, Any]]:
-    """The items of a list of numbers, each with its fields by their names."""
     fields, numbers = TABLES[name], data[name]
     for place in range(0, len(numbers), len(fields)):
         yield dict(zip(fields, numbers[place:place + len(fields)]))
 
 
 def there(data: Any, name: str, line: int) -> list[dict[str, Any]]:
-    """The items of a list that are there at a line."""
     return [item for item in items_in(data, name) if item["first"] <= line and (item["end"] is None or line < item["end"])]
 
 
 def lists_in(data: Any, line: int) -> list[Any]:
-    """Which blocks the lists have at a line."""
     lists: dict[int, list[int]] = {}
     chains = data["chains"]
     place = 0
@@ -84,7 +80,6 @@ def told_by_data(data: Any, line: int) -> dict[str, Any]:
 
 
 def told_by_replay(state: State) -> dict[str, Any]:
-    """The same, by the rules."""
     linked = [(16 * (name // 2) + block, name) for name, blocks in state.lists.items() for block in blocks]
     return {
         "active": state.active,

@@ -54,7 +54,6 @@ def declared(source: str) -> Iterator[tuple[str, str]]:
 
 @functools.lru_cache(maxsize=None)
 def declared_in(crate: str) -> set[tuple[str, str]]:
-    """The public calls and types of a crate; none, where there is no such crate."""
     found: set[tuple[str, str]] = set()
     for path in (ROOT / "crates" / crate / "src").glob("**/*.rt"):
         found.update(declared(path.read_text(encoding="utf-8")))
@@ -62,14 +61,12 @@ def declared_in(crate: str) -> set[tuple[str, str]]:
 
 
 def rows_of(page: str) -> list[Row]:
-    """The rows of all lists of the page, in their order."""
     parts = HEADING.split(page)
     crates = zip(parts[1::2], parts[2::2])
     return [Row(crate, owner, signature) for crate, text in crates for owner, rows in LIST.findall(text) for signature in ROW.findall(rows)]
 
 
 def missing(rows: list[Row]) -> list[Row]:
-    """Those that the sources don't declare so."""
     return [row for row in rows if (row.owner, in_one_line(row.signature)) not in declared_in(row.crate)]
 
 

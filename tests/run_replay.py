@@ -36,8 +36,6 @@ class Block:
 
 @dataclasses.dataclass
 class Timer:
-    """A timer's cell, and whether it is armed."""
-
     start: int = 0
     interval: int = 0
     is_armed: bool = False
@@ -61,8 +59,6 @@ class Broadcast:
 
 @dataclasses.dataclass
 class State:
-    """All that holds at a line."""
-
     clock: int = 0
     running: int | None = None
     active: list[int] = dataclasses.field(default_factory=list)
@@ -78,12 +74,10 @@ class State:
     posted: int | None = None
 
     def armed(self) -> dict[TimerName, int]:
-        """When each armed timer is due."""
         return {name: timer.due for name, timer in self.timers.items() if timer.is_armed}
 
 
 def turn_in(line: str) -> Turn | None:
-    """The turn of a line, if it is one."""
     told = TURN.fullmatch(line)
     return Turn(int(told[1]), told[2], told[3], told[4]) if told else None
 
@@ -102,8 +96,6 @@ def answers_in(lines: list[str]) -> list[int | None]:
 
 
 class Replay:
-    """Executes the lines of a transcript, one after the other."""
-
     def __init__(self, lines: list[str]) -> None:
         self.lines = lines
         self.answers = answers_in(lines)
@@ -113,7 +105,6 @@ class Replay:
         self.broadcast: Broadcast | None = None
 
     def states(self) -> Iterator[State]:
-        """What holds at each line."""
         for number, line in enumerate(self.lines):
             self.take_line(number, line)
             yield copy.deepcopy(self.state)
@@ -166,7 +157,6 @@ class Replay:
             self.carry_out(number, turn, told.stimulus)
 
     def take_stimulus(self, turn: Turn) -> None:
-        """What a process receives other than a reply."""
         state = self.state
         if turn.stimulus.startswith("129 "):
             state.alive.append(turn.pid)
@@ -212,7 +202,6 @@ class Replay:
                 timer.is_armed = False
 
     def carry_out(self, number: int, turn: Turn, answer: str) -> None:
-        """An accepted call."""
         word, *arguments = turn.call.split(" ")
         numbers = [int(argument) for argument in arguments if argument.isdigit()]
         if word in ("post", "broadcast"):
@@ -280,5 +269,4 @@ class Replay:
 
 
 def states_of(lines: list[str]) -> list[State]:
-    """What holds at each line of a transcript."""
     return list(Replay(lines).states())

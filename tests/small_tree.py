@@ -31,7 +31,6 @@ class Tree:
         shutil.copytree(STAND_INS, self.bin)
 
     def fill(self) -> None:
-        """Makes the tree."""
         for folder in (".git", "examples", "tests"):
             (self.root / folder).mkdir(parents=True)
         for name in ("mote", "mote-picture", "scenario", "prove"):
@@ -48,46 +47,37 @@ class Tree:
         shutil.copytree(ROOT / "crates/toarmuts/include", self.crate("toarmuts") / "include")
 
     def crate(self, name: str) -> Path:
-        """The folder of a crate."""
         return self.root / "crates" / name
 
     def source(self, name: str) -> Path:
-        """The source of a crate."""
         return self.crate(name) / "src/lib.rt"
 
     def edit(self, name: str, text: str = "// more\n") -> None:
-        """Adds a line to a crate's source."""
         with self.source(name).open("a", encoding="utf-8") as opened:
             opened.write(text)
 
     def take_back(self, name: str) -> None:
-        """Removes the last line of a crate's source."""
         lines = self.source(name).read_text(encoding="utf-8").splitlines(keepends=True)
         self.source(name).write_text("".join(lines[:-1]), encoding="utf-8")
 
     def settings(self, **settings: str) -> dict[str, str]:
-        """The environment of a script."""
         return {"PATH": f"{self.bin}:{os.environ['PATH']}", "WITH_RT": os.environ["PATH"], "BEGUN": str(self.began), "RT_JOBS": "1",
                 **settings}
 
     def run(self, script: str, *words: Word, stdin: bytes | Path = b"", cwd: Path | None = None, **settings: str) -> Completed:
-        """Runs a script of the tree."""
         self.ran = run(self.root / script, *words, stdin=stdin, cwd=cwd, settings=self.settings(**settings), timeout=300)
         return self.ran
 
     def shell(self, command: str, **settings: str) -> Completed:
-        """Runs a line of the shell in the tree."""
         self.ran = run("bash", "-c", command, cwd=self.root, settings=self.settings(**settings), timeout=300)
         return self.ran
 
     def start(self, script: str, settings: dict[str, str], stdin: IO[bytes] | int = subprocess.DEVNULL) -> subprocess.Popen[bytes]:
-        """Starts a script of the tree, in a new process group, with no signal ignored."""
         command = ["env", "--default-signal=INT,TERM,HUP", str(self.root / script)]
         return subprocess.Popen(command, stdin=stdin, stdout=subprocess.PIPE, stderr=subprocess.PIPE, start_new_session=True,
                                 env={**os.environ, **self.settings(**settings)})
 
     def begin_to_prove(self, **settings: str) -> subprocess.Popen[bytes]:
-        """Begins ./prove, and waits until a crate is under way."""
         self.began.unlink(missing_ok=True)
         started = self.start("prove", settings)
         wait_until(lambda: self.begun() != [])
@@ -95,25 +85,20 @@ class Tree:
         return started
 
     def begun(self) -> list[str]:
-        """Which crates were begun, in order."""
         return self.began.read_text(encoding="utf-8").split() if self.began.exists() else []
 
     def kept(self, name: str) -> list[str]:
-        """The content of a crate's stored work."""
         return (self.crate(name) / "out/incremental/kept").read_text(encoding="utf-8").split()
 
     @property
     def stdout(self) -> str:
-        """What the last script wrote."""
         return self.ran.stdout.decode()
 
     @property
     def stderr(self) -> str:
-        """What the last script reported."""
         return self.ran.stderr.decode()
 
     def is_unproved(self) -> bool:
-        """Whether the last run was an unproved one, and said so."""
         return self.ran.returncode == 0 and "this run is unproved" in self.stderr and "proves and builds" in self.stderr
 
     def is_proved(self, *words: str) -> bool:
@@ -121,11 +106,9 @@ class Tree:
         return (self.ran.returncode, self.stdout.partition("\n")[0], self.stderr) == (3, f"proved {' '.join(words)}", "")
 
     def mote(self) -> Completed:
-        """Runs ./mote on nothing."""
         return self.run("mote")
 
     def end(self, started: subprocess.Popen[bytes]) -> Completed:
-        """Waits until what was begun has ended."""
         stdout, stderr = started.communicate(timeout=300)
         self.ran = Completed([], started.returncode, stdout, stderr)
         return self.ran
@@ -148,7 +131,6 @@ def environment_of(folder: Path) -> bytes:
 
 
 def wait_until(holds: object, seconds: float = 120) -> None:
-    """Waits until something holds."""
     assert callable(holds)
     deadline = time.monotonic() + seconds
     while not holds():

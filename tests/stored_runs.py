@@ -25,7 +25,6 @@ class StoredRun:
 
     @property
     def lines(self) -> list[str]:
-        """The transcript's lines."""
         return self.transcript.splitlines()
 
     @property
@@ -35,7 +34,6 @@ class StoredRun:
 
 
 def files(kind: str) -> list[Path]:
-    """The files of runs of this kind."""
     return [path for pattern in PLACES[kind] for path in sorted(ROOT.glob(pattern))]
 
 
@@ -66,7 +64,6 @@ def runs_of(kind: str) -> dict[str, StoredRun]:
 
 
 def stored_run(name: str) -> StoredRun:
-    """The run of this name."""
     if name in SAMPLES:
         return StoredRun(name, (EXAMPLES / name).read_text(encoding="utf-8"))
     return runs_of("worked runs" if name in WORKED_RUNS else "examples")[name]

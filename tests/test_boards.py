@@ -34,7 +34,6 @@ class Board:
 
     @property
     def linking(self) -> list[str | Path]:
-        """The options of the linker."""
         sizes = {"flash_size": self.flash, "ram_size": self.ram, "stack_size": self.stack, "ram_start": self.ram_start}
         script: list[str | Path] = ["-nostartfiles", "-T", BOARD / "board.ld"]
         return script + ["-Wl,--gc-sections,--no-warn-rwx-segments", *(f"-Wl,--defsym={name}={size}" for name, size in sizes.items())]
@@ -58,7 +57,6 @@ PROCESSOR = {
 
 
 def lacking() -> str:
-    """The Debian packages that these tests want and that aren't here."""
     found = [package for command, package in (("arm-none-eabi-gcc", "gcc-arm-none-eabi"), ("qemu-system-arm", "qemu-system-arm"),
                                               ("pkg-config", "pkg-config")) if shutil.which(command) is None]
     if "gcc-arm-none-eabi" not in found:
@@ -92,7 +90,6 @@ def archive(room: Path, name: str, core: str) -> Path:
 
 
 def installed(room: Path, core: str) -> Path:
-    """Where the memory modules are installed for this machine and for a core."""
     def install(prefix: Path) -> None:
         chosen = [f"LIBS={room / 'here'}"] if core == "here" else [f"CORE={core}"]
         succeed("make", "-s", "-C", MODULES, "install", *chosen, f"OUT={prefix}.built", f"PREFIX={prefix}")
@@ -102,7 +99,6 @@ def installed(room: Path, core: str) -> Path:
 
 
 def modules_of(room: Path, core: str) -> tuple[list[str], list[str]]:
-    """The compiler's and the linker's options for the memory modules, as pkg-config has them."""
     name = "toarmuts-modules" if core == "here" else f"toarmuts-modules-{core}"
     prefix = installed(room, core)
     words: list[tools.Word] = ["env", f"PKG_CONFIG_PATH={prefix}/lib/pkgconfig", "pkg-config", name]
@@ -134,7 +130,6 @@ class ModuleTest:
 
     @property
     def name(self) -> str:
-        """The name of its file."""
         return self.source.stem
 
 
@@ -155,7 +150,6 @@ DIFFERENTIAL = ModuleTest(HERE / "boards/differential.c", (), ("200000",))
 
 
 def compile_module_test(room: Path, test: ModuleTest, core: str, board: Board | None = None) -> Path:
-    """A test of the modules for a board, or for this machine."""
     flags, libraries = modules_of(room, core)
     memories = [installed(room, core) / "share/toarmuts-modules" / it for it in MEMORIES]
     sources: list[str | Path] = [*flags, *test.options, test.source, *memories]
@@ -168,7 +162,6 @@ def compile_module_test(room: Path, test: ModuleTest, core: str, board: Board | 
 
 
 def text_here(room: Path, test: ModuleTest) -> str:
-    """What a test prints on this machine."""
     def make(place: Path) -> None:
         place.write_text(succeed(compile_module_test(room, test, "here"), *test.words), encoding="utf-8")
     return once(room / f"{test.name}.text", make).read_text(encoding="utf-8")
@@ -283,7 +276,6 @@ def kernel(room: Path, toarmuts_library: Path) -> Path:
 
 
 def compile_kernel_test(room: Path, kernel: Path, source: Path, has_memory: bool = True) -> Path:
-    """A program over the kernel."""
     sources = [*KERNEL_SOURCES, source, *([MEMORY_CALLS] if has_memory else [])]
     return once(room / f"kernel-{source.stem}", lambda program: compile_for(KERNEL_BOARD, "cortex-m4", program, sources, [kernel]))
 

@@ -19,7 +19,6 @@ NUMBERS: Table = {name: letters.replace("s", "n") for name, letters in LETTERS.i
 
 
 def source(name: str) -> str:
-    """What a file has."""
     return (ROOT / name).read_text(encoding="utf-8")
 
 
@@ -29,7 +28,6 @@ def spoken(name: str) -> str:
 
 
 def variants(file: str, name: str) -> list[tuple[str, str]]:
-    """The variants of an enum and their types, in order."""
     text = source(f"crates/mote_types/src/{file}")
     body = text[text.index(f"pub enum {name} {{"):]
     return re.findall(r"^    ([A-Z]\w*)(?:\(([^)]*)\))?,$", body[:body.index("\n}\n")], re.M)
@@ -52,7 +50,6 @@ def test_made_tables() -> None:
 
 
 def differences(found: Table, wanted: Table) -> list[str]:
-    """Where a table isn't that of the rules."""
     return [f"{name}: {found.get(name, 'missing')!r} in place of {wanted.get(name, 'no such call')!r}"
             for name in sorted(found.keys() | wanted.keys()) if found.get(name) != wanted.get(name)]
 
@@ -61,7 +58,6 @@ def differences(found: Table, wanted: Table) -> list[str]:
 
 
 def of_types() -> Table:
-    """The types of ``Call``; their order is that of the kinds."""
     types = {"u8": "s", "u32": "n", "Payload": "p", "Chunk": "b"}
     found = {spoken(name): "".join(types[it] for it in told.split(", ") if it) for name, told in variants("call.rt", "Call")}
     assert list(found) == list(CALLS)
@@ -69,14 +65,12 @@ def of_types() -> Table:
 
 
 def of_public_calls() -> Table:
-    """The same on the page."""
     row, = re.findall(r"^- `enum Call \{ (.*) \}`$", source("docs/public-calls.md"), re.M)
     types = {"u8": "s", "u32": "n", "Payload": "p", "Chunk": "b"}
     return {spoken(name): "".join(types[it] for it in told.split(", ") if it) for name, told in re.findall(r"(\w+)(?:\(([^)]*)\))?", row)}
 
 
 def of_entries() -> Table:
-    """The words of a transcript's line, by the definition."""
     kinds = {"decimal": "n", "hex": "b", "payload_word": "p"}
     rows = re.findall(r'^call_words \(?Call\.\w+.*? = codes "([a-z-]+)" ∷ (.*)\[\]$', source("crates/mote_text/specs/EntryText.antt"), re.M)
     return {name: "".join(kinds[it] for it in re.findall(r"(\w+) [\w.]+ ∷", told)) for name, told in rows}
@@ -90,7 +84,6 @@ def of_entry_words() -> Table:
 
 
 def of_list_readings() -> Table:
-    """The words of calls in lists, by the definition."""
     kinds = {"is_small": "s", "is_wide": "n", "is_payload": "p", "is_chunk": "b"}
     text = source("crates/call_lists/specs/Code/Readings.antt")
     rows = re.findall(r'bytes_eq name \(codes "([a-z-]+)"\) then Some (?:\[\]|\((.*) ∷ \[\]\))$', text, re.M)
@@ -98,7 +91,6 @@ def of_list_readings() -> Table:
 
 
 def of_lists() -> Table:
-    """And in the code that reads them."""
     kinds = {"small": "s", "number": "n", "payload": "p", "chunk": "b"}
     rows = re.findall(r'^        "([a-z-]+)" => Call::(\w+)(?:\(((?:[^()]|\(\))*)\))?,$', source("crates/call_lists/src/calls.rt"), re.M)
     assert all(spoken(name) == word for word, name, _ in rows)
@@ -119,7 +111,6 @@ def of_line_forms() -> Table:
 
 
 def of_lines() -> Table:
-    """And in the code that reads it."""
     text = source("crates/transcript_lines/src/turn.rt").partition("fn is_plain_call")[2].partition("fn is_call")[0]
     found: Table = {}
     for names, told in re.findall(r'^        ("[^=]*?) =>\s*\{?\s*have_forms\(\s*rest,\s*&\[(.*?)\],?\s*\)', text, re.M | re.S):
@@ -141,7 +132,6 @@ def of_plain_calls() -> Table:
 
 
 def of_steps() -> Table:
-    """What the tests of the library for C expect."""
     rows = re.findall(r'\[TOARMUTS_CALL_(\w+)\] = \{"([a-z-]+)", "(\w*)"\}', source("tests/c/steps.h"))
     assert all(constant.lower().replace("_", "-") == word for constant, word, _ in rows)
     return {word: parts.translate(str.maketrans("bx", "sb")) for _, word, parts in rows}

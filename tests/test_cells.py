@@ -34,7 +34,6 @@ TURN = re.compile(r"(\d+) (event|synch|poll|callback|answer) (.*) -> ([a-z-]+)(?
 
 
 def possible_cells() -> Iterator[str]:
-    """All that the rules know."""
     for call, answers in ANSWERS.items():
         yield from (f"{call}: {answer}" for answer in answers)
     for origin, events in EVENTS.items():
@@ -45,7 +44,6 @@ def possible_cells() -> Iterator[str]:
 
 
 def answer_shown(answer: str) -> str:
-    """The kind of a reply."""
     kind, _, value = answer.partition(" ")
     return value if kind in ("refused", "flag") else kind
 
@@ -63,7 +61,6 @@ def event_cells(origin: str, stimulus: str) -> Iterator[str]:
 
 
 def shown_cells(transcript: str) -> Iterator[str]:
-    """What a transcript shows. A process awaits the reply to one call at most."""
     awaited: dict[str, str] = {}
     for line in transcript.splitlines():
         turn = TURN.fullmatch(line)
@@ -95,7 +92,6 @@ def test_stored_runs(kind: str) -> None:
 
 
 def test_samples() -> None:
-    """And so are the samples."""
     assert SAMPLES
 
 

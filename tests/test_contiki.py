@@ -115,7 +115,6 @@ def random_lists(chance: random.Random) -> str:
 
 @pytest.fixture(scope="module")
 def reference(toarmuts_library: Path, shared: Path) -> Path:
-    """A program that makes the run of toarmuts_run."""
     def make(built: Path) -> None:
         succeed("gcc", *STRICT, f"-I{toarmuts_library}", SOURCES / "reference.c", toarmuts_library / "toarmuts_memory.c",
                 toarmuts_library / "libtoarmuts.a", "-o", built)
@@ -123,7 +122,6 @@ def reference(toarmuts_library: Path, shared: Path) -> Path:
 
 
 def compare(name: str, built: Path, reference: Path, applications: str, chance: random.Random, room: Path) -> None:
-    """A program writes what toarmuts_run does with these applications."""
     sizes, script = random_sizes(chance), random_script(chance)
     names, lists = room / f"{name}.names", room / f"{name}.lists"
     names.write_text(applications, encoding="utf-8")

@@ -36,17 +36,14 @@ class Case(NamedTuple):
 
 
 def refused(words: list[Word], why: str, status: int = 64) -> Case:
-    """A refusal is reported in one line."""
     return Case(words, b"", status, "", re.escape(f"contiki: {why}\n"))
 
 
 def without_effect(setting: str, source: Path, why: str) -> Case:
-    """A setting of Contiki-NG that changes nothing is reported with the reason."""
     return Case([f"-D{setting}", source], b"", 0, None, f"(?s:.*){why}: {setting.split('=')[0]} changes nothing(?s:.*)")
 
 
 def check(ran: Completed, case: Case) -> None:
-    """A command does what a case says."""
     assert (ran.returncode, ran.stdout.decode() if case.out is not None else None) == (case.status, case.out), told(ran)
     assert re.fullmatch(case.why, ran.stderr.decode()), told(ran)
 
@@ -101,7 +98,6 @@ def test_arguments(contiki: Contiki, tmp_path: Path, case: Case) -> None:
 
 
 def test_help(contiki: Contiki, blinker: Path) -> None:
-    """Help of the command, and of a program."""
     for ran in contiki("--help"), run(blinker, "--text", "--mmem=64", "--heap=64", "--help"):
         assert (ran.returncode, ran.stdout[:5], ran.stderr) == (0, b"Runs ", b""), told(ran)
 
@@ -121,7 +117,6 @@ def test_two_programs(contiki: Contiki, sanitizing_compiler: str, tmp_path: Path
 
 @pytest.fixture(scope="module")
 def blinker(contiki: Contiki) -> Path:
-    """A program that the command has built."""
     return contiki.build(BLINKER)
 
 
@@ -195,7 +190,6 @@ def test_reader(blinker: Path, tmp_path: Path, reader: str) -> None:
 
 
 def test_script_that_cannot_be_read(blinker: Path) -> None:
-    """A folder is no script."""
     folder = os.open("/", os.O_RDONLY)
     ran = subprocess.run([blinker], stdin=folder, capture_output=True, check=False)
     os.close(folder)
@@ -320,7 +314,6 @@ def test_debugger(contiki: Contiki) -> None:
 
 @needs("setsid")
 def test_debugger_without_a_terminal(contiki: Contiki) -> None:
-    """gdb reads from a terminal."""
     ran = run("setsid", "--wait", ROOT / "contiki", "--library", contiki.library, "--gdb", HELLO, settings={"GDB": ""})
     assert (ran.returncode, ran.stderr) == (69, b"contiki: --gdb needs a terminal\n"), told(ran)
 

@@ -15,22 +15,18 @@ SCRIPT = b"tick 1\nserial 0a\n"
 
 
 def faulty(stimulus: str, line: int, calls: int, what: str, process: str = "4 (Faulty)") -> str:
-    """The message where a program of tests/c/contiki/faults is stopped."""
     return place(process, stimulus, line, calls) + what
 
 
 def at_init(calls: int, what: str) -> str:
-    """The same, as it begins."""
     return faulty("INIT (129)", 1, calls, what)
 
 
 def greedy(calls: int, what: str) -> str:
-    """The message where a program that needs more than there is is stopped."""
     return faulty("INIT (129)", 1, calls, what, "4 (Greedy)")
 
 
 def only(stimulus: str, line: int, calls: int, what: str) -> str:
-    """The message where the process of a short program is stopped."""
     return faulty(stimulus, line, calls, what, "4 (Only)") + "\n"
 
 
@@ -126,7 +122,6 @@ def test_late_block(contiki: Contiki, asks: str) -> None:
 
 @pytest.mark.parametrize("statement", STOPPED)
 def test_statement(contiki: Contiki, tmp_path: Path, statement: str) -> None:
-    """A statement at which a program is stopped."""
     source = write_source(tmp_path, program_of(f'printf("begun"); {statement} printf("never");', "#include <signal.h>"))
     status, reason = STOPPED[statement]
     assert outcome(contiki("--text", source, stdin=b"tick 1\n")) == (status, "begun", reason)

@@ -29,21 +29,17 @@ FIRST = int(os.environ.get("TOARMUTS_LISTS_FROM", "0"))
 
 
 def sources_of(network: Path) -> list[Path]:
-    """The sources that the motes of a network name, beside its file."""
     words = re.findall(r"^mote \S+ (.*)$", network.read_text(encoding="utf-8"), re.M)
     return [network.parent / name for name in dict.fromkeys(" ".join(words).split()) if name.endswith(".c")]
 
 
 def write_network(folder: Path, text: str) -> Path:
-    """Writes the file of a network."""
     file = folder / "network.net"
     file.write_text(text, encoding="utf-8")
     return file
 
 
 class Runner:
-    """Runs networks that are written into a folder."""
-
     def __init__(self, contiki: Contiki, folder: Path) -> None:
         self.contiki, self.folder = contiki, folder
 
@@ -52,7 +48,6 @@ class Runner:
         return self.contiki("--network", write_network(self.folder, network), *words, *sources, stdin=script.encode(), settings=settings)
 
     def text(self, network: str, sources: list[Path], script: str, *words: Word) -> list[str]:
-        """What the motes print, where all goes well."""
         ran = self(network, sources, script, "--text", *words)
         assert (ran.returncode, ran.stderr) == (0, b""), told(ran)
         return ran.stdout.decode().splitlines()
@@ -60,7 +55,6 @@ class Runner:
 
 @pytest.fixture
 def runner(contiki: Contiki, tmp_path: Path) -> Runner:
-    """Runs networks in a folder of this test."""
     return Runner(contiki, tmp_path)
 
 
@@ -142,7 +136,6 @@ SELF, OTHER, NOBODY = ("0001" * 4, "0002" * 4, "0000" * 4)
 
 
 def heard(length: int, source: str, dest: str, first: int) -> list[str]:
-    """What node.c prints of a frame."""
     return [f"1 {length} {source} {dest} 1 1", f"1 -60 105 {first}"]
 
 

@@ -29,7 +29,6 @@ RTIMER_NOTE = (b"contiki: note: rtimer_set calls back between activations, at a 
 
 
 def has_crypto(compiler: str) -> bool:
-    """Whether libcrypto's headers are here."""
     return run(compiler, "-E", "-x", "c", "-", stdin=b"#include <openssl/evp.h>\n").returncode == 0
 
 

@@ -33,8 +33,6 @@ class Outcome:
 
 @dataclass
 class Faults:
-    """Runs programs with faults."""
-
     library: Path
     counts: Path
 
@@ -48,7 +46,6 @@ class Faults:
         return Outcome(ran.returncode, ran.stdout, ran.stderr.decode(), growths, transfers, wide)
 
     def sample(self, script: Path, kind: str = "REFUSE", number: int = 0) -> Outcome:
-        """Runs mote on a sample, with the application that it is named after."""
         return self(script, kind, number, program("mote"), script.stem)
 
 

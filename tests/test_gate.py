@@ -33,13 +33,10 @@ LIBRARIES = "modules_c toarmuts"
 
 @dataclass
 class Gate:
-    """A tree with the gate and stand-ins."""
-
     tree: Path
     room: Path
 
     def __call__(self, *words: str, **settings: str) -> Completed:
-        """Runs the gate."""
         for it in (self.room / "begun", self.tree / ".git/gate"):
             it.unlink(missing_ok=True)
         (self.room / "temporary").mkdir(exist_ok=True)
@@ -49,22 +46,18 @@ class Gate:
         return ran
 
     def begun(self) -> list[str]:
-        """What began, in order."""
         file = self.room / "begun"
         return file.read_text(encoding="utf-8").splitlines() if file.exists() else []
 
     def add(self, name: str, text: str) -> None:
-        """Adds a file of tests."""
         (self.tree / "tests" / name).write_text(text, encoding="utf-8")
         self.commit()
 
     def commit(self) -> None:
-        """Commits what there is."""
         succeed("git", "-C", self.tree, "add", ".")
         succeed("git", "-C", self.tree, "-c", "user.name=N", "-c", "user.email=E", "commit", "-q", "--allow-empty", "-m", "a")
 
     def notes(self) -> str:
-        """What is noted for a release of this commit."""
         file = self.tree / ".git/gate"
         commit = succeed("git", "-C", self.tree, "rev-parse", "HEAD").stdout.decode().strip()
         return file.read_text(encoding="utf-8").removeprefix(commit).strip() if file.exists() else ""
@@ -72,7 +65,6 @@ class Gate:
 
 @pytest.fixture
 def gate(tmp_path: Path, monkeypatch: pytest.MonkeyPatch) -> Gate:
-    """Such a tree, of which all passes."""
     for name in [name for name in os.environ if name.startswith(("PYTEST_", "TOARMUTS_"))]:
         monkeypatch.delenv(name)
     # One process is enough for most.
@@ -95,7 +87,6 @@ def gate(tmp_path: Path, monkeypatch: pytest.MonkeyPatch) -> Gate:
 
 
 def last_lines(ran: Completed, count: int = 1) -> list[str]:
-    """The last lines that a gate wrote."""
     return ran.stdout.decode().splitlines()[-count:]
 
 
@@ -193,7 +184,6 @@ def test_nothing_is_chosen(gate: Gate) -> None:
 
 
 def lacks_module(gate: Gate, name: str) -> str:
-    """A folder that stands for Pythons without a module."""
     (gate.room / "lacks").mkdir()
     (gate.room / f"lacks/{name}.py").write_text("raise ImportError\n", encoding="utf-8")
     return str(gate.room / "lacks")
@@ -243,7 +233,6 @@ def test_gate_that_is_ended(gate: Gate, words: list[str]) -> None:
 
 
 def test_skipped(gate: Gate) -> None:
-    """What is skipped is reported with its reason, and noted."""
     gate.add("test_third.py", "import pytest\n@pytest.mark.skip(reason='no such tool')\ndef test_it(): pass\n")
     ran = gate()
     assert (ran.returncode, last_lines(ran, 2)) == (0, ["1 skipped, for the reasons above", "11 passed, 0 failed"]), told(ran)
@@ -274,13 +263,11 @@ class Packages:
     room: Path
 
     def __call__(self, have: str, apt: str, *words: str, by: tuple[str, ...] = ()) -> Completed:
-        """Runs the command."""
         self.asked().unlink(missing_ok=True)
         settings = {"PATH": f"{self.room}:{os.environ['PATH']}", "HAVE": have, "APT": apt, "BEGUN": str(self.asked())}
         return run(*by, self.room / "packages", *words, settings=settings)
 
     def asked(self) -> Path:
-        """What apt-get was asked."""
         return self.room / "asked"
 
 
@@ -339,5 +326,4 @@ def test_package_that_nobody_may_install(packages: Packages) -> None:
 
 
 def test_ci_runs_the_gate() -> None:
-    """The command of CI is the gate."""
     assert (ROOT / ".ci/run").read_text(encoding="utf-8").splitlines()[-1] == "tests/all"

@@ -88,7 +88,6 @@ def repository(tmp_path: Path, monkeypatch: pytest.MonkeyPatch) -> Path:
 
 
 def runs(root: Path) -> int:
-    """How often rt was asked to build."""
     told = root.parent / "begun"
     return len(told.read_text(encoding="utf-8").splitlines()) if told.exists() else 0
 
@@ -101,7 +100,6 @@ def state(root: Path) -> dict[str, tuple[bytes, int]]:
 
 
 def kept(root: Path, name: str) -> Path:
-    """A file of the stored work of a crate."""
     return root / "crates/low/out/incremental" / name
 
 
@@ -221,7 +219,6 @@ def test_note_of_another_build(noted: Sources) -> None:
 
 
 def test_note_of_other_sources(noted: Sources) -> None:
-    """A note of other sources is none."""
     noted.note("tool").with_suffix(".sources").write_text("of others", encoding="utf-8")
     with pytest.raises(Refused, match="to prove it once more takes minutes"):
         keep_module(noted.root, "tool", anew=False)

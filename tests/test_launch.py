@@ -123,7 +123,6 @@ def test_lines_of_windows(tree: Tree, text: bytes, told: str, is_file: bool) -> 
 
 
 def test_files_of_windows(tree: Tree) -> None:
-    """So are those of files."""
     for name, text in (("windows", WINDOWS), ("remark", REMARK), ("marked", MARKED)):
         (tree.room / name).write_bytes(text)
     tree.run("scenario", "windows", "remark", "marked", cwd=tree.room)
@@ -132,7 +131,6 @@ def test_files_of_windows(tree: Tree) -> None:
 
 
 def group_goes_on(group: int) -> bool:
-    """Whether a process of a group still runs."""
     return run("pgrep", "--session", group).returncode == 0
 
 
@@ -195,7 +193,6 @@ def test_unproved_run_is_given_files(tree: Tree) -> None:
 
 
 def test_unproved_run_writes_no_files(tree: Tree) -> None:
-    """An unproved run has copies of the files."""
     tree.run("scenario", "--write", "a.runs")
     assert (tree.ran.returncode, tree.stderr) == (
         125, "scenario: an unproved run has copies of the files and can't write them; ./prove scenario builds the program\n")
@@ -251,7 +248,6 @@ def test_touched_source(proved_tree: Tree) -> None:
 
 
 def test_added_source(proved_tree: Tree) -> None:
-    """A source that is added is a newer one."""
     other = proved_tree.crate("low") / "src/other.rt"
     other.touch()
     proved_tree.mote()

@@ -26,7 +26,6 @@ def built(tree: Tree) -> list[str]:
 
 
 def prove_all(tree: Tree, **settings: str) -> list[str]:
-    """What tests/proofs says."""
     tree.run("tests/proofs", stdin=b"", cwd=None, **settings)
     return tree.stdout.splitlines()
 

@@ -81,7 +81,6 @@ def test_failure(proved_tree: Tree) -> None:
 
 
 def test_full_disk_at_the_end(proved_tree: Tree) -> None:
-    """So it does where the disk is full at the end."""
     tree = proved_tree
     tree.edit("high")
     tree.program.with_name("mote.new").symlink_to("/dev/full")
@@ -229,7 +228,6 @@ def test_another_rt(tree: Tree, other_rt: threading.Thread) -> None:
 
 
 def test_two_at_once(tree: Tree) -> None:
-    """The second of two waits."""
     started = tree.begin_to_prove(PAUSE="1")
     second = tree.run("prove")
     assert second.returncode == 0 and b"waiting until it has ended" in second.stderr
@@ -264,7 +262,6 @@ def test_no_such_program(tree: Tree, word: str) -> None:
 
 @pytest.mark.parametrize("pause", ["0", "-1", "nan", "inf", "soon"])
 def test_no_such_pause(tree: Tree, pause: str) -> None:
-    """So is what is no pause."""
     tree.run("prove", f"--tell={pause}")
     assert tree.ran.returncode == 2 and f"prove: error: argument --tell: invalid seconds value: '{pause}'" in tree.stderr
 
@@ -307,7 +304,6 @@ class ForAarch64:
 
 @pytest.fixture
 def for_aarch64(tree: Tree) -> ForAarch64:
-    """That."""
     return ForAarch64(tree)
 
 

@@ -31,7 +31,6 @@ with_sanitizers = pytest.mark.skipif(not sanitizes("gcc"), reason="no gcc with s
 
 
 def compile_over(library: Path, archive: Path, program: Program, built: Path, *compiler: str) -> Path:
-    """Compiles a program of tests/c over the library."""
     def make(place: Path) -> None:
         others = [other if other.startswith("-") else str(library / other) for other in program.others]
         succeed(*compiler, "-std=c11", *WARNINGS, f"-I{library}", SOURCES / f"{program.name}.c", *others, archive, "-o", place)
@@ -40,13 +39,11 @@ def compile_over(library: Path, archive: Path, program: Program, built: Path, *c
 
 @pytest.fixture(scope="module")
 def sanitized(toarmuts_library: Path, shared: Path) -> Callable[[Program], Path]:
-    """Compiles a program with the sanitizers."""
     return lambda program: compile_over(toarmuts_library, toarmuts_library / "libtoarmuts.a", program, shared / program.name,
                                         "gcc", "-O1", "-g", *SANITIZERS)
 
 
 def test_is_current(toarmuts_library: Path) -> None:
-    """The library that is tested is the one of the sources as they are."""
     assert toarmuts_library.exists() and current_library("toarmuts").exists()
 
 

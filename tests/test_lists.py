@@ -23,13 +23,11 @@ PART = 100
 
 
 def hex_word(chance: random.Random, most: int) -> str:
-    """Bytes in hex, each digit of either case."""
     count = chance.choice([0, 1, most, chance.randint(1, most)])
     return "".join(chance.choice("0123456789abcdefABCDEF") for _ in range(2 * count))
 
 
 def word_of(chance: random.Random, kind: str) -> str:
-    """A word of a kind."""
     if kind in "sn":
         bits = 8 if kind == "s" else 32
         return str(chance.choice([0, 2**bits - 1, chance.getrandbits(4), chance.getrandbits(bits)]))
@@ -39,12 +37,10 @@ def word_of(chance: random.Random, kind: str) -> str:
 
 
 def call_of(chance: random.Random, name: str, kinds: str) -> str:
-    """A call of this name."""
     return " ".join([name, *(word_of(chance, kind) for kind in kinds)])
 
 
 def list_of(chance: random.Random) -> tuple[str, list[str]]:
-    """The text of a list, and its calls one by one."""
     parts: list[str] = []
     calls: list[str] = []
     while not parts or (len(calls) < 128 and chance.random() < 0.95):

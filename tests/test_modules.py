@@ -28,14 +28,12 @@ with_sanitizers = pytest.mark.skipif(not sanitizes("gcc"), reason="no gcc with s
 
 
 def build_modules(folder: Path, archive: Path, compiler: str, *flags: str) -> Path:
-    """Builds the library of the modules into a folder, over the archive in another one."""
     def make(place: Path) -> None:
         succeed("make", "-s", "-C", MODULES, f"OUT={place}", f"CC={compiler}", f"CFLAGS={' '.join(flags)}", f"LIBS={archive}")
     return once(folder, make) / "libtoarmuts_modules.a"
 
 
 def compile_test(name: str, modules: Path, built: Path, *compiler: str) -> Path:
-    """Compiles the test of a module, with memory of its sizes."""
     succeed(*compiler, "-std=c11", "-Wall", "-Wextra", "-Werror", "-Wno-overlength-strings", *SIZES, f"-I{MODULES}/include",
             f"-I{SOURCES}", f"-I{SOURCES.parent}", SOURCES / f"{name}.c", MODULES / "src/mmem-memory.c", MODULES / "src/heapmem-memory.c",
             modules, "-pthread", "-o", built)
@@ -44,29 +42,24 @@ def compile_test(name: str, modules: Path, built: Path, *compiler: str) -> Path:
 
 @pytest.fixture(scope="module")
 def checked(modules_library: Path, shared: Path) -> Path:
-    """The library of the modules with the sanitizers."""
     return build_modules(shared / "modules-checked", modules_library, "gcc", *SANITIZED)
 
 
 @pytest.fixture(scope="module")
 def plain(modules_library: Path, shared: Path) -> Path:
-    """The library of the modules as a user builds it."""
     return build_modules(shared / "modules-plain", modules_library, "gcc", "-O2")
 
 
 def install(modules: Path, archive: Path, *settings: str) -> None:
-    """Installs the library of the modules."""
     succeed("make", "-s", "-C", MODULES, "install", f"OUT={modules.parent}", f"LIBS={archive}", *settings)
 
 
 @pytest.fixture(scope="module")
 def prefix(plain: Path, modules_library: Path, shared: Path) -> Path:
-    """Where the library is installed."""
     return once(shared / "modules-prefix", lambda place: install(plain, modules_library, f"PREFIX={place}"))
 
 
 def test_is_current(modules_library: Path) -> None:
-    """The library that is tested is the one of the sources as they are."""
     assert modules_library.exists() and current_library("modules_c").exists()
 
 
@@ -120,7 +113,6 @@ def test_headers(tmp_path: Path, compiler: str, language: str) -> None:
 @pytest.mark.parametrize("statement", ["MEMB(pool, struct large, 1);", "MEMB(pool, char, 65536);", "MEMB(pool, char, 0);",
                                        "TOARMUTS_MANAGED(memory, 0, 1);", "TOARMUTS_MANAGED(memory, 1, 0);"])
 def test_refused_pool(tmp_path: Path, statement: str) -> None:
-    """Pools that the compiler refuses."""
     source = f'#include "lib/memb.h"\n#include "toarmuts/managed.h"\nstruct large {{ char bytes[65536]; }};\n{statement}\n'
     made = run("gcc", "-std=c11", f"-I{MODULES}/include", "-x", "c", "-c", "-", "-o", tmp_path / "none.o", stdin=source.encode())
     assert made.returncode != 0 and b"static assertion failed" in made.stderr, told(made)
@@ -141,7 +133,6 @@ chunk 2: place 160, size 16, room 16
 
 
 def pkg_config(prefix: Path, *words: str) -> list[str]:
-    """What pkg-config prints of the installed modules."""
     ran = succeed("pkg-config", *words, "toarmuts-modules", settings={"PKG_CONFIG_PATH": str(prefix / "lib/pkgconfig")})
     return ran.stdout.decode().split()
 

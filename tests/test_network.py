@@ -21,19 +21,16 @@ faults = test_faults.faults
 
 
 def transcript_of(script: str, *words: str, status: int = 0) -> list[str]:
-    """The lines that a script leads to."""
     ran = run(program("network"), *words, stdin=script.encode())
     assert (ran.returncode, ran.stderr) == (status, b""), told(ran)
     return ran.stdout.decode().splitlines()
 
 
 def started(mote: int) -> list[str]:
-    """The lines of a relay that is started."""
     return [f"{mote} 4 synch 129 - -> packet-open", f"{mote} 4 answer done -> wait"]
 
 
 def relayed(mote: int, frame: str) -> list[str]:
-    """The lines of a relay that hears a frame of one byte."""
     return [line.format(m=mote, f=frame) for line in RELAYED]
 
 
@@ -50,7 +47,6 @@ def how(script: Path) -> tuple[int, list[str]]:
 
 @pytest.mark.parametrize("script", WORKED, ids=[script.stem for script in WORKED])
 def test_worked_network(network: Path, script: Path) -> None:
-    """The transcript is the one beside the script."""
     status, words = how(script)
     ran = run(network, *words, stdin=script)
     wanted = script.with_suffix(".transcript").read_text(encoding="utf-8")
@@ -252,7 +248,6 @@ SMALL = "mote 1 relay\nmote 2 hello calls wait, exit\nroom 4\nline 1..2 delay 1 
 
 @pytest.fixture
 def small(tmp_path: Path) -> Path:
-    """A script, as a file."""
     file = tmp_path / "small.net"
     file.write_text(SMALL, encoding="utf-8")
     return file
@@ -290,7 +285,6 @@ def test_failing_transfers(network: Path, faults: test_faults.Faults, small: Pat
 
 
 def with_stream(redirection: str, *words: str | Path) -> Completed:
-    """Runs a command with a stream that the shell redirects."""
     return run("bash", "-c", f'exec "$@" {redirection}', "bash", *words)
 
 

@@ -53,16 +53,13 @@ class Mote:
     sizes: dict[str, int]
 
     def words(self) -> list[str]:
-        """The arguments of `mote` for it."""
         return [*self.names, *(word for name, size in self.sizes.items() for word in (f"--{name}", str(size)))]
 
     def line(self, number: int) -> str:
-        """The line that sets it up."""
         calls = [] if self.calls is None else ["calls", *([", ".join(self.calls)] if self.calls else [])]
         return " ".join(["mote", str(number), *self.words(), *calls])
 
     def scenario(self, number: int, inputs: list[str]) -> str:
-        """A run of a scenario file with these inputs."""
         calls = [] if self.calls is None else [f"calls {', '.join(self.calls)}".rstrip()]
         sizes = [f"{name} {size}" for name, size in self.sizes.items()]
         return "\n".join([f"== {number}", *(f"app {name}" for name in self.names), *calls, *sizes, *inputs]) + "\n"
@@ -70,27 +67,22 @@ class Mote:
 
 @dataclass
 class Drawn:
-    """A network that was drawn."""
-
     motes: list[Mote]
     links: list[tuple[int, int, int, str]]
     room: int
     inputs: list[str]
 
     def script(self) -> str:
-        """Its script."""
         setup = [mote.line(number) for number, mote in enumerate(self.motes, 1)]
         setup += [f"link {a} {b} delay {delay} {loss}".rstrip() for a, b, delay, loss in self.links]
         return "".join(line + "\n" for line in [*setup, f"room {self.room}", "rounds 3000", *self.inputs])
 
 
 def drawn_loss(rng: random.Random) -> str:
-    """A rule for losses, or none."""
     return rng.choice(("", "", f"every {rng.randint(1, 4)}", f"lot {rng.randrange(65537)} seed {rng.randrange(1000)}"))
 
 
 def drawn_mote(rng: random.Random) -> Mote:
-    """A mote of up to four applications."""
     names = [rng.choice(APPLICATIONS) for _ in range(rng.choice((0, 1, 1, 1, 2, 3)))]
     calls = [rng.choice(CALLS) for _ in range(rng.randrange(40))] if rng.randrange(3) == 0 else None
     if rng.randrange(150) == 0:
@@ -103,14 +95,12 @@ def drawn_mote(rng: random.Random) -> Mote:
 
 
 def drawn_input(rng: random.Random, count: int) -> str:
-    """A line after those that set up a network of this size."""
     mote, kind = rng.randint(1, count), rng.randrange(4)
     data = bytes(rng.randrange(256) for _ in range(rng.choice((1, 2, 12, 127)))).hex()
     return (f"tick {rng.choice((0, 1, 3, 7, 30))}", f"tick {rng.randint(1, 12)}", f"{mote} frame {data}", f"{mote} serial {data}0a")[kind]
 
 
 def drawn_network(seed: int) -> Drawn:
-    """A network of 2 to 12 motes."""
     rng = random.Random(seed)
     count = rng.randint(2, 12)
     motes = [drawn_mote(rng) for _ in range(count)]
@@ -130,14 +120,12 @@ class Way:
 
     @staticmethod
     def of(to: int, delay: int, loss: str) -> Way:
-        """The link of a line."""
         words = loss.split()
         if not words:
             return Way(to, delay, "", 0, 0)
         return Way(to, delay, words[0], int(words[1]), int(words[3]) if words[0] == "lot" else 0)
 
     def loses(self) -> bool:
-        """Whether the next frame is lost."""
         if self.rule == "every":
             self.state += 1
             return self.state % self.number == 0
@@ -172,7 +160,6 @@ class Replay:
                         for name in mote.names if name in BEATS]
 
     def follow(self, lines: list[str]) -> None:
-        """Follows a transcript line by line."""
         for line in lines:
             first, _, rest = line.partition(" ")
             if self.awaited:
@@ -186,7 +173,6 @@ class Replay:
         assert not self.awaited
 
     def follow_mote(self, mote: int, line: str) -> None:
-        """Follows a mote's line."""
         if line.startswith("note sent "):
             self.send(mote, line.split()[2])
         elif line.startswith("> tick "):
@@ -234,7 +220,6 @@ class Replay:
             assert self.outside and self.outside.pop(0) == (mote, line), f"nobody sent {line} to {mote}"
 
     def miss(self, sender: str, receiver: str) -> None:
-        """A halted mote doesn't hear."""
         assert int(receiver) in self.halted
         if sender == "-":
             assert self.outside.pop(0)[0] == int(receiver)
@@ -248,7 +233,6 @@ class Replay:
 
 
 def own_lines(lines: list[str]) -> dict[int, list[str]]:
-    """The lines of each mote, without its number."""
     own: dict[int, list[str]] = defaultdict(list)
     for line in lines:
         first, _, rest = line.partition(" ")
@@ -275,7 +259,6 @@ def check_motes(drawn: Drawn, own: dict[int, list[str]], folder: Path) -> None:
 
 
 def check_network(seed: int, folder: Path) -> None:
-    """Follows a random network, and compares its motes."""
     drawn = drawn_network(seed)
     ran = run(program("network"), stdin=drawn.script().encode())
     assert ran.returncode in (0, 3) and ran.stderr == b"", drawn.script()

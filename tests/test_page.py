@@ -27,7 +27,6 @@ def test_template() -> None:
 
 @pytest.mark.parametrize("name", ALL)
 def test_page(name: str) -> None:
-    """The page of a stored transcript."""
     run = stored_run(name)
     page = picture(["--page", *run.sizes], run.transcript)
     text, data = data_in(page.stdout.decode())
@@ -47,8 +46,6 @@ def test_page(name: str) -> None:
 
 
 class Scripts(HTMLParser):
-    """The scripts of a page, as a reader of HTML finds them: the id of each, and what it holds."""
-
     def __init__(self) -> None:
         super().__init__()
         self.found: list[list[str | None]] = []

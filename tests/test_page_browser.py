@@ -160,7 +160,6 @@ class NoAnswer(RuntimeError):
 
 
 def chromium() -> str:
-    """Where Chromium is, or nothing."""
     return shutil.which("chromium") or shutil.which("chromium-browser") or ""
 
 
@@ -194,7 +193,6 @@ pytestmark = pytest.mark.skipif(not chromium(), reason="not here: chromium")
 
 
 def page_of(words: Sequence[str], transcript: str) -> str:
-    """The page of a transcript."""
     return picture(["--page", *words], transcript).stdout.decode()
 
 
@@ -226,7 +224,6 @@ def test_hands() -> None:
 
 
 def test_part() -> None:
-    """A page of a part of a run."""
     part = page_of(["--from", "10", "--to", "11"], HANDS_RUN)
     told = ask(part, f"{HANDS} return [shown(), byId('tally').textContent, after('n'), byId('panel').innerText];")
     assert told[0] == [5, 6, 7, 8, 9] and "a part of 11 lines" in told[1]
@@ -234,7 +231,6 @@ def test_part() -> None:
 
 
 def test_markup() -> None:
-    """Names with markup are shown as they are."""
     told = ask(page_of([MARKUP_NAME], HANDS_RUN), "return [document.title, byId('title').textContent,"
                " document.querySelector('#processes label').textContent, document.scripts.length];")
     assert told == [f"mote {MARKUP_NAME}", f"mote {MARKUP_NAME}", f" 4 {MARKUP_NAME}", 3]
@@ -254,7 +250,6 @@ def test_other_sizes() -> None:
 
 
 def test_no_line() -> None:
-    """A run without a line."""
     assert ask(page_of([], ""), "return byId('count').textContent;") == "0 of 0 lines"
 
 
@@ -268,7 +263,6 @@ def test_width(width: int) -> None:
 
 
 def processor_seconds() -> float:
-    """What the processes that this one started have used."""
     used = resource.getrusage(resource.RUSAGE_CHILDREN)
     return used.ru_utime + used.ru_stime
 

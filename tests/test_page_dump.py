@@ -14,7 +14,6 @@ from value_changes import Dump, NoDump, read_dump
 
 
 def heap_stats_in(lines: list[str], answers: list[Any]) -> dict[int, int]:
-    """The free bytes of the heap, at each line that asks for its statistics."""
     told = {}
     for number, line in enumerate(lines):
         answer = answers[number]
@@ -25,7 +24,6 @@ def heap_stats_in(lines: list[str], answers: list[Any]) -> dict[int, int]:
 
 
 def value_of(state: State, pid: int) -> str:
-    """What a process does."""
     if state.running == pid:
         return "3"
     return "2" if pid in state.active else "1" if pid in state.alive else "0"
@@ -51,7 +49,6 @@ def times_of(states: list[State], second: int) -> list[int]:
 
 
 def check_values(dump: Dump, run: StoredRun, states: list[State]) -> None:
-    """The values of a dump at each line."""
     sizes = {"mmem": 4096, "heap": 4096, **{key.lstrip("-"): int(value) for key, value in zip(run.sizes[::2], run.sizes[1::2])}}
     stats = heap_stats_in(run.lines, answers_in(run.lines))
     times = times_of(states, dump.second)
@@ -94,7 +91,6 @@ def test_viewer(tmp_path: Path, name: str) -> None:
 
 
 def test_part() -> None:
-    """The dump of a part has its times."""
     told = picture(["--vcd", "--from", "5", "--to", "9"], "4 synch 129 - -> wait\n> tick 5\n> tick 5\n")
     assert [line for line in told.stdout.decode().splitlines() if line[0] == "#"] == ["#50", "#60"]
 

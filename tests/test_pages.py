@@ -37,12 +37,10 @@ def reached() -> tuple[set[Place], set[Place]]:
 
 
 def is_definitions(file: str) -> bool:
-    """Whether a file has definitions, and not code."""
     return file.endswith(".antt")
 
 
 def all_lines() -> dict[str, int]:
-    """How many lines of each file `run` reaches."""
     return dict(lines_by_file(reached()[0] | reached()[1]))
 
 
@@ -83,7 +81,6 @@ def test_sums_of_definitions(part: int) -> None:
 
 
 def test_sum_of_types() -> None:
-    """And of types."""
     lines = sum(count for file, count in all_lines().items() if not is_definitions(file))
     assert f"{lines} lines of types" in " ".join(ORDER.split())
 
@@ -111,31 +108,26 @@ CRATE_NAMES = sorted(path.name for path in CRATES.iterdir())
 
 
 def words_in(text: str) -> set[str]:
-    """The words of a text."""
     return set(re.findall(r"\w+", text))
 
 
 def read_all(*patterns: str) -> str:
-    """What the files of these patterns hold."""
     files = (file for pattern in patterns for file in ROOT.glob(pattern) if file.is_file() and "/out/" not in str(file))
     return "\n".join(file.read_text(encoding="utf-8", errors="replace") for file in files)
 
 
 def files_of(crate: str, *patterns: str) -> Iterator[Path]:
-    """The files of a crate, without what is built."""
     return (file for pattern in patterns for file in (CRATES / crate).glob(pattern) if "/out/" not in str(file))
 
 
 @functools.lru_cache(maxsize=None)
 def crate_words(crate: str) -> set[str]:
-    """The words of a crate's sources, with the names of its files."""
     folders = ("src/**/*", "specs/**/*", "proofs/**/*", "must-fail/*", "include/*")
     return {file.stem for file in files_of(crate, "*/**/*")} | words_in(read_all(*(f"crates/{crate}/{folder}" for folder in folders)))
 
 
 @functools.lru_cache(maxsize=None)
 def other_words() -> set[str]:
-    """The words of what is no crate."""
     c = read_all("c/*/**/*", "tests/*", "tests/c/*", "bench/*", "examples/contiki/**/*.c")
     python = read_all("python/*.py", "python/src/**/*.py", "python/native/*", "examples/python/*.py")
     return words_in(c + python + read_all("mote", "prove", "scenario", "contiki", "scripts/*", "crates.txt"))
@@ -164,7 +156,6 @@ def missing_words(name: str, crates: list[str]) -> set[str]:
 
 @functools.lru_cache(maxsize=None)
 def file_names() -> set[str]:
-    """The names of the files of all crates."""
     return {file.name for crate in CRATE_NAMES for file in files_of(crate, "*/**/*")}
 
 
@@ -208,7 +199,6 @@ def crates_below() -> dict[str, set[str]]:
 
 @functools.lru_cache(maxsize=None)
 def code_words(crate: str) -> set[str]:
-    """The words of a crate's code and definitions, without comments, and the names of its files."""
     words = {file.stem for file in files_of(crate, "*/**/*")}
     for file in files_of(crate, "src/**/*.rt", "specs/**/*.antt"):
         lines = file.read_text(encoding="utf-8").split("\n")
@@ -218,12 +208,10 @@ def code_words(crate: str) -> set[str]:
 
 @functools.lru_cache(maxsize=None)
 def names_of_contiki() -> set[str]:
-    """The names of Contiki-NG's that a comment may tell of."""
     return OF_CONTIKI | words_in(read_all("c/*/**/*.h"))
 
 
 def wrong_comments(crate: str) -> Iterator[str]:
-    """What comments of a crate tell of that isn't there."""
     for file in files_of(crate, "src/**/*.rt", "specs/**/*.antt"):
         comments = (COMMENT.match(line) for line in file.read_text(encoding="utf-8").split("\n"))
         for text in (text for comment in comments if comment for text in QUOTED.findall(comment[1])):
@@ -249,7 +237,6 @@ PROGRAMS = {*"cd cp echo gcc make mote mote_picture pip pytest python python3 rm
 
 
 def is_command(line: str) -> bool:
-    """Whether a line is a command line."""
     word = line.split()[0]
     return word.split("/")[-1] in PROGRAMS or (ROOT / word).is_file()
 

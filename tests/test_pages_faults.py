@@ -29,7 +29,6 @@ NO_NAME = "no_such_" + "name"
 
 
 def copy_tree(place: Path) -> None:
-    """A copy of the sources, without what is built."""
     def ignored(folder: str, names: list[str]) -> set[str]:
         return {name for name in names if name in (".git", "out", "__pycache__") or name.endswith("_cache")
                 or (name == "release" and Path(folder) == ROOT)}
@@ -44,7 +43,6 @@ def spoil(order: str) -> str:
 
 
 def append(text: str) -> Callable[[str], str]:
-    """Adds to a file."""
     return lambda before: before + text
 
 
@@ -79,7 +77,6 @@ FAULTS = [
 
 @pytest.fixture(scope="module")
 def found(shared: Path) -> str:
-    """What the tests of the pages report of a spoilt tree."""
     def make(place: Path) -> None:
         copy_tree(place)
         for file, change in SPOILT.items():
@@ -94,7 +91,6 @@ def found(shared: Path) -> str:
 
 @pytest.mark.parametrize("fault", FAULTS)
 def test_fault_is_found(found: str, fault: str) -> None:
-    """Each fault is reported."""
     assert fault in found
 
 

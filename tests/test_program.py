@@ -23,23 +23,19 @@ of_each_case = pytest.mark.parametrize("case", CASES, ids=[case.name for case in
 
 @pytest.fixture(scope="module")
 def template() -> Path:
-    """The program of template_app."""
     return program("template_app")
 
 
 def file_of(case: Path, name: str) -> bytes:
-    """What a file of a case holds; nothing where it isn't there."""
     file = case / name
     return file.read_bytes() if file.exists() else b""
 
 
 def words_of(case: Path) -> list[bytes]:
-    """The arguments of a case."""
     return file_of(case, "words").splitlines()
 
 
 def judge(case: Path, ran: Completed) -> None:
-    """What a run came to is what the case has."""
     wanted = {}
     for stream, written in (("stdout", ran.stdout), ("stderr", ran.stderr)):
         begin = case / f"{stream}-begins"
@@ -85,7 +81,6 @@ def test_sample(mote: Path, script: Path) -> None:
 
 
 def with_stream(redirection: str, *words: str | Path) -> Completed:
-    """Runs a command with a stream that the shell redirects."""
     return run("bash", "-c", f'exec "$@" {redirection}', "bash", *words)
 
 

@@ -29,12 +29,10 @@ backend.build_wheel(sys.argv[1])
 
 @functools.lru_cache(maxsize=None)
 def has(module: str) -> bool:
-    """Whether that Python has a module."""
     return run(PYTHON, "-c", f"import {module}").returncode == 0
 
 
 def lacks(*modules: str) -> pytest.MarkDecorator:
-    """Skips a test if that Python doesn't have one of these modules."""
     lacking = [module for module in modules if not has(module)]
     return pytest.mark.skipif(bool(lacking), reason=f"not here, for {PYTHON}: {', '.join(lacking)}")
 
@@ -52,20 +50,16 @@ def settings(monkeypatch: pytest.MonkeyPatch) -> None:
 
 
 def copy_package(place: Path) -> Path:
-    """A copy of the package's sources, in which nothing is built."""
     shutil.rmtree(place, ignore_errors=True)
     shutil.copytree(PACKAGE, place, ignore=shutil.ignore_patterns("build", "*.egg-info", "*.so", "__pycache__"))
     return place
 
 
 class Environments:
-    """Separate environments, each made once, with a new build of the package."""
-
     def __init__(self, room: Path) -> None:
         self.room = room
 
     def python(self, name: str) -> Path:
-        """The Python of an environment."""
         place = self.room / name
         return once(place, self.pack if name == "packed" else self.install) / "bin/python"
 
@@ -89,7 +83,6 @@ class Environments:
 
 @pytest.fixture(scope="module")
 def environments(toarmuts_library: Path, shared: Path) -> Environments:
-    """The environments; the library for C is there."""
     assert toarmuts_library.exists()
     (shared / "python").mkdir(exist_ok=True)
     return Environments(shared / "python")
@@ -104,7 +97,6 @@ def pass_all(ran: Completed) -> None:
 
 
 def pytest_by(python: Path, *words: Word, cwd: Path = TESTS, settings: dict[str, str] | None = None) -> None:
-    """Runs tests by the pytest of an environment."""
     pass_all(run(python, "-m", "pytest", "-q", "-p", "no:cacheprovider", "-rs", *words, cwd=cwd, settings=settings, timeout=3600))
 
 
@@ -128,13 +120,11 @@ def test_example(environments: Environments, c_examples: Path, tmp_path: Path, n
 @lacks("pytest", "hypothesis")
 @pytest.mark.parametrize("file", sorted(path.name for path in TESTS.glob("test_*.py")))
 def test_tests(environments: Environments, file: str) -> None:
-    """The tests of the package."""
     pytest_by(environments.python("environment"), file)
 
 
 @lacks("pytest", "hypothesis")
 def test_docstrings(environments: Environments, tmp_path: Path) -> None:
-    """The examples in docstrings."""
     pytest_by(environments.python("environment"), "--doctest-modules", "--pyargs", "toarmuts", "--ignore-glob=*/by_c*.py", cwd=tmp_path)
 
 
@@ -169,12 +159,10 @@ def test_by_ctypes(environments: Environments, tmp_path: Path, file: str) -> Non
 @pytest.mark.parametrize(("folder", "files"), [(PACKAGE, ["src"]), (EXAMPLES / "python", sorted((EXAMPLES / "python").glob("*.py")))],
                          ids=["package", "examples"])
 def test_types(tmp_path: Path, folder: Path, files: list[Word]) -> None:
-    """Types are checked."""
     succeed("mypy", "--strict", "--cache-dir", tmp_path, *files, cwd=folder, settings={"MYPYPATH": str(PACKAGE / "src")})
 
 
 def test_table_of_transcripts(sanitizing_compiler: str, tmp_path: Path) -> None:
-    """The table of a transcript, in C."""
     words = tmp_path / "words"
     succeed(PYTHON, "-c", "import build_native, pathlib, sys; build_native.write_call_words(pathlib.Path(sys.argv[1]))", words, cwd=PACKAGE)
     succeed(sanitizing_compiler, "-std=c11", "-O1", "-g", "-Wall", "-Wextra", "-Werror", *SANITIZERS, f"-I{PACKAGE}/native",

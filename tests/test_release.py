@@ -63,7 +63,6 @@ def copy_tree(place: Path, *current: str) -> Path:
 
 @pytest.fixture(scope="module")
 def proofs(shared: Path) -> None:
-    """What a release takes is there, of these sources."""
     for name in LIBRARIES:
         library(name)
     old = [name for name in PROGRAMS + IN_PAGE if not is_new(name)]
@@ -91,7 +90,6 @@ def releases(proofs: None, page_file: Path, shared: Path) -> Path:  # noqa: F811
 
 @pytest.fixture(scope="module")
 def there(releases: Path) -> Path:
-    """The unpacked archive."""
     return releases / NAME
 
 
@@ -110,7 +108,6 @@ def test_same_bytes(releases: Path) -> None:
 
 
 def test_sums(there: Path) -> None:
-    """So do the sums of what is in the archive."""
     succeed("sha256sum", "--check", "--quiet", "SHA256SUMS", cwd=there)
 
 
@@ -145,20 +142,16 @@ def test_no_folder_is_named(releases: Path, there: Path, tmp_path: Path) -> None
 
 
 class System:
-    """The folder of a release, and how a command is run there."""
-
     def __init__(self, prefix: Path, inside: Inside) -> None:
         self.prefix = prefix
         self.run = inside
 
     def shell(self, command: str) -> str:
-        """What a line of the shell writes in the user's folder."""
         ran = self.run("bash", "-c", f"cd && {command}")
         assert ran.returncode == 0, f"{command}\n{told(ran)}"
         return ran.stdout.decode()
 
     def examples(self) -> str:
-        """Where the examples are."""
         return f"{self.prefix}/share/doc/toarmuts/examples"
 
 
@@ -174,12 +167,10 @@ def alone(there: Path, home: Path) -> Inside:
 
 @pytest.fixture
 def archive(there: Path, tmp_path: Path) -> System:
-    """The unpacked archive, and a separate folder to write to."""
     return System(there, alone(there, tmp_path))
 
 
 def use_programs(system: System) -> None:
-    """The programs print their version, and run samples."""
     examples = system.examples()
     for command in COMMANDS:
         assert system.shell(f"{command} --version") == f"{command.replace('-', '_')} {VERSION}\n"
@@ -189,7 +180,6 @@ def use_programs(system: System) -> None:
 
 
 def use_compiler(system: System) -> None:
-    """Programs in C, and a source in Contiki-NG's form."""
     c, contiki = f"{system.examples()}/c", f"{system.examples()}/contiki"
     line = "4 synch 129 - -> timer-set 0 10\n"
     system.shell(f"gcc {FLAGS} '{c}/blink.c' $({PKG_CONFIG} toarmuts) -o blink")
@@ -203,7 +193,6 @@ def use_compiler(system: System) -> None:
 
 
 def use_python(system: System) -> None:
-    """The wheel, the example and a picture in Python."""
     system.shell("/usr/bin/python3 -m venv environment")
     system.shell(f"environment/bin/pip install --quiet --no-index '{system.prefix}'/share/toarmuts/python/*.whl")
     system.shell(f"environment/bin/python '{system.examples()}/python/blink.py'")
@@ -211,7 +200,6 @@ def use_python(system: System) -> None:
 
 
 def test_programs(archive: System) -> None:
-    """The archive's programs."""
     use_programs(archive)
 
 
@@ -222,13 +210,11 @@ def test_compiler(archive: System) -> None:
 
 @pytest.mark.skipif(run("/usr/bin/python3", "-c", "import venv, ensurepip").returncode != 0, reason="not here: python3-venv")
 def test_python(archive: System) -> None:
-    """The archive's wheel."""
     use_python(archive)
 
 
 @needs("qemu-aarch64")
 def test_modules_for_aarch64(archive: System) -> None:
-    """The modules for aarch64."""
     folder = f"{archive.prefix}/lib/toarmuts/aarch64/pkgconfig"
     archive.shell(f"aarch64-linux-gnu-gcc -std=c11 -static '{archive.examples()}/c/readings.c' "
                   f"$(PKG_CONFIG_PATH={folder} {PKG_CONFIG} toarmuts-modules) -o there")

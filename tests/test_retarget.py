@@ -43,7 +43,6 @@ def rewritten(body: str, rest: str = "", target: str = "cortex-m3") -> list[str]
 
 
 def globals_of(text: str, target: str = "cortex-m3") -> list[str]:
-    """What declarations and constants after a function become."""
     lines = retargeted(module_of("", text), TARGETS[target]).splitlines()
     return [line for line in lines[lines.index("}") + 1:] if line]
 
@@ -261,7 +260,6 @@ def test_alignments_are_those_of_malloc() -> None:
 
 
 def function_of(name: str, lines: list[str]) -> list[str]:
-    """The lines of a function, without their indent, from its first one."""
     start = next(number for number, line in enumerate(lines) if line.startswith("define ") and f"@{name}(" in line)
     return [line.strip() for line in lines[start:lines.index("}", start)]]
 

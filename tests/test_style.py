@@ -18,7 +18,6 @@ SOURCED = ("packaging/completion",)
 
 @functools.lru_cache(maxsize=None)
 def files() -> list[Path]:
-    """The files of this repository, or of a copy of it."""
     listed = run("git", "ls-files", "--cached", "--others", "--exclude-standard", cwd=ROOT)
     if listed.returncode == 0:
         return [path for name in listed.stdout.decode().splitlines() if (path := ROOT / name).is_file() and not path.is_symlink()]
@@ -34,7 +33,6 @@ def kind(path: Path) -> str:
 
 
 def sources(*kinds: str) -> list[Path]:
-    """The sources of these kinds."""
     return [path for path in files() if kind(path) in kinds]
 
 

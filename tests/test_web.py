@@ -36,12 +36,10 @@ def transcripts_wanted() -> Dict[str, str]:
 
 
 def set_fields(it: Opened, applications: str = "", inputs: str = "", **sizes: Any) -> None:
-    """Puts an experiment into the fields, and waits for its run."""
     it.ask(f"await showExperiment({json.dumps({'applications': applications, 'script': inputs, **sizes})}); await idle();")
 
 
 def set_network(it: Opened, network: str, only: int | None = None, quiet: bool = False) -> None:
-    """Puts a network into the fields, and waits for its run."""
     it.ask(f"await showExperiment({json.dumps({'network': network, 'only': only, 'quiet': quiet})}); await idle();")
 
 
@@ -157,7 +155,6 @@ def test_network_that_halts(mote_page: Opened) -> None:  # noqa: F811
     ({"mmem": 32, "quota": 32}, "quota", "a quota of each application and one of the frames"),
 ])
 def test_mistaken_sizes(mote_page: Opened, sizes: Dict[str, Any], field: str, words: str) -> None:  # noqa: F811
-    """A size that no mote boots with is marked at its field, which opens."""
     set_fields(mote_page, "blink\n", "", **sizes)
     told = mote_page.ask(f"return [byId('said').textContent, byId('{field}').getAttribute('aria-invalid'), byId('sizes').open];")
     assert words in told[0] and told[1:] == ["true", True]
@@ -267,7 +264,6 @@ def test_sizes(mote_page: Opened) -> None:  # noqa: F811
 
 
 def downloaded(it: Opened, folder: Path, names: List[str]) -> List[str]:
-    """The files that the buttons save."""
     it.page.call("Page.setDownloadBehavior", behavior="allow", downloadPath=str(folder))
     for button in ("save-transcript", "save-scenario", "save-picture"):
         it.ask(f"await click('{button}');")

@@ -48,7 +48,6 @@ def outcome(ran: "subprocess.CompletedProcess[bytes]") -> List[Any]:
 
 
 def differing(told: List[Any], wanted: List[Any], cases: List[Any]) -> List[Any]:
-    """The first cases that differ, each with both outcomes."""
     assert len(told) == len(wanted)
     return [(case, own, other) for own, other, case in zip(told, wanted, cases) if own != other][:3]
 

@@ -35,14 +35,12 @@ def run(*words: Word, stdin: bytes | Path = b"", cwd: Path | None = None, settin
 
 def succeed(*words: Word, stdin: bytes | Path = b"", cwd: Path | None = None, settings: Mapping[str, str] | None = None,
             timeout: float = 1800) -> Completed:
-    """Runs a command whose status must be 0."""
     ran = run(*words, stdin=stdin, cwd=cwd, settings=settings, timeout=timeout)
     assert ran.returncode == 0, f"{' '.join(map(str, words))}: status {ran.returncode}\n{told(ran)}"
     return ran
 
 
 def told(ran: Completed) -> str:
-    """The ends of what a command wrote."""
     return (ran.stdout[-4000:] + ran.stderr[-4000:]).decode(errors="replace")
 
 
@@ -59,7 +57,6 @@ def once(place: Path, make: Callable[[Path], object]) -> Path:
 
 
 def program(name: str) -> Path:
-    """A built program."""
     built = CRATES / name / "out" / name
     if not built.exists():
         pytest.fail(f"crates/{name}: the program isn't built: ./prove {name}", pytrace=False)
@@ -80,7 +77,6 @@ def library(name: str) -> Path:
 
 
 def current_library(name: str) -> Path:
-    """The same, where it is the one of the sources as they are."""
     built = library(name)
     if run(ROOT / "prove", "--is-current", name).returncode != 0:
         pytest.fail(f"crates/{name}: the library isn't of the sources as they are: ./prove {name}", pytrace=False)
@@ -88,7 +84,6 @@ def current_library(name: str) -> Path:
 
 
 def library_for_aarch64(name: str) -> Path:
-    """That for the other kind of processor."""
     built = CRATES / name / f"out/aarch64/lib{name}.a"
     if not built.exists():
         pytest.fail(f"crates/{name}: the library isn't built for aarch64: scripts/for-aarch64 {name}", pytrace=False)
@@ -116,18 +111,15 @@ AS_NOBODY = ("setpriv", "--reuid", "65534", "--clear-groups")
 
 @functools.lru_cache(maxsize=None)
 def can_be_nobody() -> bool:
-    """Whether root can begin a command as nobody here, and nobody can write to /dev/null."""
     return os.geteuid() == 0 and shutil.which("setpriv") is not None and run(*AS_NOBODY, "bash", "-c", ": >/dev/null").returncode == 0
 
 
 def needs(*commands: str) -> pytest.MarkDecorator:
-    """Skips a test where one of these commands isn't here."""
     lacking = [command for command in commands if shutil.which(command) is None]
     return pytest.mark.skipif(bool(lacking), reason=f"not here: {', '.join(lacking)}")
 
 
 def write_program(place: Path, text: str) -> Path:
-    """Writes a script that can be run, as a stand-in for a command."""
     place.parent.mkdir(parents=True, exist_ok=True)
     place.write_text(text, encoding="utf-8")
     place.chmod(0o755)
@@ -135,5 +127,4 @@ def write_program(place: Path, text: str) -> Path:
 
 
 def without(name: str) -> Mapping[str, str]:
-    """The environment, without one of its settings."""
     return {key: value for key, value in os.environ.items() if key != name}

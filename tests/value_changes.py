@@ -82,7 +82,6 @@ def read_dump(text: str) -> Dump:
 
 
 def add_value(signal: Signal, time: int, digits: str) -> None:
-    """A signal has a value from a time on."""
     value = digits if digits in "xz" else str(int(digits, 2))
     if len(digits) > signal.width or signal.values[-1:] == [value] or signal.times[-1:] == [time]:
         raise NoDump(f"a value that is too wide, or told twice: {digits} at {time}")

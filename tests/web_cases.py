@@ -26,25 +26,20 @@ class Case:
 
     @property
     def names(self) -> List[str]:
-        """What a picture calls the applications."""
         return [it.split(" ")[0] for it in self.applications]
 
     @property
     def words(self) -> List[str]:
-        """The options of a picture."""
         sizes = [(name, value) for name, value in self.configuration.items() if name != "quiet" and value is not None]
         return [word for name, value in sizes for word in (f"--{name}", str(value))]
 
     def for_page(self) -> Dict[str, Any]:
-        """The case as JSON."""
         return {"configuration": self.configuration, "applications": "\n".join(self.applications),
                 "script": base64.b64encode(self.script).decode()}
 
 
 @dataclass
 class Answer:
-    """The library's outcome of a run."""
-
     status: int
     line: int
     length: int
@@ -75,23 +70,18 @@ class Maker:
         }
 
     def one_of(self, *values: str) -> str:
-        """One of these."""
         return self.random.choice(values)
 
     def number(self, least: int, most: int) -> str:
-        """A number in this range."""
         return str(self.random.randint(least, most))
 
     def hex(self, least: int, most: int) -> str:
-        """Bytes in hex; `-`: none."""
         return self.random.randbytes(self.random.randint(least, most)).hex() or "-"
 
     def payload(self) -> str:
-        """The data of an event."""
         return self.one_of("-", self.number(0, 2**32 - 1), f"x{self.hex(1, 9)}", "x")
 
     def call(self) -> str:
-        """A call."""
         rule = self.random.choice(RULES["calls"])
         return " ".join([rule["name"], *(self.makers[name]() for name in rule["arguments"])])
 
@@ -124,7 +114,6 @@ class Maker:
         return made
 
     def case(self) -> Case:
-        """A case."""
         script = "".join(f"{self.input()}\n" for _ in range(self.random.randint(0, 15)))
         return Case(self.configuration(), [self.application() for _ in range(self.random.randint(1, 5))], script.encode())
 
@@ -146,7 +135,6 @@ class Maker:
         return bytes(letters)
 
     def scenario(self) -> str:
-        """A scenario file of a run with rows."""
         applications = []
         for _ in range(self.random.randint(1, 3)):
             rows = ["rows", *(self.row() for _ in range(self.random.randint(1, 4)))]
@@ -162,8 +150,6 @@ class _Answer(ctypes.Structure):
 
 
 class NativeLibrary:
-    """The library as ./prove built it for this machine, by ctypes."""
-
     @staticmethod
     def link(folder: Path, to: Path) -> None:
         """Makes a shared library of what a folder has: libtoarmuts.a, toarmuts.h and toarmuts_memory.c."""
@@ -176,7 +162,6 @@ class NativeLibrary:
         self._run.argtypes, self._run.restype = [pointer, ctypes.c_char_p, size, ctypes.c_char_p, size, pointer, size, pointer], None
 
     def run(self, case: Case) -> Answer:
-        """The outcome of a case."""
         given = case.configuration
         quota = given["quota"]
         numbers = (ctypes.c_uint32 * 6)(given["mmem"], given["heap"], given["header"], quota is not None, quota or 0, given["quiet"])
@@ -189,5 +174,4 @@ class NativeLibrary:
 
 
 def native(name: str, words: List[str], given: bytes, folder: Path | None = None) -> "subprocess.CompletedProcess[bytes]":
-    """A run of a program as ./prove built it for this machine."""
     return subprocess.run([program(name), *words], input=given, capture_output=True, cwd=folder, check=False, timeout=600)

@@ -50,24 +50,19 @@ def page_file(shared: Path, pytestconfig: pytest.Config) -> Path:
 
 @pytest.fixture(scope="session")
 def browser(tmp_path_factory: pytest.TempPathFactory) -> Iterator[Browser]:
-    """A running Chromium."""
     with Browser(tmp_path_factory.mktemp("chromium")) as running:
         yield running
 
 
 class Opened(NamedTuple):
-    """A page that is ready."""
-
     page: Page
 
     def ask(self, body: str) -> Any:
-        """What the body of an asynchronous function in the page returns."""
         return self.page.ask(f"{HELPERS}\n{{\n{body}\n}}")
 
 
 @contextlib.contextmanager
 def opened(browser: Browser, address: str, width: int = 1200, dark: bool = False, height: int = 900) -> Iterator[Opened]:
-    """A page that is ready."""
     page = browser.open(address, width, height, dark)
     page.wait_for("document.body?.dataset.isReady === 'yes'")
     yield Opened(page)
@@ -79,12 +74,10 @@ def opened(browser: Browser, address: str, width: int = 1200, dark: bool = False
 
 @pytest.fixture
 def mote_page(browser: Browser, page_file: Path) -> Iterator[Opened]:
-    """A page in a window of 1,200 pixels."""
     with opened(browser, page_file.as_uri()) as it:
         yield it
 
 
 @pytest.fixture(scope="session")
 def native_library(toarmuts_library: Path, shared: Path) -> NativeLibrary:
-    """The library as it was proved and built for this machine."""
     return NativeLibrary(once(shared / "libtoarmuts-for-web.so", lambda to: NativeLibrary.link(toarmuts_library, to)))

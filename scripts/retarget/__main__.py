@@ -20,7 +20,6 @@ ROOT = Path(__file__).resolve().parent.parent.parent
 
 
 def arguments() -> argparse.Namespace:
-    """What the command line says."""
     parser = argparse.ArgumentParser(prog="retarget", description=__doc__, formatter_class=argparse.RawDescriptionHelpFormatter)
     commands = parser.add_subparsers(dest="command", required=True)
     keep = commands.add_parser("keep")

@@ -27,12 +27,10 @@ def kit_folder() -> Path:
 
 
 def clang() -> Path:
-    """The kit's clang."""
     return kit_folder() / "toolchain/bin/clang"
 
 
 def run_tool(words: Sequence[str | Path], cwd: Path | None = None) -> str:
-    """Runs a tool of the kit, and returns its standard output."""
     ran = subprocess.run(words, cwd=cwd, capture_output=True, text=True, encoding="utf-8", check=False)
     if ran.returncode:
         raise Refused(f"{Path(words[0]).name} failed with status {ran.returncode}:\n{ran.stderr}")
@@ -46,7 +44,6 @@ def text_of(module: Path) -> str:
 
 
 def compile_text(text: Path, target: Target, to: Path, *more: str, level: str = "-Os") -> None:
-    """Compiles a retargeted module to an object file."""
     run_tool([clang(), *target.options, level, "-c", "-x", "ir", text, "-o", to, *OPTIONS, *more])
 
 

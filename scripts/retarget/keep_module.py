@@ -90,7 +90,6 @@ def mark_text(of: list[str], module: Path) -> str:
 
 
 def is_kept(tree: Sources, name: str, module: Path) -> bool:
-    """Whether the module of the present product is kept."""
     mark = module.with_suffix(".proved")
     return module.exists() and mark.exists() and mark.read_text(encoding="utf-8") == mark_text(proved(tree, name), module)
 
@@ -146,7 +145,6 @@ def fill(tree: Sources, name: str, work: Path, room: Path) -> None:
 
 
 def link(folder: Path, to: Path) -> None:
-    """Copies a folder by links, where that can be done."""
     try:
         shutil.copytree(folder, to, symlinks=True, copy_function=os.link)
     except OSError:

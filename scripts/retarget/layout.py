@@ -15,7 +15,6 @@ def size_of(scalar: str) -> int:
 
 
 def offsets(scalars: list[str]) -> list[int]:
-    """The offset of each member of an aggregate on x86-64, in bytes."""
     end, found = 0, []
     for scalar in scalars:
         size = size_of(scalar)

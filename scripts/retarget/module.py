@@ -35,7 +35,6 @@ def retargeted(text: str, target: Target) -> str:
 
 
 def within_function(line: str, number: int, target: Target) -> list[str]:
-    """A line between a function's first one and its last."""
     text = COMMENT.sub("", line)
     if not text.strip() or LABEL.fullmatch(text):
         return [text]

@@ -15,7 +15,6 @@ COPYRIGHT = Path("/usr/share/doc")
 
 
 def libraries_below() -> Iterator[str]:
-    """The kit's libraries that the page's modules are made of."""
     lines = (line.partition("#")[0].partition(":") for line in (ROOT / "crates.txt").read_text(encoding="utf-8").splitlines())
     below = {name.split()[0]: uses.split() for name, _, uses in lines if name.strip()}
     waiting, known = list(PRODUCTS), set()
@@ -52,7 +51,6 @@ def expat_of(package: str, holder: str) -> str:
 
 
 def licences() -> str:
-    """All of them, folded."""
     own = (ROOT / "packaging/copyright").read_text(encoding="utf-8").strip()
     texts = [
         ("Toarmuts", own),

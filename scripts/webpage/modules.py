@@ -77,7 +77,6 @@ def link(module: Module, objects: list[Path], to: Path, room: Path) -> None:
 
 
 def compile_module(module: Module, kept: Path, to: Path) -> None:
-    """Compiles and links a module from the LLVM module of its product."""
     with tempfile.TemporaryDirectory(prefix="for-web-") as folder:
         room = Path(folder)
         text, main = room / "main.ll", room / "main.o"
@@ -91,14 +90,12 @@ def compile_module(module: Module, kept: Path, to: Path) -> None:
 
 
 def places(name: str) -> tuple[Path, Path]:
-    """Where a module is, and the mark beside it."""
     product = MODULES[name].product
     folder = Sources(ROOT).product(product).parent / "wasm32"
     return folder / f"{product}.wasm", folder / "proved"
 
 
 def is_current(name: str) -> bool:
-    """Whether a module is the one that these sources make."""
     product, (made, mark) = MODULES[name].product, places(name)
     return (Sources(ROOT).is_current(product) and made.exists() and mark.exists()
             and mark.read_text(encoding="utf-8") == mark_text(product, made))

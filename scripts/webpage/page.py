@@ -25,7 +25,6 @@ WORKER_SCRIPTS = ("bytes", "memory", "library", "program", "experiment", "networ
 
 
 def read(path: Path) -> str:
-    """The text of a file."""
     try:
         return path.read_text(encoding="utf-8")
     except FileNotFoundError:
@@ -33,7 +32,6 @@ def read(path: Path) -> str:
 
 
 def require_packages() -> None:
-    """Raises ``Refused`` where a package is missing that the page is put together with."""
     for name in (*EDITOR_SCRIPTS, *EDITOR_STYLES):
         read(EDITOR / name)
     if importlib.util.find_spec("markdown") is None:
@@ -41,7 +39,6 @@ def require_packages() -> None:
 
 
 def value(of: object) -> str:
-    """A value as a script has it within HTML."""
     return json.dumps(of, ensure_ascii=False, separators=(",", ":")).replace("<", "\\u003c")
 
 
@@ -53,12 +50,10 @@ def checked(script: str) -> str:
 
 
 def joined(names: tuple[str, ...]) -> str:
-    """Files of web/js as one strict script."""
     return checked('"use strict";\n' + "".join(read(WEB / f"js/{name}.js") for name in names))
 
 
 def sum_for_policy(script: str) -> str:
-    """How a Content-Security-Policy names a script."""
     return f"'sha256-{base64.b64encode(hashlib.sha256(script.encode()).digest()).decode()}'"
 
 
@@ -70,7 +65,6 @@ def policy(scripts: list[str]) -> str:
 
 
 def page_script(modules: Mapping[str, Path]) -> str:
-    """The script of the page, with its data before it."""
     data = {
         "RULES": value(json.loads(read(ROOT / "interface/rules.json"))),
         "EXAMPLES": value(json.loads(read(WEB / "examples.json"))),
@@ -88,13 +82,11 @@ def about() -> str:
 
 
 def facts(modules: Mapping[str, Path], commit: str) -> str:
-    """Of which sources the page is made."""
     size = sum(path.stat().st_size for path in modules.values())
     return f"Version {read(ROOT / 'VERSION').strip()}, commit {commit}; {size:,} bytes of WebAssembly."
 
 
 def make_page(modules: Mapping[str, Path], commit: str) -> str:
-    """The page, of modules by their names."""
     editor = "\n" + checked("".join(read(EDITOR / name) for name in EDITOR_SCRIPTS))
     script = page_script(modules)
     # The explorer's own script, which the page shows in a frame.
