@@ -6,60 +6,73 @@ import re
 import shutil
 import subprocess
 import time
-from dataclasses import dataclass
 from pathlib import Path
 
 import pytest
 
-from tools import AS_NOBODY, ROOT, Completed, can_be_nobody, needs, run, succeed, told, write_program
+from tools import AS_NOBODY, ROOT, can_be_nobody, needs, run, succeed, write_program
 
+LIBRARIES = "modules_c toarmuts"
 # Each stand-in tells in the file `begun` that it began.
-PROOFS = """#!/bin/bash
-echo proofs >>"$BEGUN"
+STAND_INS = {
+    "tests/packages": 'echo "packages $*" >>"$BEGUN"\nexit 1\n',
+    "prove": 'echo "prove $*" >>"$BEGUN"\neval "${WHILE_PROVING:-}"\n',
+    "scripts/for-aarch64": 'echo "for-aarch64 $*" >>"$BEGUN"\n',
+    "scripts/for-web": 'echo "for-web $*" >>"$BEGUN"\nexit 1\n',
+    "tests/proofs": """echo proofs >>"$BEGUN"
 read -r line && echo "standard input has $line"
 eval "${MEANWHILE:-}"
 printf '%b' "${SAYS:-a remark\\n7 passed, 0 failed\\n}"
 [[ ${STATUS:-0} != killed ]] || kill -KILL $$
 exit "${STATUS:-0}"
-"""
-TESTS = {
-    "test_first.py": '"""The first tests."""\ndef test_one(): pass\ndef test_two(): pass\n',
-    "test_first_more.py": '"""More of the first."""\ndef test_three(): pass\n',
-    "test_second.py": '"""The second test."""\nimport os, pathlib\ndef test_four():\n'
-                      '    pathlib.Path(os.environ["BEGUN"]).open("a").write(f"four {os.environ.get(\'TOARMUTS_TESTS_PROVE\')}\\n")\n',
+""",
 }
-LIBRARIES = "modules_c toarmuts"
+FILES = {
+    "tests/test_first.py": '"""The first tests."""\ndef test_one(): pass\ndef test_two(): pass\n',
+    "tests/test_first_more.py": '"""More of the first."""\ndef test_three(): pass\n',
+    "tests/test_second.py": '"""The second test."""\nimport os, pathlib\ndef test_four():\n'
+    '    pathlib.Path(os.environ["BEGUN"]).open("a").write(f"four {os.environ.get(\'TOARMUTS_TESTS_PROVE\')}\\n")\n',
+    "lacks/pytest/pytest.py": "raise ImportError\n",
+    "lacks/xdist/xdist.py": "raise ImportError\n",
+}
+ALL_PASS = "11 passed, 0 failed"
+COMMIT = "git -c user.name=N -c user.email=E commit -q --allow-empty -m a"
 
 
-@dataclass
 class Gate:
-    tree: Path
-    room: Path
+    """A tree with the gate and stand-ins, of which all passes."""
 
-    def __call__(self, *words: str, **settings: str) -> Completed:
-        for it in (self.room / "begun", self.tree / ".git/gate"):
-            it.unlink(missing_ok=True)
-        (self.room / "temporary").mkdir(exist_ok=True)
-        here = {"BEGUN": str(self.room / "begun"), "TMPDIR": str(self.room / "temporary"), **settings}
-        ran = run(self.tree / "tests/all", *words, stdin=b"a line\n", settings=here)
-        assert not list((self.room / "temporary").iterdir()), "files are left"
-        return ran
+    def __init__(self, room: Path) -> None:
+        self.tree, self.temporary, self.settings = room / "a gate", room / "temporary", {"BEGUN": str(room / "begun")}
+        for folder in ("lacks/pytest", "lacks/xdist", "tests", "../temporary"):
+            (self.tree / folder).mkdir(parents=True)
+        for name in ("tests/all", "pytest.ini", ".gitignore"):
+            shutil.copy2(ROOT / name, self.tree / name)
+        for name, text in STAND_INS.items():
+            write_program(self.tree / name, f"#!/bin/bash\n{text}")
+        succeed("git", "init", "-q", cwd=self.tree)
+        self.add(FILES)
+
+    def add(self, files: dict[str, str]) -> None:
+        for name, text in files.items():
+            (self.tree / name).write_text(text, encoding="utf-8")
+        succeed("bash", "-c", f"git add . && {COMMIT}", cwd=self.tree)
+
+    def __call__(self, *words: str, **settings: str) -> tuple[int, list[str]]:
+        """The gate's status, and the lines that it writes."""
+        ran = run(self.tree / "tests/all", *words, stdin=b"a line\n", cwd=self.tree,
+                  settings={**self.settings, "TMPDIR": str(self.temporary), **settings})
+        assert not list(self.temporary.iterdir()), "files are left"
+        return ran.returncode, (ran.stdout if ran.returncode != 64 else ran.stderr).decode().splitlines()
 
     def begun(self) -> list[str]:
-        file = self.room / "begun"
+        file = Path(self.settings["BEGUN"])
         return file.read_text(encoding="utf-8").splitlines() if file.exists() else []
 
-    def add(self, name: str, text: str) -> None:
-        (self.tree / "tests" / name).write_text(text, encoding="utf-8")
-        self.commit()
-
-    def commit(self) -> None:
-        succeed("git", "-C", self.tree, "add", ".")
-        succeed("git", "-C", self.tree, "-c", "user.name=N", "-c", "user.email=E", "commit", "-q", "--allow-empty", "-m", "a")
-
     def notes(self) -> str:
+        """What is noted for a release of this commit."""
         file = self.tree / ".git/gate"
-        commit = succeed("git", "-C", self.tree, "rev-parse", "HEAD").stdout.decode().strip()
+        commit = succeed("git", "rev-parse", "HEAD", cwd=self.tree).stdout.decode().strip()
         return file.read_text(encoding="utf-8").removeprefix(commit).strip() if file.exists() else ""
 
 
@@ -69,44 +82,24 @@ def gate(tmp_path: Path, monkeypatch: pytest.MonkeyPatch) -> Gate:
         monkeypatch.delenv(name)
     # One process is enough for most.
     monkeypatch.setenv("PYTEST_XDIST_AUTO_NUM_WORKERS", "0")
-    tree = tmp_path / "a gate"
-    (tree / "tests").mkdir(parents=True)
-    shutil.copy2(ROOT / "tests/all", tree / "tests")
-    for name in ("pytest.ini", ".gitignore"):
-        shutil.copy2(ROOT / name, tree)
-    write_program(tree / "tests/proofs", PROOFS)
-    write_program(tree / "tests/packages", '#!/bin/bash\necho "packages $*" >>"$BEGUN"\nexit 1\n')
-    write_program(tree / "prove", '#!/bin/bash\necho "prove $*" >>"$BEGUN"\nexit "${STATUS_OF_PROVE:-0}"\n')
-    write_program(tree / "scripts/for-aarch64", '#!/bin/bash\necho "for-aarch64 $*" >>"$BEGUN"\n')
-    write_program(tree / "scripts/for-web", '#!/bin/bash\necho "for-web $*" >>"$BEGUN"\nexit 1\n')
-    succeed("git", "-C", tree, "init", "-q")
-    gate = Gate(tree, tmp_path)
-    for name, text in TESTS.items():
-        gate.add(name, text)
-    return gate
+    return Gate(tmp_path)
 
 
-def last_lines(ran: Completed, count: int = 1) -> list[str]:
-    return ran.stdout.decode().splitlines()[-count:]
-
-
-def test_all_pass(gate: Gate) -> None:
-    """The proofs come first and the other tests next, with what they take built beside them; what passed is noted for a release. Where
-    the page's modules can't be built, that is for its tests to tell."""
-    ran = gate()
-    assert (ran.returncode, last_lines(ran)) == (0, ["11 passed, 0 failed"]), told(ran)
-    assert b"a remark\n7 passed, 0 failed\n" in ran.stdout and b"standard input has" not in ran.stdout
+def test_order(gate: Gate) -> None:
+    """The proofs come first and the other tests next, with what they take built beside them. Where the page's modules can't be built,
+    that is for its tests to tell."""
+    status, lines = gate()
+    assert (status, lines[-1]) == (0, ALL_PASS), lines
+    assert "a remark\n7 passed, 0 failed\n" in "\n".join(lines) and "standard input has a line" not in lines
     assert gate.begun()[:2] == ["packages ", "proofs"]
     assert sorted(gate.begun()[2:]) == [f"for-aarch64 {LIBRARIES}", "for-web --modules", "four 1", f"prove {LIBRARIES}"]
-    assert gate.notes() == "11 passed, 0 skipped"
 
 
 def test_help(gate: Gate) -> None:
     """The help has all names, and begins nothing."""
-    ran = gate("--help")
-    assert re.findall(r"^  (\w+)  +(\S.*)$", ran.stdout.decode().partition("Names:\n")[2], re.M) == [
-        ("proofs", "Every proof from nothing, the must-fail edits, tests and programs, by `rt ci`."),
-        ("first", "The first tests."), ("first_more", "More of the first."), ("second", "The second test.")]
+    names = re.findall(r"^  (\w+)  +(\S.*)$", "\n".join(gate("--help")[1]).partition("Names:\n")[2], re.M)
+    assert names == [("proofs", "Every proof from nothing, the must-fail edits, tests and programs, by `rt ci`."),
+                     ("first", "The first tests."), ("first_more", "More of the first."), ("second", "The second test.")]
     assert not gate.begun()
 
 
@@ -121,34 +114,49 @@ def test_help(gate: Gate) -> None:
 ])
 def test_some_tests(gate: Gate, words: list[str], last: str, begun: list[str]) -> None:
     """What is named runs once, with the files whose names begin so; nothing is noted."""
-    ran = gate(*words)
-    assert (ran.returncode, last_lines(ran), gate.begun(), gate.notes()) == (0, [last], begun, ""), told(ran)
+    status, lines = gate(*words)
+    assert (status, lines[-1], gate.begun(), gate.notes()) == (0, last, begun, ""), lines
 
 
 def test_no_such_name(gate: Gate) -> None:
-    """Another name is refused before anything begins."""
-    ran = gate("first", "nothing")
-    assert (ran.returncode, ran.stdout, gate.begun()) == (64, b"", [])
-    assert ran.stderr.startswith(b"tests/all: there are no tests nothing\n")
+    status, lines = gate("first", "nothing")
+    assert (status, lines[0], gate.begun()) == (64, "tests/all: there are no tests nothing", [])
 
 
-# ---- What fails ----
-
-
-@pytest.mark.parametrize(("settings", "lines"), [
-    ({"SAYS": "3 passed, 2 failed\\n", "STATUS": "1"}, ["proofs: 2 failed", "7 passed, 2 failed"]),
-    ({"SAYS": "3 passed, 2 failed\\n"}, ["proofs: 2 failed", "7 passed, 2 failed"]),
-    *(({"STATUS": status}, ["proofs: 1 failed", "11 passed, 1 failed"]) for status in ("1", "killed")),
-    *(({"SAYS": says}, ["proofs: 1 failed", "4 passed, 1 failed"])
+@pytest.mark.parametrize(("settings", "status", "last", "notes"), [
+    ({}, 0, [ALL_PASS], "11 passed, 0 skipped"),
+    ({"SAYS": "3 passed, 2 failed\\n", "STATUS": "1"}, 1, ["proofs: 2 failed", "7 passed, 2 failed"], ""),
+    ({"SAYS": "3 passed, 2 failed\\n"}, 1, ["proofs: 2 failed", "7 passed, 2 failed"], ""),
+    *(({"STATUS": status}, 1, ["proofs: 1 failed", "11 passed, 1 failed"], "") for status in ("1", "killed")),
+    *(({"SAYS": says}, 1, ["proofs: 1 failed", "4 passed, 1 failed"], "")
       for says in (r"7 passed\n", r"7 passed, 0 failed.\n", r"all: 7 passed, 0 failed\n", r"7 passed, 0 failed\nmore", r"\n",
                    r"0 passed, 0 failed\n")),
-    ({"STATUS_OF_PROVE": "1"}, ["the libraries for C: 1 failed", "11 passed, 1 failed"]),
-])
-def test_proofs_that_fail(gate: Gate, settings: dict[str, str], lines: list[str]) -> None:
-    """By what their last line says, by their status, and where they say nothing of the kind. The other tests run."""
-    ran = gate(**settings)
-    assert (ran.returncode, last_lines(ran, 2), gate.notes()) == (1, lines, ""), told(ran)
-    assert "four 1" in gate.begun()
+    ({"WHILE_PROVING": "exit 1"}, 1, ["the libraries for C: 1 failed", "11 passed, 1 failed"], ""),
+    ({"PYTHONPATH": "lacks/pytest"}, 1, ["no Python here has pytest (Debian: python3-pytest, python3-pytest-xdist): 1 failed",
+                                         "7 passed, 1 failed"], ""),
+    ({"PYTHONPATH": "lacks/xdist"}, 0, [ALL_PASS], "11 passed, 0 skipped"),
+    # What the environment has for other uses of pytest changes nothing.
+    ({"PYTEST_ADDOPTS": "--collect-only", "PYTEST_PLUGINS": "no_such_plugin"}, 0, [ALL_PASS], "11 passed, 0 skipped"),
+    # Of sources that aren't those that the gate began with nothing is noted.
+    ({"MEANWHILE": COMMIT}, 0, [ALL_PASS], ""),
+], ids=lambda value: str(value) if isinstance(value, dict) else "")
+def test_whole_gate(gate: Gate, settings: dict[str, str], status: int, last: list[str], notes: str) -> None:
+    """The last lines, the status, and what is noted for a release. Proofs that fail, or don't say that they pass, count as failed."""
+    told, lines = gate(**settings)
+    assert (told, lines[-len(last):], gate.notes()) == (status, last, notes), lines
+
+
+def test_uncommitted_file(gate: Gate) -> None:
+    (gate.tree / "new").touch()
+    assert (gate()[0], gate.notes()) == (0, "")
+
+
+def test_skipped(gate: Gate) -> None:
+    """What is skipped is reported with its reason, and noted."""
+    gate.add({"tests/test_third.py": "import pytest\n@pytest.mark.skip(reason='no such tool')\ndef test_it(): pass\n"})
+    status, lines = gate()
+    assert (status, lines[-2:], gate.notes()) == (0, ["1 skipped, for the reasons above", ALL_PASS], "11 passed, 1 skipped"), lines
+    assert any("no such tool" in line for line in lines)
 
 
 FAULTS = {
@@ -170,160 +178,80 @@ FAULTS = {
     *((fault, "0") for fault in FAULTS if fault != "killed"), *((fault, "2") for fault in ("no Python", "exit", "crash", "killed"))])
 def test_tests_that_fail(gate: Gate, fault: str, workers: str) -> None:
     """A test that fails, a file that can't be read, a crash, and a run that is ended by force count as failed."""
-    gate.add("test_third.py", FAULTS[fault])
-    ran = gate(PYTEST_XDIST_AUTO_NUM_WORKERS=workers)
-    assert (ran.returncode, gate.notes()) == (1, ""), told(ran)
-    assert re.fullmatch(r"\d+ passed, [1-9]\d* failed", last_lines(ran)[0]), told(ran)
-    assert re.fullmatch(r"pytest: [1-9]\d* failed", last_lines(ran, 2)[0]), told(ran)
+    gate.add({"tests/test_third.py": FAULTS[fault]})
+    status, lines = gate(PYTEST_XDIST_AUTO_NUM_WORKERS=workers)
+    assert (status, gate.notes()) == (1, "")
+    assert re.fullmatch(r"pytest: [1-9]\d* failed\n\d+ passed, [1-9]\d* failed", "\n".join(lines[-2:]))
 
 
 def test_nothing_is_chosen(gate: Gate) -> None:
     """Where nothing is tried, that isn't taken for success."""
-    ran = gate("first", "-k", "nothing")
-    assert (ran.returncode, last_lines(ran, 2)) == (1, ["pytest: 1 failed", "0 passed, 1 failed"]), told(ran)
+    status, lines = gate("first", "-k", "nothing")
+    assert (status, lines[-2:]) == (1, ["pytest: 1 failed", "0 passed, 1 failed"])
 
 
-def lacks_module(gate: Gate, name: str) -> str:
-    (gate.room / "lacks").mkdir()
-    (gate.room / f"lacks/{name}.py").write_text("raise ImportError\n", encoding="utf-8")
-    return str(gate.room / "lacks")
-
-
-def test_no_pytest(gate: Gate) -> None:
-    """Where there is no pytest, that is reported with its packages, and counts as failed."""
-    ran = gate(PYTHONPATH=lacks_module(gate, "pytest"))
-    assert (ran.returncode, last_lines(ran)) == (1, ["7 passed, 1 failed"]), told(ran)
-    assert "python3-pytest" in last_lines(ran, 2)[0]
-
-
-def test_no_xdist(gate: Gate) -> None:
-    """Where there is no pytest-xdist, one test runs after the other."""
-    ran = gate(PYTHONPATH=lacks_module(gate, "xdist"))
-    assert (ran.returncode, last_lines(ran)) == (0, ["11 passed, 0 failed"]), told(ran)
-
-
-def test_settings_of_pytest(gate: Gate) -> None:
-    """Variables in the environment for other uses of pytest change nothing."""
-    ran = gate(PYTEST_ADDOPTS="--collect-only", PYTEST_PLUGINS="no_such_plugin")
-    assert (ran.returncode, last_lines(ran)) == (0, ["11 passed, 0 failed"]), told(ran)
-
-
-@needs("setsid")
+@needs("setsid", "pgrep")
 @pytest.mark.parametrize("words", [["third"], []], ids=["a test", "all"])
 def test_gate_that_is_ended(gate: Gate, words: list[str]) -> None:
     """A gate that is ended prints no counts, and leaves no process running, also none of the builds beside the tests."""
-    gate.add("test_third.py", "import os, pathlib, time\ndef test_it():\n"
-                              "    pathlib.Path(os.environ['BEGUN']).open('a').write('third\\n')\n    time.sleep(600)\n")
-    write_program(gate.tree / "prove", '#!/bin/bash\necho "prove $*" >>"$BEGUN"\nsleep 600\n')
-    settings = os.environ | {"BEGUN": str(gate.room / "begun")}
+    gate.add({"tests/test_third.py": "import os, pathlib, time\ndef test_it():\n"
+              "    pathlib.Path(os.environ['BEGUN']).open('a').write('third\\n')\n    time.sleep(600)\n"})
     wanted = {"third"} if words else {"third", f"prove {LIBRARIES}"}
-    with subprocess.Popen([gate.tree / "tests/all", *words], stdout=subprocess.PIPE, env=settings, start_new_session=True) as ran:
+    with subprocess.Popen([gate.tree / "tests/all", *words], stdout=subprocess.PIPE, start_new_session=True,
+                          env={**os.environ, **gate.settings, "WHILE_PROVING": "sleep 600"}) as ran:
         while not wanted <= set(gate.begun()):
             time.sleep(0.05)
         ran.terminate()
-        assert ran.stdout is not None and b"passed" not in ran.stdout.read().replace(b"7 passed, 0 failed\n", b"")
+        assert b"passed" not in ran.communicate()[0].replace(b"7 passed, 0 failed\n", b"")
     assert ran.returncode == 143
     deadline = time.monotonic() + 120
-    while subprocess.run(["pgrep", "--session", str(ran.pid)], stdout=subprocess.DEVNULL, check=False).returncode == 0:
+    while run("pgrep", "--session", ran.pid).returncode == 0:
         assert time.monotonic() < deadline, "something goes on"
         time.sleep(0.1)
 
 
-# ---- What is skipped and noted ----
-
-
-def test_skipped(gate: Gate) -> None:
-    gate.add("test_third.py", "import pytest\n@pytest.mark.skip(reason='no such tool')\ndef test_it(): pass\n")
-    ran = gate()
-    assert (ran.returncode, last_lines(ran, 2)) == (0, ["1 skipped, for the reasons above", "11 passed, 0 failed"]), told(ran)
-    assert b"no such tool" in ran.stdout and gate.notes() == "11 passed, 1 skipped"
-
-
-def test_uncommitted_file(gate: Gate) -> None:
-    """Of sources that aren't committed nothing is noted."""
-    (gate.tree / "new").touch()
-    ran = gate()
-    assert (ran.returncode, gate.notes()) == (0, ""), told(ran)
-
-
-def test_commit_meanwhile(gate: Gate) -> None:
-    """Nor of sources that aren't those that the gate began with."""
-    ran = gate(MEANWHILE="git -c user.name=N -c user.email=E commit -q --allow-empty -m b")
-    assert (ran.returncode, gate.notes()) == (0, ""), told(ran)
+def test_ci_runs_the_gate() -> None:
+    assert (ROOT / ".ci/run").read_text(encoding="utf-8").splitlines()[-1] == "tests/all"
 
 
 # ---- Packages ----
 
-
-@dataclass
-class Packages:
-    """tests/packages with stand-ins for Debian's commands: dpkg-query, to which those of $HAVE are installed, and apt-get, which can
-    install none where $APT is `fails`, and none before its lists were brought up to date."""
-
-    room: Path
-
-    def __call__(self, have: str, apt: str, *words: str, by: tuple[str, ...] = ()) -> Completed:
-        self.asked().unlink(missing_ok=True)
-        settings = {"PATH": f"{self.room}:{os.environ['PATH']}", "HAVE": have, "APT": apt, "BEGUN": str(self.asked())}
-        return run(*by, self.room / "packages", *words, settings=settings)
-
-    def asked(self) -> Path:
-        return self.room / "asked"
-
-
 ALWAYS = "python3-pytest python3-pytest-xdist"
+MAKE = "install -qq -y --no-install-recommends make"
 as_root = pytest.mark.skipif(os.geteuid() != 0, reason="only root can install packages")
 as_nobody = pytest.mark.skipif(not can_be_nobody(), reason="no command can be begun as nobody, who can write to /dev/null")
 
 
 @pytest.fixture
-def packages(tmp_path: Path) -> Packages:
-    """Such a command, in a folder that everyone may read."""
+def room(tmp_path: Path) -> Path:
+    """A folder that everyone may read, with tests/packages and stand-ins for Debian's commands: dpkg-query, to which the packages of $HAVE
+    are installed, and apt-get, which can install none where $APT is `fails`, and none before its lists were brought up to date."""
     write_program(tmp_path / "dpkg-query", '#!/bin/bash\n[[ " $HAVE " == *" ${*: -1} "* ]] && echo "install ok installed"\n')
-    write_program(tmp_path / "apt-get", '#!/bin/bash\necho "$*" >>"$BEGUN"\n[[ $APT != fails ]] && grep -q update "$BEGUN"\n')
+    write_program(tmp_path / "apt-get", '#!/bin/bash\necho "$*" >>"$ASKED"\n[[ $APT != fails ]] && grep -q update "$ASKED"\n')
     shutil.copy2(ROOT / "tests/packages", tmp_path)
     for folder in (tmp_path, *list(tmp_path.parents)[:3]):
         if folder.owner() != "root" or folder.stat().st_mode & 0o005 != 0o005:
             folder.chmod(folder.stat().st_mode | 0o055)
-    return Packages(tmp_path)
+    return tmp_path
 
 
-def test_packages_that_are_there(packages: Packages) -> None:
-    """Nothing is asked or told."""
-    ran = packages(f"{ALWAYS} make gcc", "works", "launch", "cells")
-    assert (ran.returncode, ran.stderr, packages.asked().exists()) == (0, b"", False)
-
-
-@as_root
-def test_package_that_is_lacking(packages: Packages) -> None:
-    """It is installed, after the lists are brought up to date."""
-    ran = packages(f"{ALWAYS} gcc", "works", "launch", "cells")
-    assert (ran.returncode, ran.stderr) == (0, b"tests/packages: installing make\n")
-    install = "install -qq -y --no-install-recommends make"
-    assert packages.asked().read_text(encoding="utf-8").splitlines() == [install, "update -qq", install]
-
-
-@as_root
-def test_package_that_cannot_be_installed(packages: Packages) -> None:
-    """That is told."""
-    ran = packages(ALWAYS, "fails", "launch")
-    assert ran.returncode == 1 and ran.stderr.endswith(b"tests/packages: they can't all be installed\n")
+@pytest.mark.parametrize(("have", "apt", "by", "status", "told", "asked"), [
+    ("make gcc", "works", (), 0, "", []),
+    pytest.param("gcc", "works", (), 0, "installing make", [MAKE, "update -qq", MAKE], marks=as_root),
+    pytest.param("gcc", "fails", (), 1, "they can't all be installed", [MAKE, "update -qq"], marks=as_root),
+    pytest.param("gcc", "works", AS_NOBODY, 1, "these Debian packages are missing: apt-get install make", [], marks=as_nobody),
+], ids=["there", "lacking", "can't be installed", "nobody may install"])
+def test_packages(room: Path, have: str, apt: str, by: tuple[str, ...], status: int, told: str, asked: list[str]) -> None:
+    """What is lacking is installed, once more after the lists are brought up to date, or named."""
+    settings = {"PATH": f"{room}:{os.environ['PATH']}", "HAVE": f"{ALWAYS} {have}", "APT": apt, "ASKED": str(room / "asked")}
+    ran = run(*by, room / "packages", "launch", "cells", settings=settings)
+    assert ran.returncode == status and ran.stderr.decode().splitlines()[-1:] == [f"tests/packages: {told}"] * bool(told)
+    assert ((room / "asked").read_text(encoding="utf-8").splitlines() if (room / "asked").exists() else []) == asked
 
 
 @as_root
-def test_all_packages(packages: Packages) -> None:
+def test_all_packages(room: Path) -> None:
     """Without a name all are wanted."""
-    told_of = set(packages("", "fails").stderr.decode().partition("installing ")[2].split())
-    assert {"chromium", "clang", "flake8", "gdb", "lintian", "make", "mypy", "shellcheck", *ALWAYS.split()} <= told_of
-
-
-@as_nobody
-def test_package_that_nobody_may_install(packages: Packages) -> None:
-    """It is named, and nothing is asked."""
-    ran = packages(ALWAYS, "works", "launch", by=AS_NOBODY)
-    assert (ran.returncode, packages.asked().exists()) == (1, False)
-    assert ran.stderr == b"tests/packages: these Debian packages are missing: apt-get install make\n"
-
-
-def test_ci_runs_the_gate() -> None:
-    assert (ROOT / ".ci/run").read_text(encoding="utf-8").splitlines()[-1] == "tests/all"
+    ran = run(room / "packages", settings={"PATH": f"{room}:{os.environ['PATH']}", "HAVE": "", "APT": "fails", "ASKED": str(room / "asked")})
+    wanted = {"chromium", "clang", "flake8", "gdb", "lintian", "make", "mypy", "shellcheck", *ALWAYS.split()}
+    assert wanted <= set(ran.stderr.decode().partition("installing ")[2].split())
