@@ -113,23 +113,15 @@ def sanitizing_compiler(request: pytest.FixtureRequest) -> str:
 
 @pytest.fixture
 def tree(tmp_path: Path) -> Tree:
-    """A small tree of crates with stand-ins for rt and for a C compiler."""
-    tree = Tree(tmp_path)
-    tree.fill()
-    return tree
+    return Tree(tmp_path)
 
 
 @pytest.fixture
-def proved_tree(tree: Tree, shared: Path) -> Tree:
-    """The same, whose program mote is proved and built."""
+def proved_tree(tmp_path: Path, shared: Path) -> Tree:
+    """Such a tree, whose program mote is proved and built."""
     def make(place: Path) -> None:
-        shutil.rmtree(place, ignore_errors=True)
-        place.mkdir()
+        place.mkdir(exist_ok=True)
         first = Tree(place)
-        first.fill()
         assert first.run("prove").returncode == 0, first.stderr
-    first = once(shared / "proved", make)
-    shutil.rmtree(tree.root)
-    shutil.copytree(first / "a tree", tree.root, symlinks=True)
-    shutil.copy(first / "begun", tree.began)
-    return tree
+    shutil.copytree(once(shared / "proved", make), tmp_path, symlinks=True, dirs_exist_ok=True)
+    return Tree(tmp_path)

@@ -6,45 +6,48 @@ import shutil
 import subprocess
 import time
 from pathlib import Path
-from typing import IO
+from typing import IO, Callable
 
 from tools import ROOT, Completed, Word, run
 
-CRATES = ("low", "beside", "high", "mote", "scenario", "toarmuts", "modules_c")
-LIST = ("low: # below high", "beside:", "high: low", "mote: high beside", "scenario: low", "toarmuts staticlib: low",
-        "modules_c staticlib:")
+CRATES = """low: # below high
+beside:
+high: low
+mote: high beside
+scenario: low
+toarmuts staticlib: low
+modules_c staticlib:
+"""
 SECONDS = "# seconds\nlow 20\nbeside 30\nhigh 40\nmote 10\n"
-STAND_INS = ROOT / "tests/stand_ins"
 WITHOUT_RT = ":".join(folder for folder in os.environ["PATH"].split(":") if not (Path(folder) / "rt").exists())
+leave_out = shutil.ignore_patterns("__pycache__", "beat", "blink", "readings")
 
 
 class Tree:
     """Such a tree, and what the last script that was run there came to."""
 
     def __init__(self, room: Path) -> None:
-        self.room = room
-        self.root = room / "a tree"
-        self.bin = room / "bin"
-        self.began = room / "begun"
+        self.room, self.root, self.bin, self.began = room, room / "a tree", room / "bin", room / "begun"
         self.program = self.crate("mote") / "out/mote"
         self.ran = Completed([], 0, b"", b"")
-        shutil.copytree(STAND_INS, self.bin)
+        self.cannot_be_written = f"prove: proofs are kept in this repository, and it can't be written: {self.root}/.git/rt-ci.lock\n"
+        if not self.root.exists():
+            self.fill()
 
     def fill(self) -> None:
-        for folder in (".git", "examples", "tests"):
+        shutil.copytree(ROOT / "tests/stand_ins", self.bin)
+        for folder in ("scripts", "examples/c", "crates/toarmuts/include"):
+            shutil.copytree(ROOT / folder, self.root / folder, ignore=leave_out)
+        for folder in (".git", "tests", "crates/low/specs", "crates/low/proofs"):
             (self.root / folder).mkdir(parents=True)
-        for name in ("mote", "mote-picture", "scenario", "prove"):
-            shutil.copy2(ROOT / name, self.root)
-        shutil.copytree(ROOT / "scripts", self.root / "scripts", ignore=shutil.ignore_patterns("__pycache__"))
-        shutil.copy2(ROOT / "tests/proofs", self.root / "tests")
-        shutil.copytree(ROOT / "examples/c", self.root / "examples/c", ignore=shutil.ignore_patterns("beat", "blink", "readings"))
-        (self.root / "crates.txt").write_text("".join(f"{line}\n" for line in LIST), encoding="utf-8")
-        (self.root / "scripts/prove-times").write_text(SECONDS, encoding="utf-8")
-        for name in CRATES:
-            source = self.crate(name) / "src" / ("main.rt" if name in ("mote", "scenario") else "lib.rt")
-            source.parent.mkdir(parents=True)
-            source.write_text(f"fn  {name}() {{}}\n", encoding="utf-8")
-        shutil.copytree(ROOT / "crates/toarmuts/include", self.crate("toarmuts") / "include")
+        for name in ("mote", "mote-picture", "scenario", "prove", "tests/proofs"):
+            shutil.copy2(ROOT / name, self.root / name)
+        files = {"crates.txt": CRATES, "scripts/prove-times": SECONDS, "crates/low/specs/Lib.antt": "", "crates/low/proofs/Lib.antt": ""}
+        for name in (line.split()[0].rstrip(":") for line in CRATES.splitlines()):
+            files[f"crates/{name}/src/{'main' if name in ('mote', 'scenario') else 'lib'}.rt"] = f"fn  {name}() {{}}\n"
+        for name, text in files.items():
+            (self.root / name).parent.mkdir(parents=True, exist_ok=True)
+            (self.root / name).write_text(text, encoding="utf-8")
 
     def crate(self, name: str) -> Path:
         return self.root / "crates" / name
@@ -57,6 +60,7 @@ class Tree:
             opened.write(text)
 
     def take_back(self, name: str) -> None:
+        """Removes the last line of a crate's source."""
         lines = self.source(name).read_text(encoding="utf-8").splitlines(keepends=True)
         self.source(name).write_text("".join(lines[:-1]), encoding="utf-8")
 
@@ -73,21 +77,30 @@ class Tree:
         return self.ran
 
     def start(self, script: str, settings: dict[str, str], stdin: IO[bytes] | int = subprocess.DEVNULL) -> subprocess.Popen[bytes]:
+        """Starts a script of the tree, in a new process group, with no signal ignored."""
         command = ["env", "--default-signal=INT,TERM,HUP", str(self.root / script)]
         return subprocess.Popen(command, stdin=stdin, stdout=subprocess.PIPE, stderr=subprocess.PIPE, start_new_session=True,
                                 env={**os.environ, **self.settings(**settings)})
 
     def begin_to_prove(self, **settings: str) -> subprocess.Popen[bytes]:
+        """Begins ./prove, and waits until a crate is under way."""
         self.began.unlink(missing_ok=True)
         started = self.start("prove", settings)
         wait_until(lambda: self.begun() != [])
         time.sleep(0.1)
         return started
 
+    def end(self, started: subprocess.Popen[bytes]) -> Completed:
+        stdout, stderr = started.communicate(timeout=300)
+        self.ran = Completed([], started.returncode, stdout, stderr)
+        return self.ran
+
     def begun(self) -> list[str]:
+        """Which crates were begun, in order."""
         return self.began.read_text(encoding="utf-8").split() if self.began.exists() else []
 
     def kept(self, name: str) -> list[str]:
+        """The content of a crate's stored work."""
         return (self.crate(name) / "out/incremental/kept").read_text(encoding="utf-8").split()
 
     @property
@@ -99,19 +112,20 @@ class Tree:
         return self.ran.stderr.decode()
 
     def is_unproved(self) -> bool:
+        """Whether the last run was an unproved one, and said so."""
         return self.ran.returncode == 0 and "this run is unproved" in self.stderr and "proves and builds" in self.stderr
 
     def is_proved(self, *words: str) -> bool:
         """Whether the last run was one of the built program, which always ends with 3."""
         return (self.ran.returncode, self.stdout.partition("\n")[0], self.stderr) == (3, f"proved {' '.join(words)}", "")
 
-    def mote(self) -> Completed:
-        return self.run("mote")
+    def runs_unproved(self, script: str = "mote") -> bool:
+        self.run(script)
+        return self.is_unproved()
 
-    def end(self, started: subprocess.Popen[bytes]) -> Completed:
-        stdout, stderr = started.communicate(timeout=300)
-        self.ran = Completed([], started.returncode, stdout, stderr)
-        return self.ran
+    def runs_proved(self, script: str = "mote") -> bool:
+        self.run(script)
+        return self.is_proved("")
 
     def is_clean(self) -> bool:
         """Whether no started process runs any more, and the stored work is where rt has it."""
@@ -130,8 +144,7 @@ def environment_of(folder: Path) -> bytes:
         return b""
 
 
-def wait_until(holds: object, seconds: float = 120) -> None:
-    assert callable(holds)
+def wait_until(holds: Callable[[], bool], seconds: float = 120) -> None:
     deadline = time.monotonic() + seconds
     while not holds():
         assert time.monotonic() < deadline, "it takes too long"

@@ -56,7 +56,6 @@ def differences(found: Table, wanted: Table) -> list[str]:
 
 # ---- Calls ----
 
-
 def of_types() -> Table:
     types = {"u8": "s", "u32": "n", "Payload": "p", "Chunk": "b"}
     found = {spoken(name): "".join(types[it] for it in told.split(", ") if it) for name, told in variants("call.rt", "Call")}
@@ -185,7 +184,6 @@ def test_profile() -> None:
 
 
 # ---- Refusals, events, replies, origins ----
-
 
 def test_refusals() -> None:
     """Their numbers and names, in code, definition and page."""

@@ -50,7 +50,6 @@ def check(ran: Completed, case: Case) -> None:
 
 # ---- Arguments of the command ----
 
-
 @pytest.mark.parametrize("case", [
     refused([BLINKER, "--mmem"], "--mmem needs an argument"),
     refused([BLINKER, "--clock-second", "0"], "--clock-second needs a number of at least 1"),
@@ -114,7 +113,6 @@ def test_two_programs(contiki: Contiki, sanitizing_compiler: str, tmp_path: Path
 
 # ---- Scripts, and arguments of the program ----
 
-
 @pytest.fixture(scope="module")
 def blinker(contiki: Contiki) -> Path:
     return contiki.build(BLINKER)
@@ -158,7 +156,6 @@ def test_arguments_of_the_program(blinker: Path, case: Case) -> None:
 
 # ---- Readers ----
 
-
 def test_lines_are_written_before_more_is_read(blinker: Path) -> None:
     """The transcript so far is written before more of the script is read."""
     with subprocess.Popen([blinker], stdin=subprocess.PIPE, stdout=subprocess.PIPE) as ran:
@@ -197,7 +194,6 @@ def test_script_that_cannot_be_read(blinker: Path) -> None:
 
 
 # ---- The command in a tree, in a release and from a Makefile ----
-
 
 @pytest.fixture
 def tree(toarmuts_library: Path, tmp_path: Path) -> Path:
@@ -303,7 +299,6 @@ def test_makefile(contiki: Contiki, tmp_path: Path, name: str) -> None:
 
 
 # ---- The debugger ----
-
 
 @needs("gdb")
 def test_debugger(contiki: Contiki) -> None:

@@ -5,71 +5,22 @@ import re
 import signal
 import subprocess
 from pathlib import Path
+from typing import Any
 
 import pytest
 
 from contiki_programs import SOURCES, Contiki, outcome, place, program_of, write_source
-from tools import ROOT, needs, run, told
+from tools import ROOT, needs, run, table, told
 
 SCRIPT = b"tick 1\nserial 0a\n"
 
 
-def faulty(stimulus: str, line: int, calls: int, what: str, process: str = "4 (Faulty)") -> str:
-    return place(process, stimulus, line, calls) + what
-
-
-def at_init(calls: int, what: str) -> str:
-    return faulty("INIT (129)", 1, calls, what)
-
-
-def greedy(calls: int, what: str) -> str:
-    return faulty("INIT (129)", 1, calls, what, "4 (Greedy)")
-
-
 def only(stimulus: str, line: int, calls: int, what: str) -> str:
-    return faulty(stimulus, line, calls, what, "4 (Only)") + "\n"
+    """The message where the process of a short program is stopped."""
+    return place("4 (Only)", stimulus, line, calls) + what + "\n"
 
 
-HALTED = ("contiki: the mote halted: one input may cause at most 10,000 turns and rounds; the last turn was that of "
-          "process 4 (Faulty)\n")
-# A program of tests/c/contiki/faults, its status, what of the sanitizer's report stands first, as a pattern, and what is told.
-FAULTS = {
-    "heap_overflow": (1, "heap-buffer-overflow.*heap_overflow.c:18", faulty("TIMER (136)", 5, 0, "")),
-    "pool_after_free": (1, "use-after-poison.*pool_after_free.c:25", faulty("LINE (138)", 6, 0, "")),
-    "stale_pointer": (1, "heap-use-after-free", at_init(3, "")),
-    "null_pointer": (-11, "", faulty("MSG (134)", 5, 0, "a crash: an invalid address (SIGSEGV)", "5 (Careless)")),
-    "endless": (3, "", HALTED),
-    "endless_print": (3, "", HALTED),
-    "calls_exit": (1, "", at_init(1, "the program called exit")),
-    "nine_etimers": (1, "", greedy(8, "more than 8 event timers of one process are set: stop one before this etimer_set")),
-    "five_ctimers": (1, "", greedy(4, "more than 4 callback timers of one process are set: stop one before this ctimer_set")),
-    "heap_blocks": (1, "", greedy(16, "more than 16 blocks of heap memory in one process: free one before this heapmem_alloc")),
-    "managed_blocks": (1, "", greedy(16, "more than 16 blocks of managed memory in one process: free one before this mmem_alloc")),
-    "pool_blocks": (1, "", greedy(17, "no block of 100 bytes is left: all MEMBs share four pools of 16 blocks, of 12, 28, 60 and "
-                                  "124 bytes; free one before this memb_alloc")),
-    "long_frame": (1, "", greedy(0, "a frame of 128 bytes can't be sent: frames have 1 to 127")),
-    "event_numbers": (1, "", greedy(116, "more than 115 event numbers: programs have 140 to 254; use one for several events")),
-    "kernel_event": (1, "", greedy(1, "event 136 belongs to the kernel, and can't be posted")),
-    "long_timer": (1, "", greedy(0, "a timer of 4294967296 ticks: the longest has 4294967295")),
-    "second_block": (1, "", greedy(1, "mmem_alloc for a struct mmem that has a block: free that one first")),
-    "no_block": (1, "", greedy(0, "mmem_free of a struct mmem that has no block")),
-    "switch_wait": (1, "", faulty("LINE (138)", 4, 0, "a protothread can't continue at line 15: it waited there inside a switch "
-                                  "(use if), or its struct pt was overwritten")),
-    "stack_etimer": (1, "", faulty("INIT (129)", 2, 1, "a struct etimer on the stack is set, and is lost at this wait: make it static",
-                                   "5 (Faulty)")),
-    "stack_ctimer": (1, "", at_init(1, "a struct ctimer on the stack is set, and is lost at this wait")),
-    "stack_mmem": (1, "", at_init(1, "a struct mmem on the stack has a block, which is lost at this wait")),
-    "busy_timer": (1, "", at_init(1, "timers were asked a million times without a wait: the clock stands still during an activation, "
-                                  "so use PROCESS_WAIT_EVENT_UNTIL")),
-    "starts_itself": (1, "", at_init(0, "process_start of Faulty, which ended itself and hasn't waited yet: start it after its next wait")),
-    "recursion": (-11, "", faulty("CONTINUE (133)", 3, 0, "a crash: the stack is full, as by endless recursion (SIGSEGV)")),
-    "undefined": (1, "", faulty("LINE (138)", 4, 1, "undefined behaviour: the sanitizer's report is below")),
-    "no_process": (1, "", at_init(0, "a process that PROCESS didn't declare")),
-    "late_block": (1, "", faulty("MSG (134)", 4, 1, "a block was freed during an activation of its owner, and stays allocated until "
-                                 "that continues", "4 (Freer)")),
-    "ends_caller": (1, "", faulty("MSG (134)", 3, 1, "process_exit of Caller, which is in an activation", "4 (Callee)")),
-}
-# Those that are no matter for the sanitizers.
+# Programs of tests/c/contiki/faults that are no matter for the sanitizers.
 PLAIN = ("null_pointer", "recursion", "stack_etimer", "stack_ctimer", "stack_mmem")
 OWN_EVENT = "event 255 belongs to the driver, and can't be posted"
 NO_FRAME = "a frame of 0 bytes can't be sent: frames have 1 to 127"
@@ -97,13 +48,14 @@ STOPPED = {
 
 def test_each_fault_is_tried() -> None:
     """The table has each source there."""
-    assert sorted(FAULTS) == sorted(path.stem for path in (SOURCES / "faults").glob("*.c"))
+    assert sorted(row[0] for row in table("contiki_faults")) == sorted(path.stem for path in (SOURCES / "faults").glob("*.c"))
 
 
-@pytest.mark.parametrize("name", FAULTS)
-def test_fault(contiki: Contiki, name: str) -> None:
+# A program of tests/c/contiki/faults, its status, what of the sanitizer's report stands first, as a pattern, where it is stopped, and why.
+@pytest.mark.parametrize(("name", "status", "report", "at", "why"), [pytest.param(*row, id=row[0]) for row in table("contiki_faults")])
+def test_fault(contiki: Contiki, name: str, status: int, report: str, at: list[Any], why: str) -> None:
     """A program that is stopped says why, and its transcript up to there is written."""
-    status, report, what = FAULTS[name]
+    what = (place(*at) if at else "") + why
     ran = run(contiki.build(SOURCES / f"faults/{name}.c", "gcc", *([] if name in PLAIN else ["--sanitize"])), stdin=SCRIPT)
     assert ran.returncode == status and re.search(f"{report}(?s:.*){re.escape(what)}", ran.stderr.decode()), told(ran)
     assert report or ran.stderr.decode().startswith(what), told(ran)

@@ -17,7 +17,7 @@ import pytest
 from contiki_programs import SOURCES, STRICT, Contiki, outcome, program_of
 from test_contiki import random_lists
 from test_network_random import APPLICATIONS, drawn_input, drawn_loss
-from tools import EXAMPLES, Completed, Word, run, told
+from tools import EXAMPLES, Completed, Word, run, table, told
 
 NETWORKS = EXAMPLES / "contiki/networks"
 OWN = SOURCES / "networks"
@@ -60,7 +60,6 @@ def runner(contiki: Contiki, tmp_path: Path) -> Runner:
 
 # ---- Examples ----
 
-
 @pytest.mark.parametrize("words", COPIES, ids=["swapped", "copies"])
 @pytest.mark.parametrize("network", WORKED, ids=lambda network: str(network.stem))
 def test_example(contiki: Contiki, sanitizing_compiler: str, network: Path, words: list[str]) -> None:
@@ -90,7 +89,6 @@ def test_a_hundred_motes(runner: Runner) -> None:
 
 
 # ---- Static data, names and numbers of motes ----
-
 
 @pytest.mark.parametrize("words", [*COPIES, ["-fcommon", "-fdata-sections"]], ids=["swapped", "copies", "other sections"])
 def test_static_data(runner: Runner, words: list[str]) -> None:
@@ -199,7 +197,6 @@ def test_longest_frame(runner: Runner, letter: str, header: int, most: int) -> N
 
 # ---- Against the program network, and against each mote alone ----
 
-
 def drawn_script(seed: int) -> tuple[str, list[str], str]:
     """A network of applications of mote with {} after each name, their names, and inputs."""
     rng = random.Random(f"contiki {seed}")
@@ -254,7 +251,6 @@ def test_random_lists(contiki: Contiki, runner: Runner, seed: int) -> None:
 
 # ---- What is shown ----
 
-
 def test_parts_of_the_transcript(contiki: Contiki) -> None:
     """--quiet has the turns that print or send and the frames that were sent, --only the lines of one mote, --text what is printed."""
     network = NETWORKS / "flooding.net"
@@ -283,38 +279,10 @@ def test_text_of_begun_lines(runner: Runner, tmp_path: Path) -> None:
 # ---- Malformed lines, and what is refused ----
 
 HELLO = EXAMPLES / "contiki/hello-world.c"
-NO_MOTE = "malformed: there is no such mote"
-NO_SOURCE = "malformed: a mote's words are the names of sources among the arguments, as `client.c`"
-NO_SIZES = "malformed: no mote has these sizes"
-ONE_SPACE = "malformed: one space separates words"
-NEXT = "malformed: as `mote 3 client.c` or `mote 3..5 client.c`, where the last mote before was 2"
-AS_LINK = "malformed: as `link 1 2 delay 3`, `link 1 2 delay 3 every 2` or `link 1 2 delay 3 lot 655 seed 1`"
-AS_SHAPE = "malformed: as `line 1..3 delay 2` or `grid 1..6 width 3 delay 2`; a ring has at least three motes"
-AS_NUMBER = "malformed: as `room 8` or `rounds 900`"
-OPTIONS = "malformed: options are --mmem N, --heap N, --quota N and --header N"
-FIRST_LINES = "malformed: it sets up motes, links, line, ring, mesh, grid, room or rounds; inputs are in the script"
 TWO_MOTES = "mote 1..2 hello-world.c\n"
 MALFORMED = {
-    "mote 1\n": NO_SOURCE, "mote 1 none.c\n": NO_SOURCE, "mote 1 hello-world\n": NO_SOURCE,
-    "mote 1  hello-world.c\n": ONE_SPACE, "mote 1 hello-world.c \n": ONE_SPACE,
-    "mote 2 hello-world.c\n": NEXT, "mote 0 hello-world.c\n": NEXT, "mote x hello-world.c\n": NEXT, "mote 1..0 hello-world.c\n": NEXT,
-    "mote 1.. hello-world.c\n": NEXT, "mote\n": NEXT, TWO_MOTES + "mote 2 hello-world.c\n": NEXT, "mote 01 hello-world.c\n": NEXT,
-    "mote 1..65536 hello-world.c\n": "malformed: a network of programs in C has at most 65,535 motes",
-    "mote 1 hello-world.c --mmem\n": OPTIONS, "mote 1 hello-world.c --size 4\n": OPTIONS, "mote 1 hello-world.c --mmem 4x\n": OPTIONS,
-    "mote 1 hello-world.c --mmem 5\n": NO_SIZES, "mote 1 hello-world.c --quota 4100\n": NO_SIZES,
-    TWO_MOTES + "link 1 3 delay 1\n": NO_MOTE, TWO_MOTES + "link 0 1 delay 1\n": NO_MOTE, TWO_MOTES + "mesh 1..3 delay 1\n": NO_MOTE,
-    TWO_MOTES + "line 2..3 delay 1\n": NO_MOTE, TWO_MOTES + "grid 1..3 width 1 delay 1\n": NO_MOTE,
-    TWO_MOTES + "link 1 2 delay 0\n": AS_LINK, TWO_MOTES + "link 1 2\n": AS_LINK, TWO_MOTES + "link 1 2 delay 1 every 0\n": AS_LINK,
-    TWO_MOTES + "link 1 2 delay 1 every\n": AS_LINK, TWO_MOTES + "link 1 2 delay 1 lot 65537 seed 1\n": AS_LINK,
-    TWO_MOTES + "link 1 2 delay 1 lot 5\n": AS_LINK, TWO_MOTES + "link 1 2 delay 1 lot 5 seed 1 2\n": AS_LINK,
-    TWO_MOTES + "link 1 2 delay 1 every 2 every 3\n": AS_LINK, TWO_MOTES + "link 1 2 delay 4294967296\n": AS_LINK,
-    TWO_MOTES + "ring 1..2 delay 1\n": AS_SHAPE, TWO_MOTES + "grid 1..2 delay 1\n": AS_SHAPE,
-    TWO_MOTES + "grid 1..2 width 0 delay 1\n": AS_SHAPE, TWO_MOTES + "line 2..1 delay 1\n": AS_SHAPE,
-    "room\n": AS_NUMBER, "room 5 6\n": AS_NUMBER, "rounds many\n": AS_NUMBER,
-    "tick 5\n": FIRST_LINES, TWO_MOTES + "1 serial 61\n": FIRST_LINES, "\n# nothing\nwalk\n": FIRST_LINES,
-    "#" + "x" * 1024 + "\n": "malformed: it has more than 1,024 bytes", "room 5\0\n": "malformed: it has a byte 0",
-    "\ufeffroom 5\n": "malformed: it begins with a byte order mark: save the file without one",
-    "# \r\nroom 5\r\n": "malformed: it ends with byte 13, as on Windows: save the file with line ends of byte 10 alone",
+    "#" + "x" * 1024 + "\n": "it has more than 1,024 bytes",
+    **{setup: why for why, setups in table("contiki_network_malformed").items() for setup in setups},
 }
 
 
@@ -322,15 +290,15 @@ MALFORMED = {
 def test_malformed_setup(runner: Runner, setup: str) -> None:
     """The run ends at a malformed line of the first file, before any mote is started. A line after it doesn't count."""
     ran = runner(setup + "frob\n", [HELLO], "tick 1\n")
-    number = setup.count("\n")
-    name = runner.folder / "network.net"
-    assert outcome(ran) == (2, f"bad line {number}\n", f"contiki: line {number} of {name} is {MALFORMED[setup]}\n")
+    number, why = setup.count("\n"), f"malformed: {MALFORMED[setup]}".removesuffix(": ")
+    assert outcome(ran) == (2, f"bad line {number}\n", f"contiki: line {number} of {runner.folder / 'network.net'} is {why}\n")
 
 
 def test_quotas_of_processes(runner: Runner) -> None:
     """Quotas that are too many with a program's processes are known when that is compiled: after all lines."""
     ran = runner(TWO_MOTES + "mote 3 hello-world.c --quota 4096\nmote 4 hello-world.c\n", [HELLO], "")
-    assert outcome(ran) == (2, "bad line 2\n", f"contiki: line 2 of {runner.folder / 'network.net'} is {NO_SIZES}\n")
+    why = f"contiki: line 2 of {runner.folder / 'network.net'} is malformed: no mote has these sizes\n"
+    assert outcome(ran) == (2, "bad line 2\n", why)
 
 
 @pytest.mark.parametrize("line", ["frob", "tick", "tick 07", "tick 1 2", "1 tick 5", "serial 61", "3 serial 61", "0 serial 61", "1 serial",

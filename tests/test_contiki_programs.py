@@ -55,7 +55,6 @@ def test_program(contiki: Contiki, compiler: str, name: str) -> None:
 
 # ---- Unit tests ----
 
-
 @pytest.mark.parametrize(("script", "text", "why"), [
     (b"tick 128\n", True, "checked.c:42: the unit test 'Failure' failed\ncontiki: 1 of 2 unit tests failed\n"),
     (b"", False, "contiki: no unit test was run\n"),
@@ -79,7 +78,6 @@ def test_unit_tests_that_succeed(contiki: Contiki, is_terminal: bool) -> None:
 
 
 # ---- Misuse, assertions, timers ----
-
 
 def test_posted_local(contiki: Contiki, tmp_path: Path, sanitizing_compiler: str) -> None:
     """With --sanitize a posted pointer to a local variable that is gone is found, by default, and not where ASAN_OPTIONS says so."""
@@ -180,7 +178,6 @@ def test_table_of_missing_headers() -> None:
 
 
 # ---- Modules without a mote ----
-
 
 def test_modules_on_the_host(tmp_path: Path, sanitizing_compiler: str) -> None:
     """The modules in C alone beside plain models, and the unit tests, with no mote: with all warnings and under the sanitizers."""

@@ -13,10 +13,13 @@ import pytest
 
 from tools import CRATES, EXAMPLES, ROOT, Word, once, program, run, succeed
 
-SCRIPTS = sorted(EXAMPLES.glob("*.script"))
 NOTHING = Path("/dev/null")
+SMALL_NETWORK = ROOT / "tests/tables/small.net"
 MOST_GROWTHS = 50
-of_each_script = pytest.mark.parametrize("script", SCRIPTS, ids=lambda script: str(script.stem))
+# A program, its script, and its words: mote with the application that a sample is named after, and a network.
+RUNS = [*(pytest.param("mote", script, [script.stem], id=script.stem) for script in sorted(EXAMPLES.glob("*.script"))),
+        pytest.param("network", SMALL_NETWORK, [], id="network")]
+of_each_run = pytest.mark.parametrize(("name", "script", "words"), RUNS)
 
 
 @dataclass
@@ -29,6 +32,10 @@ class Outcome:
     growths: int
     transfers: int
     wide: int
+
+    @property
+    def told(self) -> tuple[int, bytes, str]:
+        return self.status, self.stdout, self.stderr
 
 
 @dataclass
@@ -44,9 +51,6 @@ class Faults:
         growths, transfers, wide, live = map(int, self.counts.read_text(encoding="utf-8").split())
         assert live == 0, f"{kind} {number}: {live} blocks of memory are not given back"
         return Outcome(ran.returncode, ran.stdout, ran.stderr.decode(), growths, transfers, wide)
-
-    def sample(self, script: Path, kind: str = "REFUSE", number: int = 0) -> Outcome:
-        return self(script, kind, number, program("mote"), script.stem)
 
 
 @pytest.fixture
@@ -77,34 +81,42 @@ def test_each_call_lacks_memory(faults: Faults) -> None:
     pytest.fail("each growth is one of a call")
 
 
-@of_each_script
-def test_no_fault(faults: Faults, script: Path) -> None:
-    """Without a fault the transcript is written. A run asks for no memory: there are as many growths as without a script."""
-    ran = faults.sample(script)
-    assert (ran.status, ran.stdout, ran.stderr) == (0, script.with_suffix(".transcript").read_bytes(), "")
-    assert faults(NOTHING, "REFUSE", 0, program("mote"), script.stem).growths == ran.growths > 0
+@of_each_run
+def test_no_fault(faults: Faults, name: str, script: Path, words: list[str]) -> None:
+    """Without a fault the transcript is written. A run of mote asks for no memory: there are as many growths as without a script."""
+    ran = faults(script, "REFUSE", 0, program(name), *words)
+    assert (ran.status, ran.stderr) == (0, "") and ran.growths > 0
+    if name == "mote":
+        assert ran.stdout == script.with_suffix(".transcript").read_bytes()
+        assert faults(NOTHING, "REFUSE", 0, program(name), *words).growths == ran.growths
 
 
-@of_each_script
-def test_refused_growths(faults: Faults, script: Path) -> None:
-    """Where memory is refused, nothing is written."""
-    for number in range(1, faults.sample(script).growths + 1):
-        ran = faults.sample(script, "REFUSE", number)
-        assert (ran.status, ran.stdout, ran.stderr) == (70, b"", "mote: out of memory\n"), f"growth {number}"
+@of_each_run
+def test_refused_growths(faults: Faults, name: str, script: Path, words: list[str]) -> None:
+    """Where memory is refused, nothing is written. In a network one list, of the motes' moments, asks once more, for less, and then all
+    goes on."""
+    whole = faults(script, "REFUSE", 0, program(name), *words)
+    ran = [faults(script, "REFUSE", number, program(name), *words).told for number in range(1, whole.growths + 1)]
+    assert ran.count(whole.told) <= (name == "network")
+    assert [it for it in ran if it not in ((70, b"", f"{name}: out of memory\n"), whole.told)] == []
 
 
-@of_each_script
-def test_failing_transfers(faults: Faults, script: Path) -> None:
+@of_each_run
+def test_failing_transfers(faults: Faults, name: str, script: Path, words: list[str]) -> None:
     """Where a read or a write fails, that is reported, and the output is the transcript's beginning."""
-    for number in range(1, faults.sample(script).transfers + 1):
-        ran = faults.sample(script, "FAIL", number)
-        assert (ran.status, ran.stderr) in ((5, "mote: read failed\n"), (6, "mote: write failed\n")), f"read or write {number}"
-        assert script.with_suffix(".transcript").read_bytes().startswith(ran.stdout), f"read or write {number}"
+    whole = faults(script, "REFUSE", 0, program(name), *words)
+    statuses = set()
+    for number in range(1, whole.transfers + 1):
+        ran = faults(script, "FAIL", number, program(name), *words)
+        assert (ran.status, ran.stderr) in ((5, f"{name}: read failed\n"), (6, f"{name}: write failed\n")), f"read or write {number}"
+        assert whole.stdout.startswith(ran.stdout), f"read or write {number}"
+        statuses.add(ran.status)
+    assert statuses == {5, 6}
 
 
-@of_each_script
-def test_cut_transfers(faults: Faults, script: Path) -> None:
+@of_each_run
+def test_cut_transfers(faults: Faults, name: str, script: Path, words: list[str]) -> None:
     """Where each read or write moves a single byte, nothing changes."""
-    for number in range(1, faults.sample(script).wide + 1):
-        ran = faults.sample(script, "CUT", number)
-        assert (ran.status, ran.stdout, ran.stderr) == (0, script.with_suffix(".transcript").read_bytes(), ""), f"cut {number}"
+    whole = faults(script, "REFUSE", 0, program(name), *words)
+    for number in range(1, whole.wide + 1):
+        assert faults(script, "CUT", number, program(name), *words).told == whole.told, f"cut {number}"

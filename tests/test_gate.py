@@ -252,6 +252,7 @@ def test_packages(room: Path, have: str, apt: str, by: tuple[str, ...], status: 
 @as_root
 def test_all_packages(room: Path) -> None:
     """Without a name all are wanted."""
-    ran = run(room / "packages", settings={"PATH": f"{room}:{os.environ['PATH']}", "HAVE": "", "APT": "fails", "ASKED": str(room / "asked")})
+    settings = {"PATH": f"{room}:{os.environ['PATH']}", "HAVE": "", "APT": "fails", "ASKED": str(room / "asked")}
+    ran = run(room / "packages", settings=settings)
     wanted = {"chromium", "clang", "flake8", "gdb", "lintian", "make", "mypy", "shellcheck", *ALWAYS.split()}
     assert wanted <= set(ran.stderr.decode().partition("installing ")[2].split())

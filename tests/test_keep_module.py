@@ -2,18 +2,14 @@
 from __future__ import annotations
 
 import shutil
-import sys
 from concurrent.futures import ThreadPoolExecutor
 from pathlib import Path
 
 import pytest
 
-ROOT = Path(__file__).resolve().parent.parent
-sys.path.insert(0, str(ROOT / "scripts"))
-
-from retarget.keep_module import keep_module  # noqa: E402
-from retarget.refusal import Refused  # noqa: E402
-from sources import Sources  # noqa: E402
+from retarget.keep_module import keep_module
+from retarget.refusal import Refused
+from sources import Sources
 
 # `rt lib` has clang compile modules in a folder of its own, as rattle does: the files of the folder `modules` in the work that was kept.
 # The archive is what clang made of the last one. In the same place are what it says and its status.

@@ -6,7 +6,6 @@ from __future__ import annotations
 
 import os
 import random
-import shutil
 import signal
 import subprocess
 import time
@@ -18,14 +17,11 @@ from small_tree import WITHOUT_RT, Tree, wait_until
 from tools import AS_NOBODY, can_be_nobody, needs, run
 
 SCRIPT = random.Random(1).randbytes(100_000)
-ENDED = "checked: ended status={0}\nrun=ended status={0} runners=1 proved=no\n"
 WINDOWS = b"# one\r\n\ntick 1\r\n"
-MARKED = b"\xef\xbb\xbftick 1\n"
 REMARK = b"# one\r\ntick 1\n"
 
 
 # ---- An unproved run ----
-
 
 def test_unproved_run(tree: Tree) -> None:
     """Arguments, input and output are passed on, and it is reported that the run is unproved."""
@@ -35,7 +31,6 @@ def test_unproved_run(tree: Tree) -> None:
 
 
 def test_unproved_picture(tree: Tree) -> None:
-    """So it is for another program."""
     (tree.root / "crates/mote_picture").mkdir()
     tree.run("mote-picture", "--page", "a b", stdin=SCRIPT)
     assert tree.is_unproved() and tree.ran.stdout == b"words --page a b\n" + SCRIPT
@@ -54,32 +49,29 @@ def test_silence_on_input(tree: Tree) -> None:
 @pytest.mark.parametrize("status", [0, 2, 3, 4, 5, 6, 64, 70])
 def test_status(tree: Tree, status: int) -> None:
     """The program's status and standard error are passed on, and nothing of rt's."""
-    tree.run("mote", STATUS=str(status), SAYS="rt: a hint\nmote: told\n" + ENDED.format(status))
+    ended = f"rt: a hint\nmote: told\nchecked: ended status={status}\nrun=ended status={status} runners=1 proved=no\n"
+    tree.run("mote", STATUS=str(status), SAYS=ended)
     assert (tree.ran.returncode, tree.stderr.splitlines()[1:]) == (status, ["mote: told"])
 
 
-@pytest.mark.parametrize("status", range(1, 7))
-def test_status_of_rt(tree: Tree, status: int) -> None:
-    """A status of rt's own is none of the program's."""
-    tree.run("mote", STATUS=str(status), SAYS="error: refused\nrun=none proved=no\n")
-    assert tree.ran.returncode == 125 and "error: refused\n" in tree.stderr
+@pytest.mark.parametrize(("says", "status", "told"), [
+    *(("error: refused\nrun=none proved=no", str(status), ["error: refused", "run=none proved=no",
+                                                           f"mote: rt try gave no answer, and ended with status {status}"])
+      for status in range(1, 7)),
+    ("| tail\nchecked: no-answer: the program did not end within the time limit\nrun=no-answer proved=no", "6",
+     ["mote: the program did not end within the time limit: an unproved run has 1 MiB of output and 60 seconds; "
+      "what ./prove builds has no limit"]),
+    ("checked: no-answer: a fault\nrun=no-answer proved=no", "6", ["mote: rt try gave no answer, and ended with status 6"]),
+])
+def test_no_answer(tree: Tree, says: str, status: str, told: list[str]) -> None:
+    """Where rt has no result, its own status is none of the program's, and the reason is reported."""
+    tree.run("mote", STATUS=status, SAYS=f"{says}\n")
+    assert (tree.ran.returncode, tree.stderr.splitlines()[-len(told):]) == (125, told)
 
 
-@pytest.mark.parametrize(("says", "told"), [
-    ("| tail\nchecked: no-answer: the program did not end within the time limit\nrun=no-answer proved=no\n",
-     "mote: the program did not end within the time limit: an unproved run has 1 MiB of output and 60 seconds; "
-     "what ./prove builds has no limit"),
-    ("checked: no-answer: a fault\nrun=no-answer proved=no\n", "mote: rt try gave no answer, and ended with status 6"),
-], ids=["limit", "fault"])
-def test_no_answer(tree: Tree, says: str, told: str) -> None:
-    """The reason for no result is reported."""
-    tree.run("mote", STATUS="6", SAYS=says)
-    assert (tree.ran.returncode, tree.stderr.splitlines()[-1]) == (125, told)
-
-
-@pytest.mark.parametrize(("redirection", "status", "told"), [("<&-", 5, "mote: read failed\n"), ("</", 5, "mote: read failed\n"),
-                                                             ("</dev/null >/dev/full", 6, "mote: write failed\n")],
-                         ids=["closed", "folder", "full"])
+@pytest.mark.parametrize(("redirection", "status", "told"), [
+    ("<&-", 5, "mote: read failed\n"), ("</", 5, "mote: read failed\n"), ("</dev/null >/dev/full", 6, "mote: write failed\n"),
+], ids=["closed", "folder", "full"])
 def test_stream_that_fails(tree: Tree, redirection: str, status: int, told: str) -> None:
     """A stream that fails has the program's own status."""
     tree.shell(f"./mote {redirection}")
@@ -92,26 +84,21 @@ def test_word_that_is_no_text(tree: Tree) -> None:
     assert (tree.ran.returncode, tree.stderr) == (64, "mote: a word is not text\n")
 
 
-def test_no_temporary_folder(tree: Tree) -> None:
-    """A folder of temporary files that isn't there."""
-    folder = tree.room / "none"
-    tree.run("mote", TMPDIR=str(folder))
+@pytest.mark.parametrize("is_there", [False, True], ids=["none", "full"])
+def test_no_room_for_temporary_files(tree: Tree, is_there: bool) -> None:
+    """A folder of temporary files that isn't there, and one that is full. (A limit of each file's size stands for it.) Nothing is left."""
+    folder = tree.room / "temporary files"
+    if is_there:
+        folder.mkdir()
+    tree.shell(f"ulimit -f 8; head -c 100000 /dev/zero | TMPDIR='{folder}' ./mote")
     assert tree.ran.returncode == 125
     assert f"mote: an unproved run keeps its input and output in {folder}, which is full or can't be written" in tree.stderr
-
-
-def test_full_temporary_folder(tree: Tree) -> None:
-    """One that is full. (A limit of each file's size stands for it.) Nothing is left there."""
-    folder = tree.room / "full"
-    folder.mkdir()
-    tree.shell(f"ulimit -f 8; head -c 100000 /dev/zero | TMPDIR='{folder}' ./mote")
-    assert tree.ran.returncode == 125 and f"keeps its input and output in {folder}, which is full" in tree.stderr
-    assert not list(folder.iterdir())
+    assert not is_there or not list(folder.iterdir())
 
 
 @pytest.mark.parametrize(("text", "told"), [
-    (WINDOWS, "mote: line 3 ends with byte 13, as lines of Windows do"), (MARKED, "mote: line 1 begins with a byte order mark"),
-    (REMARK, ""),
+    (WINDOWS, "mote: line 3 ends with byte 13, as lines of Windows do"),
+    (b"\xef\xbb\xbftick 1\n", "mote: line 1 begins with a byte order mark"), (REMARK, ""),
 ], ids=["Windows", "mark", "remark"])
 @pytest.mark.parametrize("is_file", [True, False], ids=["file", "pipe"])
 def test_lines_of_windows(tree: Tree, text: bytes, told: str, is_file: bool) -> None:
@@ -123,22 +110,19 @@ def test_lines_of_windows(tree: Tree, text: bytes, told: str, is_file: bool) -> 
 
 
 def test_files_of_windows(tree: Tree) -> None:
-    for name, text in (("windows", WINDOWS), ("remark", REMARK), ("marked", MARKED)):
+    for name, text in (("windows", WINDOWS), ("remark", REMARK), ("marked", b"\xef\xbb\xbftick 1\n")):
         (tree.room / name).write_bytes(text)
     tree.run("scenario", "windows", "remark", "marked", cwd=tree.room)
-    assert "scenario: windows: line 3 ends with byte 13" in tree.stderr
+    assert "scenario: windows: line 3 ends with byte 13" in tree.stderr and "scenario: remark" not in tree.stderr
     assert "scenario: marked: line 1 begins with a byte order mark" in tree.stderr
 
 
-def group_goes_on(group: int) -> bool:
-    return run("pgrep", "--session", group).returncode == 0
-
-
 @needs("pgrep")
-@pytest.mark.parametrize("number", [signal.SIGINT, signal.SIGTERM, signal.SIGHUP], ids=["INT", "TERM", "HUP"])
+@pytest.mark.parametrize("number", [signal.SIGINT, signal.SIGTERM, signal.SIGHUP, signal.SIGKILL], ids=["INT", "TERM", "HUP", "KILL"])
 @pytest.mark.parametrize("is_silent", [False, True], ids=["running", "waiting"])
 def test_signal(tree: Tree, number: signal.Signals, is_silent: bool) -> None:
-    """An interrupt of an unproved run, and an end while it runs or waits for its input: nothing goes on, and no file is left."""
+    """An interrupt, and an end by force, of all of an unproved run, and an end of the script alone, while it runs or waits for its input:
+    nothing goes on, and no file is left."""
     folder = tree.room / "temporary"
     folder.mkdir()
     started = tree.start("mote", {"PAUSE": "300", "TMPDIR": str(folder)}, stdin=subprocess.PIPE if is_silent else subprocess.DEVNULL)
@@ -146,26 +130,11 @@ def test_signal(tree: Tree, number: signal.Signals, is_silent: bool) -> None:
     started.stderr.readline()
     time.sleep(0.4)
     assert not list(folder.iterdir())
-    if number == signal.SIGINT:
-        os.killpg(started.pid, number)
-    else:
-        started.send_signal(number)
-    assert started.wait(timeout=120) == 128 + number
+    is_of_all = number in (signal.SIGINT, signal.SIGKILL)
+    (os.killpg if is_of_all else os.kill)(started.pid, number)
+    assert started.wait(timeout=120) == (-number if number == signal.SIGKILL else 128 + number)
     assert not list(folder.iterdir())
-    wait_until(lambda: not group_goes_on(started.pid))
-
-
-def test_killed_run_leaves_no_file(tree: Tree) -> None:
-    """What ends by force leaves no file."""
-    folder = tree.room / "temporary"
-    folder.mkdir()
-    started = tree.start("mote", {"PAUSE": "5", "TMPDIR": str(folder)})
-    assert started.stderr is not None
-    started.stderr.readline()
-    time.sleep(0.4)
-    os.killpg(started.pid, signal.SIGKILL)
-    started.wait()
-    assert not list(folder.iterdir())
+    wait_until(lambda: run("pgrep", "--session", started.pid).returncode != 0)
 
 
 @pytest.mark.parametrize("script", ["mote", "scenario", "prove"])
@@ -173,9 +142,6 @@ def test_no_rt(tree: Tree, script: str) -> None:
     """Where there is no rt, that is reported in one line."""
     tree.run(script, PATH=WITHOUT_RT)
     assert (tree.ran.returncode, tree.stderr.count("\n")) == (127, 1)
-
-
-# ---- Files ----
 
 
 def test_unproved_run_is_given_files(tree: Tree) -> None:
@@ -200,7 +166,6 @@ def test_unproved_run_writes_no_files(tree: Tree) -> None:
 
 # ---- A proved program ----
 
-
 def test_proved_run(proved_tree: Tree) -> None:
     """A proved program runs with no rt too."""
     proved_tree.run("mote", "a", "b c", stdin=SCRIPT, PATH=WITHOUT_RT)
@@ -209,19 +174,15 @@ def test_proved_run(proved_tree: Tree) -> None:
 
 def test_lines_of_windows_proved(proved_tree: Tree) -> None:
     """Lines as on Windows are reported if standard input is a file, from its beginning."""
-    file = proved_tree.room / "script"
-    file.write_bytes(WINDOWS)
-    proved_tree.run("mote", stdin=file)
+    files = {"windows": WINDOWS, "remark": REMARK}
+    for name, text in files.items():
+        (proved_tree.root / name).write_bytes(text)
     told = "mote: line 3 ends with byte 13, as lines of Windows do; here a line ends with byte 10 only\n"
-    assert (proved_tree.ran.returncode, proved_tree.ran.stdout, proved_tree.stderr) == (3, b"proved \n" + WINDOWS, told)
-    file.write_bytes(REMARK)
-    proved_tree.run("mote", stdin=file)
-    assert proved_tree.is_proved("")
-    proved_tree.shell(f"{{ read -r _; read -r _; ./mote; }} <'{shutil.copy(file, proved_tree.room / 'other')}'")
-    assert proved_tree.is_proved("") and proved_tree.ran.stdout == b"proved \n"
-    file.write_bytes(WINDOWS)
-    proved_tree.shell(f"{{ read -r _; read -r _; ./mote; }} <'{file}'")
-    assert proved_tree.is_proved("") and proved_tree.ran.stdout == b"proved \ntick 1\r\n"
+    rest = "{ read -r _; read -r _; ./mote; } <"
+    for command, stdout, stderr in (("./mote <windows", WINDOWS, told), ("./mote <remark", REMARK, ""), (f"{rest}remark", b"", ""),
+                                    (f"{rest}windows", b"tick 1\r\n", "")):
+        ran = proved_tree.shell(command)
+        assert (ran.returncode, ran.stdout, proved_tree.stderr) == (3, b"proved \n" + stdout, stderr), command
 
 
 @pytest.mark.parametrize(("script", "first"), [("mote", "proved "), ("scenario", "words "), ("mote-picture", "words ")])
@@ -233,70 +194,27 @@ def test_script_by_a_link(proved_tree: Tree, script: str, first: str) -> None:
 
 
 def test_touched_source(proved_tree: Tree) -> None:
-    """The program counts as proved while its sources are as they were: by times, and by hashes where these are newer."""
+    """Where times are newer, hashes are compared, and the mark gets the time of that."""
     proved_tree.source("low").touch()
-    proved_tree.mote()
-    assert proved_tree.is_proved("")
-    mark = proved_tree.crate("mote") / "out/proved"
-    assert mark.stat().st_mtime_ns > proved_tree.source("low").stat().st_mtime_ns
-    proved_tree.edit("low")
-    proved_tree.mote()
-    assert proved_tree.is_unproved()
-    proved_tree.take_back("low")
-    proved_tree.mote()
-    assert proved_tree.is_proved("")
+    assert proved_tree.runs_proved()
+    assert (proved_tree.crate("mote") / "out/proved").stat().st_mtime_ns > proved_tree.source("low").stat().st_mtime_ns
 
 
-def test_added_source(proved_tree: Tree) -> None:
-    other = proved_tree.crate("low") / "src/other.rt"
-    other.touch()
-    proved_tree.mote()
-    assert proved_tree.is_unproved()
-    other.unlink()
-    proved_tree.mote()
-    assert proved_tree.is_proved("")
-
-
-def test_edited_proof(tree: Tree) -> None:
-    """Definitions and proofs are sources, too."""
-    for part in ("specs", "proofs"):
-        (tree.crate("low") / part).mkdir()
-        (tree.crate("low") / part / "Lib.antt").touch()
-    tree.run("prove")
-    proof = tree.crate("low") / "proofs/Lib.antt"
-    proof.write_text("-- more\n", encoding="utf-8")
-    tree.mote()
-    assert tree.is_unproved()
-    proof.write_text("", encoding="utf-8")
-    tree.mote()
-    assert tree.is_proved("")
-    shutil.rmtree(tree.crate("low") / "specs")
-    tree.mote()
-    assert tree.is_unproved()
-
-
-@pytest.mark.parametrize(("before", "after"), [("high beside", "high beside low"), ("high: low", "high: low beside")],
-                         ids=["mote", "below"])
-def test_other_list(proved_tree: Tree, before: str, after: str) -> None:
-    """What crates.txt says of the crates below is a source."""
-    crates = proved_tree.root / "crates.txt"
-    crates.write_text(crates.read_text(encoding="utf-8").replace(before, after), encoding="utf-8")
-    proved_tree.mote()
-    assert proved_tree.is_unproved()
-
-
-def test_other_program(proved_tree: Tree) -> None:
-    """A program that was not built then isn't proved, and neither is one that is gone."""
-    text = proved_tree.program.read_text(encoding="utf-8")
-    proved_tree.program.write_text(text.replace("3", "0"), encoding="utf-8")
-    proved_tree.mote()
-    assert proved_tree.is_unproved()
-    proved_tree.program.unlink()
-    proved_tree.mote()
-    assert proved_tree.is_unproved()
-
-
-# ---- A tree of another user's ----
+@pytest.mark.parametrize(("change", "undo"), [
+    ("echo more >>crates/low/src/lib.rt", "sed -i '$d' crates/low/src/lib.rt"),
+    ("touch crates/low/src/other.rt", "rm crates/low/src/other.rt"),
+    ("echo more >>crates/low/specs/Lib.antt", ": >crates/low/specs/Lib.antt"),
+    ("echo more >>crates/low/proofs/Lib.antt", ": >crates/low/proofs/Lib.antt"),
+    ("mv crates/low/specs aside", "mv aside crates/low/specs"),
+    ("sed -i 's/high beside/high beside low/' crates.txt", "sed -i 's/high beside low/high beside/' crates.txt"),
+    ("sed -i 's/high: low/high: low beside/' crates.txt", "sed -i 's/high: low beside/high: low/' crates.txt"),
+    ("sed -i s/3/0/ crates/mote/out/mote", "sed -i s/0/3/ crates/mote/out/mote"),
+    ("mv crates/mote/out/mote aside", "mv aside crates/mote/out/mote"),
+])
+def test_changes(proved_tree: Tree, change: str, undo: str) -> None:
+    """The program counts as proved while the sources, with what crates.txt says of them, and itself are as they were."""
+    assert proved_tree.shell(change).returncode == 0 and proved_tree.runs_unproved()
+    assert proved_tree.shell(undo).returncode == 0 and proved_tree.runs_proved()
 
 
 @pytest.mark.skipif(not can_be_nobody(), reason="no command can be begun as nobody, who can write to /dev/null")
@@ -308,20 +226,18 @@ def test_tree_of_another(proved_tree: Tree) -> None:
         if folder.stat().st_mode & 0o001 == 0:
             folder.chmod(folder.stat().st_mode | 0o011)
 
-    def as_another(script: str, *words: str) -> None:
-        tree.ran = run(*AS_NOBODY, tree.root / script, *words, cwd=Path("/"),
-                       settings=tree.settings(PATH=f"{tree.bin}:/usr/local/bin:/usr/bin:/bin"))
+    def as_another(script: str, *words: str) -> tuple[int, str]:
+        settings = tree.settings(PATH=f"{tree.bin}:/usr/local/bin:/usr/bin:/bin")
+        tree.ran = run(*AS_NOBODY, tree.root / script, *words, cwd=Path("/"), settings=settings)
+        return tree.ran.returncode, tree.stderr
+
     tree.source("low").touch()
-    as_another("prove", "--is-current")
-    assert tree.ran.returncode == 0, tree.stderr
+    assert as_another("prove", "--is-current") == (0, "")
     as_another("mote", "a")
     assert tree.is_proved("a")
-    as_another("prove")
-    lock = f"{tree.root}/.git/rt-ci.lock"
-    assert (tree.ran.returncode, tree.stderr) == (1, f"prove: proofs are kept in this repository, and it can't be written: {lock}\n")
+    assert as_another("prove") == (1, tree.cannot_be_written)
     tree.edit("low")
     as_another("mote")
     assert tree.is_unproved()
     tree.source("low").chmod(0o600)
-    as_another("prove", "--is-current")
-    assert (tree.ran.returncode, tree.stderr) == (1, f"prove: [Errno 13] Permission denied: '{tree.source('low')}'\n")
+    assert as_another("prove", "--is-current") == (1, f"prove: [Errno 13] Permission denied: '{tree.source('low')}'\n")

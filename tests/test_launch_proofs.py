@@ -39,14 +39,12 @@ def test_all_is_taken(tree: Tree) -> None:
     """What `rt ci` proved is taken as proved, until a source is edited."""
     assert prove_all(tree)[-2:] == takes(3, 2) and tree.ran.returncode == 0
     assert built(tree) == ["beside", "low", "high"]
-    tree.mote()
-    assert tree.is_proved("")
+    assert tree.runs_proved()
     assert tree.run("prove", "--is-current", "scenario").returncode == 0
     assert tree.run("prove", "--is-current", "toarmuts").returncode == 1
     assert prove_all(tree)[-2:] == takes(0, 2) and built(tree) == ["beside", "low", "high"]
     tree.edit("low")
-    tree.mote()
-    assert tree.is_unproved() and built(tree) == ["beside"]
+    assert tree.runs_unproved() and built(tree) == ["beside"]
     # What is left of other sources doesn't come in the place of what was proved.
     shutil.rmtree(tree.crate("beside") / "out")
     assert prove_all(tree)[-2:] == takes(3, 2)

@@ -8,7 +8,6 @@ import signal
 import subprocess
 import threading
 import time
-from typing import Iterator
 
 import pytest
 
@@ -17,6 +16,7 @@ from small_tree import WITHOUT_RT, Tree, wait_until
 from tools import needs, run, told, write_program
 
 ALL = ["low", "high", "beside", "mote"]
+TOP = "c 10  # beside others\nd 10\nb 100\n"
 
 
 def test_prove(tree: Tree) -> None:
@@ -30,9 +30,6 @@ def test_prove(tree: Tree) -> None:
     stamp.touch()
     tree.run("prove", KIT="another stub")
     assert tree.begun() == ALL * 2 and not stamp.exists()
-
-
-TOP = "c 10  # beside others\nd 10\nb 100\n"
 
 
 @pytest.mark.parametrize(("begun", "most", "crates", "seconds"), [
@@ -56,8 +53,7 @@ def test_schedule(begun: str, most: int, crates: str, seconds: str) -> None:
 
 def test_what_is_under_way_is_told(tree: Tree) -> None:
     """The running checks are reported at each pause, and at the end nothing is nice."""
-    times = tree.root / "scripts/prove-times"
-    times.write_text(times.read_text(encoding="utf-8").replace("high 40", "high 400"), encoding="utf-8")
+    tree.shell("sed -i 's/high 40/high 400/' scripts/prove-times")
     tree.run("prove", "--tell", "0.3", RT_JOBS="4", PAUSE="3", LONG="beside")
     assert tree.ran.returncode == 0 and tree.stderr.count("2 of 4 crates are left, proving beside (0:0") >= 2, tree.stderr
     niceness = tree.began.with_name("begun.beside").read_text(encoding="utf-8").strip()
@@ -66,36 +62,27 @@ def test_what_is_under_way_is_told(tree: Tree) -> None:
 
 # ---- What fails ----
 
-
-def test_failure(proved_tree: Tree) -> None:
-    """Of a crate that fails, as on a full disk, the program of before and what was kept stay."""
+@pytest.mark.parametrize("is_at_end", [False, True])
+def test_full_disk(proved_tree: Tree, is_at_end: bool) -> None:
+    """Of a crate that fails, as on a full disk, while it is proved or as its program is put in its place, the program of before and what
+    was kept stay."""
     tree = proved_tree
     before = tree.program.read_bytes()
     tree.edit("high")
-    tree.run("prove", FAILS="mote")
-    assert tree.ran.returncode == 1 and "no space left on device" in tree.stderr and "prove: mote isn't proved and built" in tree.stderr
+    if is_at_end:
+        tree.program.with_name("mote.new").symlink_to("/dev/full")
+    assert tree.run("prove", FAILS="" if is_at_end else "mote").returncode == 1
+    assert is_at_end or "no space left on device" in tree.stderr and "prove: mote isn't proved and built" in tree.stderr
     assert tree.program.read_bytes() == before and tree.is_clean()
     tree.take_back("high")
-    tree.mote()
-    assert tree.is_proved("")
-
-
-def test_full_disk_at_the_end(proved_tree: Tree) -> None:
-    tree = proved_tree
-    tree.edit("high")
-    tree.program.with_name("mote.new").symlink_to("/dev/full")
-    assert tree.run("prove").returncode == 1 and tree.is_clean()
-    tree.take_back("high")
-    tree.mote()
-    assert tree.is_proved("")
+    assert tree.runs_proved()
 
 
 def test_tree_that_cannot_be_written(tree: Tree) -> None:
     """A folder in the lock's place stands for such a tree."""
     (tree.root / ".git/rt-ci.lock").mkdir()
     tree.run("prove")
-    lock = f"{tree.root}/.git/rt-ci.lock"
-    assert (tree.ran.returncode, tree.stderr) == (1, f"prove: proofs are kept in this repository, and it can't be written: {lock}\n")
+    assert (tree.ran.returncode, tree.stderr) == (1, tree.cannot_be_written)
 
 
 def test_no_repository(tree: Tree) -> None:
@@ -108,12 +95,10 @@ def test_no_repository(tree: Tree) -> None:
     assert [path for path in left if path.suffix != ".lock"] == [tree.root / "prove"]
     words = tree.began.with_name("begun.words").read_text(encoding="utf-8").split()
     assert int(words[words.index("--jobs") + 1]) >= 1
-    tree.mote()
-    assert tree.is_proved("")
+    assert tree.runs_proved()
 
 
 # ---- Interrupts ----
-
 
 @pytest.mark.parametrize("number", [signal.SIGINT, signal.SIGTERM, signal.SIGHUP], ids=["INT", "TERM", "HUP"])
 def test_interrupt(tree: Tree, number: signal.Signals) -> None:
@@ -123,17 +108,13 @@ def test_interrupt(tree: Tree, number: signal.Signals) -> None:
     kept.write_text("before\n", encoding="utf-8")
     started = tree.begin_to_prove(PAUSE="300")
     begun = time.monotonic()
-    if number == signal.SIGINT:
-        os.killpg(started.pid, number)
-    else:
-        started.send_signal(number)
+    (os.killpg if number == signal.SIGINT else os.kill)(started.pid, number)
     while number == signal.SIGINT and started.poll() is None:
         started.send_signal(number)
         time.sleep(0.01)
     assert tree.end(started).returncode == 128 + number and time.monotonic() - begun < 120
     assert tree.is_clean() and tree.kept("low") == ["before", "low"]
-    if number == signal.SIGHUP:
-        assert tree.run("prove").returncode == 0
+    assert tree.run("prove").returncode == 0
 
 
 def test_hangup_below_nohup(tree: Tree) -> None:
@@ -172,17 +153,14 @@ def test_all_ended_by_force(tree: Tree) -> None:
 
 # ---- What is done meanwhile ----
 
-
 def test_edited_meanwhile(tree: Tree) -> None:
     """A file that is edited while it is proved counts as newer."""
     started = tree.begin_to_prove(PAUSE="3", LONG="low")
     tree.edit("low")
     tree.end(started)
-    tree.mote()
-    assert tree.is_unproved()
+    assert tree.runs_unproved()
     tree.take_back("low")
-    tree.mote()
-    assert tree.is_proved("")
+    assert tree.runs_proved()
 
 
 def test_kept_anew_meanwhile(tree: Tree) -> None:
@@ -205,29 +183,26 @@ def test_no_way_back(tree: Tree) -> None:
     assert tree.kept("low") == ["low", "low"] and tree.is_clean()
 
 
-@pytest.fixture
-def other_rt(tree: Tree) -> Iterator[threading.Thread]:
-    """Another rt works in the lowest crate for a while, and reports at the end that it did."""
-    folder = os.open(tree.crate("low"), os.O_RDONLY)
-    fcntl.flock(folder, fcntl.LOCK_EX)
+@pytest.mark.parametrize(("command", "place", "begun"), [
+    ("./prove", "crates/low", ALL), ("scripts/for-aarch64 toarmuts", ".git/rt-ci.lock", ["toarmuts"])])
+def test_another_rt(tree: Tree, command: str, place: str, begun: list[str]) -> None:
+    """A crate in which another rt works is waited for, and so is another ./prove or `rt ci`."""
+    assert tree.run("prove", "toarmuts").returncode == 0, tree.stderr
+    held = os.open(tree.root / place, os.O_RDONLY)
+    fcntl.flock(held, fcntl.LOCK_EX)
 
     def work() -> None:
-        time.sleep(1)
         tree.began.write_text("other\n", encoding="utf-8")
-        os.close(folder)
-    thread = threading.Thread(target=work)
-    thread.start()
-    yield thread
-    thread.join()
-
-
-def test_another_rt(tree: Tree, other_rt: threading.Thread) -> None:
-    """A crate in which another rt works is waited for."""
-    assert other_rt and tree.run("prove").returncode == 0
-    assert tree.begun() == ["other", *ALL]
+        os.close(held)
+    working = threading.Timer(1, work)
+    working.start()
+    tree.shell(command)
+    working.join()
+    assert tree.ran.returncode == 0 and tree.begun() == ["other", *begun], tree.stderr
 
 
 def test_two_at_once(tree: Tree) -> None:
+    """The second of two waits."""
     started = tree.begin_to_prove(PAUSE="1")
     second = tree.run("prove")
     assert second.returncode == 0 and b"waiting until it has ended" in second.stderr
@@ -236,21 +211,21 @@ def test_two_at_once(tree: Tree) -> None:
 
 # ---- Other programs, and libraries ----
 
+def is_current(tree: Tree, *names: str) -> bool:
+    return tree.run("prove", "--is-current", *names).returncode == 0
+
 
 def test_other_programs(tree: Tree) -> None:
     """A program is proved by its name alone, or together with mote."""
     assert tree.run("prove", "scenario").returncode == 0 and tree.begun() == ["low", "scenario"] and tree.is_clean()
     tree.run("scenario", "--write", "a.runs")
     assert tree.is_proved("--write", "a.runs")
-    assert tree.run("prove", "--is-current", "scenario").returncode == 0
-    assert tree.run("prove", "--is-current").returncode == 1
+    assert is_current(tree, "scenario") and not is_current(tree)
     tree.run("prove", "mote", "scenario")
     assert tree.ran.returncode == 0 and "crates/mote/out/mote" in tree.stderr and "crates/scenario/out/scenario" in tree.stderr
-    tree.mote()
-    assert tree.is_proved("")
+    assert tree.runs_proved()
     tree.edit("high")
-    tree.run("scenario")
-    assert tree.is_proved("")
+    assert tree.runs_proved("scenario")
 
 
 @pytest.mark.parametrize("word", ["nothing", "mote/", "./mote", "low", "high", "crates/mote", ""])
@@ -276,10 +251,9 @@ def test_libraries(tree: Tree) -> None:
     assert "toarmuts" in (out / "libtoarmuts.a").read_text(encoding="utf-8")
     # By its time make sees that it is new.
     assert (out / "libtoarmuts.a").stat().st_mtime_ns > (out / "proved").stat().st_mtime_ns
-    assert tree.run("prove", "--is-current", "toarmuts").returncode == 0
+    assert is_current(tree, "toarmuts")
     tree.edit("low")
-    assert tree.run("prove", "--is-current", "toarmuts").returncode == 1
-    assert tree.run("prove", "--is-current", "modules_c").returncode == 0
+    assert not is_current(tree, "toarmuts") and is_current(tree, "modules_c")
 
 
 class ForAarch64:
@@ -313,26 +287,10 @@ def test_for_aarch64(for_aarch64: ForAarch64) -> None:
     assert for_aarch64() == (0, ["toarmuts"]), tree.stderr
     assert for_aarch64.archive.read_bytes() == for_aarch64.before
     assert for_aarch64() == (0, [])
-    with for_aarch64.archive.open("a", encoding="utf-8") as opened:
-        opened.write("more\n")
+    tree.shell("echo more >>crates/toarmuts/out/aarch64/libtoarmuts.a")
     assert for_aarch64() == (0, ["toarmuts"])
-    mark = for_aarch64.archive.with_name("proved")
-    mark.write_text("\n".join([*mark.read_text(encoding="utf-8").splitlines()[:2], "another kit"]) + "\n", encoding="utf-8")
+    tree.shell("sed -i '3s/.*/another kit/' crates/toarmuts/out/aarch64/proved")
     assert for_aarch64() == (0, ["toarmuts"])
-
-
-def test_for_aarch64_waits(for_aarch64: ForAarch64) -> None:
-    """It waits for another ./prove or an `rt ci`."""
-    with open(for_aarch64.tree.root / ".git/rt-ci.lock", "a", encoding="utf-8") as lock:
-        fcntl.flock(lock, fcntl.LOCK_EX)
-
-        def work() -> None:
-            for_aarch64.tree.began.write_text("other\n", encoding="utf-8")
-            fcntl.flock(lock, fcntl.LOCK_UN)
-        thread = threading.Timer(0.5, work)
-        thread.start()
-        assert for_aarch64() == (0, ["other", "toarmuts"])
-        thread.join()
 
 
 def test_for_aarch64_fails(for_aarch64: ForAarch64) -> None:
@@ -351,18 +309,15 @@ def test_for_aarch64_fails(for_aarch64: ForAarch64) -> None:
 @needs("make")
 def test_make(tree: Tree) -> None:
     """A Makefile of the examples proves and builds the library where it isn't current, and builds the example where that is newer."""
-    folder = tree.root / "examples/c"
-
-    def make(**settings: str) -> None:
-        tree.ran = run("make", "-s", "-C", folder, "blink", "CC=cc", settings=tree.settings(**settings))
-    make()
-    assert tree.ran.returncode == 0 and b"fn" in (folder / "blink").read_bytes(), told(tree.ran)
-    before = (folder / "blink").stat().st_mtime_ns
-    make()
-    assert (folder / "blink").stat().st_mtime_ns == before and tree.stderr == ""
+    blink = tree.root / "examples/c/blink"
+    make = "make -s -C examples/c blink CC=cc"
+    assert tree.shell(make).returncode == 0 and b"fn" in blink.read_bytes(), tree.stderr
+    before = blink.stat().st_mtime_ns
+    tree.shell(make)
+    assert blink.stat().st_mtime_ns == before and tree.stderr == ""
     tree.edit("toarmuts", "// for c\n")
-    make()
-    assert b"for c" in (folder / "blink").read_bytes()
+    tree.shell(make)
+    assert b"for c" in blink.read_bytes()
     tree.edit("toarmuts")
-    make(PATH=WITHOUT_RT)
+    tree.shell(make, PATH=WITHOUT_RT)
     assert "there is no rt" in tree.stderr

@@ -82,7 +82,6 @@ def test_module_for_aarch64(modules_library: Path, shared: Path, tmp_path: Path,
 
 # ---- A source in Contiki-NG's own form ----
 
-
 @pytest.fixture(scope="module")
 def original(shared: Path) -> bytes:
     """What the source writes with plain stand-ins for the original's headers; the sanitizers see these too."""

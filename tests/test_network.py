@@ -9,15 +9,14 @@ from pathlib import Path
 
 import pytest
 
-import test_faults
-from tools import EXAMPLES, ROOT, Completed, program, run, succeed, told
+from test_faults import SMALL_NETWORK
+from tools import EXAMPLES, ROOT, cases, program, run, succeed, told
+from tools import with_stream as with_stream
 
 WORKED = [*sorted((ROOT / "tests/networks").glob("*.net")), *sorted((EXAMPLES / "networks").glob("*.net"))]
-LONGEST = 16_777_216
 RELAYED = ("{m} > frame {f}", "{m} 4 event 139 1 -> mmem-alloc 0 1", "{m} 4 answer done -> packet-read 0 1",
            "{m} 4 answer bytes {f} -> mmem-write 0 0 {f}", "{m} 4 answer done -> packet-send 0", "{m} note sent {f}",
            "{m} 4 answer done -> mmem-free 0", "{m} 4 answer done -> packet-done", "{m} 4 answer done -> wait")
-faults = test_faults.faults
 
 
 def transcript_of(script: str, *words: str, status: int = 0) -> list[str]:
@@ -35,7 +34,6 @@ def relayed(mote: int, frame: str) -> list[str]:
 
 
 # ---- Worked networks ----
-
 
 def how(script: Path) -> tuple[int, list[str]]:
     """The status of a worked network, and the arguments of its run."""
@@ -109,72 +107,11 @@ def test_plain_network(sanitizing_compiler: str) -> None:
 
 TWO = "mote 1..2 relay\n"
 HELLO = "1 4 synch 129 - -> print 68690a\n1 4 answer done -> wait\n"
-MALFORMED = {
-    "an unknown word": "walk 1..2 delay 1\n",
-    "a word with nothing after it": "mote\n",
-    "mote 0": "mote 0 relay\n",
-    "mote 2 first": "mote 2 relay\n",
-    "a mote again": "mote 1 relay\nmote 1 relay\n",
-    "a gap between motes": "mote 1 relay\nmote 3 relay\n",
-    "motes that go backwards": "mote 2..1 relay\n",
-    "a span with no end": "mote 1.. relay\n",
-    "a number with a zero in front": "mote 01 relay\n",
-    "a number that is too large": "mote 4294967296 relay\n",
-    "two blanks": "mote 1  relay\n",
-    "a blank at the end": "mote 1 relay \n",
-    "a carriage return": "mote 1 relay\r\n",
-    "no such application": "mote 1 relay nobody\n",
-    "seventeen applications": f"mote 1{' echo' * 17}\n",
-    "sixteen applications and a list of calls": f"mote 1{' echo' * 16} calls wait\n",
-    "a size that no mote has": "mote 1 relay --mmem 5\n",
-    "a size that is no number": "mote 1 relay --mmem x\n",
-    "an option without its size": "mote 1 relay --mmem\n",
-    "an option that no mote has": "mote 1 relay --rom 8\n",
-    "quotas that exceed managed memory": "mote 1 relay --mmem 8 --quota 8\n",
-    "a list of calls with a blank alone": "mote 1 calls \n",
-    "no such call": "mote 1 calls wait, jump\n",
-    "calls that no space parts": "mote 1 calls wait,wait\n",
-    "129 calls": "mote 1 calls 127 wait, wait, wait\n",
-    "a word that only begins as calls does": "mote 1 callsign\n",
-    "a link to nobody": "mote 1 relay\nlink 1 2 delay 1\n",
-    "a link from nobody": "mote 1 relay\nlink 0 1 delay 1\n",
-    "a link of a span": TWO + "link 1..2 1 delay 1\n",
-    "a link without a delay": TWO + "link 1 2\n",
-    "a delay of 0": TWO + "link 1 2 delay 0\n",
-    "a delay that is no number": TWO + "link 1 2 delay x\n",
-    "every 0th": TWO + "link 1 2 delay 1 every 0\n",
-    "every, without a number": TWO + "link 1 2 delay 1 every\n",
-    "a lot above 65536": TWO + "link 1 2 delay 1 lot 65537 seed 1\n",
-    "a lot without a seed": TWO + "link 1 2 delay 1 lot 5\n",
-    "a seed without a number": TWO + "link 1 2 delay 1 lot 5 seed\n",
-    "two rules": TWO + "link 1 2 delay 1 every 2 every 3\n",
-    "a line that goes backwards": TWO + "line 2..1 delay 1\n",
-    "a line beyond the last mote": TWO + "line 1..3 delay 1\n",
-    "a mesh beyond the last mote": TWO + "mesh 1..3 delay 1\n",
-    "a ring beyond the last mote": TWO + "ring 1..4 delay 1\n",
-    "a grid beyond the last mote": TWO + "grid 1..3 width 2 delay 1\n",
-    "a ring of two": TWO + "ring 1..2 delay 1\n",
-    "a grid without a width": TWO + "grid 1..2 delay 1\n",
-    "a grid of width 0": TWO + "grid 1..2 width 0 delay 1\n",
-    "a line with a width": TWO + "line 1..2 width 1 delay 1\n",
-    "a room without a number": "room\n",
-    "a room with two numbers": "room 5 6\n",
-    "rounds that are no number": "rounds many\n",
-    "a tick without a number": "tick\n",
-    "a tick that is too large": "tick 4294967296\n",
-    "a tick for one mote": TWO + "1 tick 5\n",
-    "a comment for one mote": TWO + "1 #\n",
-    "nothing for one mote": TWO + "1 \n",
-    "a frame of no bytes": TWO + "1 frame \n",
-    "a frame of 128 bytes": TWO + f"1 frame {'00' * 128}\n",
-    "a serial line of 257 bytes": TWO + f"1 serial {'00' * 257}\n",
-    "half a byte": TWO + "1 serial 610\n",
-    "an input for no mote": TWO + "serial 61\n",
-    "an input for two motes": TWO + "1..2 serial 61\n",
-}
+LONG = [pytest.param(f"{TWO}1 frame {'00' * 128}\n", id="a frame of 128 bytes"),
+        pytest.param(f"{TWO}1 serial {'00' * 257}\n", id="a serial line of 257 bytes")]
 
 
-@pytest.mark.parametrize("script", MALFORMED.values(), ids=MALFORMED)
+@pytest.mark.parametrize("script", [*cases("network_malformed"), *LONG])
 def test_malformed_setup(network: Path, script: str) -> None:
     """A malformed line before the first input, here the last one: nothing is executed, and no line after it counts."""
     number = script.count("\n")
@@ -209,7 +146,6 @@ def test_lines_that_do_nothing(network: Path) -> None:
 
 # ---- What is shown ----
 
-
 def test_quiet_and_only_are_parts_of_the_transcript() -> None:
     """A quiet transcript has the turns that print or send and the frames that were sent, and `--only` the lines of one mote."""
     script = "mote 1..3 relay ping\nline 1..3 delay 2 every 3\n2 frame 0a0b\ntick 40\n"
@@ -243,57 +179,12 @@ def test_only_at_the_end() -> None:
 
 # ---- Faults, limits, arguments ----
 
-SMALL = "mote 1 relay\nmote 2 hello calls wait, exit\nroom 4\nline 1..2 delay 1 lot 9 seed 9\n1 frame 0a0b\ntick 3\n2 serial 610a\n"
-
-
-@pytest.fixture
-def small(tmp_path: Path) -> Path:
-    file = tmp_path / "small.net"
-    file.write_text(SMALL, encoding="utf-8")
-    return file
-
-
-def test_refused_growths(network: Path, faults: test_faults.Faults, small: Path) -> None:
-    """Where memory is refused, nothing is written. One list, of the motes' moments, asks once more, for less, and then all goes on."""
-    whole = faults(small, "REFUSE", 0, network)
-    assert (whole.status, whole.stderr) == (0, "")
-    asks_again = 0
-    for number in range(1, whole.growths + 1):
-        ran = faults(small, "REFUSE", number, network)
-        if ran.status == 0:
-            assert (ran.stdout, ran.stderr) == (whole.stdout, ""), f"growth {number}"
-            asks_again += 1
-        else:
-            assert (ran.status, ran.stdout, ran.stderr) == (70, b"", "network: out of memory\n"), f"growth {number}"
-    assert asks_again <= 1
-
-
-def test_failing_transfers(network: Path, faults: test_faults.Faults, small: Path) -> None:
-    """Where a read or a write fails, that is reported, and the output is the transcript's beginning."""
-    whole = faults(small, "REFUSE", 0, network)
-    assert (whole.status, whole.stderr) == (0, "")
-    statuses = set()
-    for number in range(1, whole.transfers + 1):
-        ran = faults(small, "FAIL", number, network)
-        assert (ran.status, ran.stderr) in ((5, "network: read failed\n"), (6, "network: write failed\n")), f"read or write {number}"
-        assert whole.stdout.startswith(ran.stdout)
-        statuses.add(ran.status)
-    assert statuses == {5, 6}
-    for number in range(1, whole.wide + 1):
-        ran = faults(small, "CUT", number, network)
-        assert (ran.status, ran.stdout, ran.stderr) == (0, whole.stdout, ""), f"cut {number}"
-
-
-def with_stream(redirection: str, *words: str | Path) -> Completed:
-    return run("bash", "-c", f'exec "$@" {redirection}', "bash", *words)
-
-
-def test_streams_that_fail(network: Path, small: Path) -> None:
+def test_streams_that_fail(network: Path) -> None:
     """A closed input, one that can't be read, a closed output and a full device."""
     for redirection in ("<&-", "</"):
         ran = with_stream(redirection, network)
         assert (ran.returncode, ran.stdout, ran.stderr) == (5, b"", b"network: read failed\n")
-    for redirection in (f"<{small} >&-", f"<{small} >/dev/full"):
+    for redirection in (f"<{SMALL_NETWORK} >&-", f"<{SMALL_NETWORK} >/dev/full"):
         ran = with_stream(redirection, network)
         assert (ran.returncode, ran.stderr) == (6, b"network: write failed\n")
 
@@ -304,13 +195,6 @@ def test_output_that_fails_early(network: Path, tmp_path: Path) -> None:
     script.write_text("mote 1 blink\ntick 4000000000\n", encoding="utf-8")
     ran = with_stream(f"<{script} >/dev/full", network)
     assert (ran.returncode, ran.stderr) == (6, b"network: write failed\n")
-
-
-@pytest.mark.parametrize(("length", "status", "wanted"), [(LONGEST, 0, b""), (LONGEST + 1, 4, b"too long\n")])
-def test_longest_script(network: Path, length: int, status: int, wanted: bytes) -> None:
-    """A script of 16,777,216 line ends is executed; one more is too long, and nothing is executed."""
-    ran = run(network, stdin=b"\n" * length)
-    assert (ran.returncode, ran.stdout, ran.stderr) == (status, wanted, b"")
 
 
 @pytest.mark.parametrize(("script", "mote"), [(TWO, "3"), ("", "1"), (TWO, "4294967295")], ids=["3 of 2", "1 of none", "the last"])

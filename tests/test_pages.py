@@ -29,7 +29,6 @@ of_each_page = pytest.mark.parametrize("page", PAGES, ids=lambda page: str(page.
 
 # ---- What `run` reaches ----
 
-
 @functools.lru_cache(maxsize=None)
 def reached() -> tuple[set[Place], set[Place]]:
     """What the clauses of `run` speak of, by the text alone, and what the laws add."""
@@ -266,7 +265,6 @@ def test_listings(page: Path) -> None:
 
 
 # ---- Layers, licence, libraries, calls, examples ----
-
 
 def test_map_has_the_layers() -> None:
     """docs/map.md shows the figure that tests/layers.py makes of crates.txt."""

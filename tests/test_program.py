@@ -13,7 +13,7 @@ from pathlib import Path
 
 import pytest
 
-from tools import CRATES, EXAMPLES, ROOT, Completed, program, run, told
+from tools import CRATES, EXAMPLES, ROOT, Completed, program, run, told, with_stream
 
 CASES = sorted((ROOT / "tests/cases").iterdir())
 SCRIPTS = sorted(EXAMPLES.glob("*.script"))
@@ -36,14 +36,9 @@ def words_of(case: Path) -> list[bytes]:
 
 
 def judge(case: Path, ran: Completed) -> None:
-    wanted = {}
     for stream, written in (("stdout", ran.stdout), ("stderr", ran.stderr)):
-        begin = case / f"{stream}-begins"
-        wanted[stream] = begin.read_bytes() if begin.exists() else file_of(case, stream)
-        if begin.exists():
-            assert written.startswith(wanted[stream]), written
-        else:
-            assert written == wanted[stream]
+        begin = file_of(case, f"{stream}-begins")
+        assert written.startswith(begin) if begin else written == file_of(case, stream)
     assert ran.returncode == int(file_of(case, "status") or b"0")
 
 
@@ -78,11 +73,6 @@ def test_sample(mote: Path, script: Path) -> None:
 
 
 # ---- Streams and limits ----
-
-
-def with_stream(redirection: str, *words: str | Path) -> Completed:
-    return run("bash", "-c", f'exec "$@" {redirection}', "bash", *words)
-
 
 @pytest.mark.parametrize(("redirection", "word"), [("</dev/null >&-", "hello"), ("</dev/null >/dev/full", "hello"),
                                                    ("</dev/null >/dev/full", "--help")], ids=["closed", "full", "help"])
@@ -125,10 +115,11 @@ def test_halt(mote: Path) -> None:
 
 
 @pytest.mark.parametrize(("length", "status", "wanted"), [(LONGEST, 0, b""), (LONGEST + 1, 4, b"too long\n")])
-def test_longest_script(mote: Path, length: int, status: int, wanted: bytes) -> None:
-    """A script of 16,777,216 line ends is executed; one more is too long."""
-    ran = run(mote, stdin=b"\n" * length)
-    assert (ran.returncode, ran.stdout) == (status, wanted), told(ran)
+@pytest.mark.parametrize("name", ["mote", "network"])
+def test_longest_script(name: str, length: int, status: int, wanted: bytes) -> None:
+    """A script of 16,777,216 line ends is executed; one more is too long, and nothing is executed."""
+    ran = run(program(name), stdin=b"\n" * length)
+    assert (ran.returncode, ran.stdout, ran.stderr) == (status, wanted, b"")
 
 
 # ---- The program of the template ----

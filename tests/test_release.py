@@ -38,7 +38,6 @@ as_root = pytest.mark.skipif(os.geteuid() != 0, reason="only root can try the pa
 
 # ---- How it is made ----
 
-
 def is_new(name: str) -> bool:
     """Whether a program is of these sources: as ./prove has marked it, or newer than each source, as those are that `rt ci` built, which
     may leave no mark."""
@@ -139,7 +138,6 @@ def test_no_folder_is_named(releases: Path, there: Path, tmp_path: Path) -> None
 
 
 # ---- How it is used ----
-
 
 class System:
     def __init__(self, prefix: Path, inside: Inside) -> None:
@@ -256,7 +254,6 @@ def test_completion(archive: System, words: str, wanted: str) -> None:
 
 
 # ---- The package ----
-
 
 @needs("lintian")
 def test_lintian(releases: Path) -> None:

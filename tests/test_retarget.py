@@ -7,20 +7,17 @@ from __future__ import annotations
 import ctypes
 import random
 import subprocess
-import sys
 from pathlib import Path
 
 import pytest
 
-ROOT = Path(__file__).resolve().parent.parent
-sys.path.insert(0, str(ROOT / "scripts"))
-
-from retarget.compiler import clang, text_of  # noqa: E402
-from retarget.forms import DATA_LAYOUT  # noqa: E402
-from retarget.layout import alignment_at, offsets  # noqa: E402
-from retarget.module import retargeted  # noqa: E402
-from retarget.refusal import Refused  # noqa: E402
-from retarget.targets.known import TARGETS  # noqa: E402
+from retarget.compiler import clang, text_of
+from retarget.forms import DATA_LAYOUT
+from retarget.layout import alignment_at, offsets
+from retarget.module import retargeted
+from retarget.refusal import Refused
+from retarget.targets.known import TARGETS
+from tools import cases
 
 CORTEX_M3 = TARGETS["cortex-m3"]
 HEAD = f'target datalayout = "{DATA_LAYOUT}"\ntarget triple = "x86_64-unknown-linux-gnu"\n'
@@ -47,73 +44,8 @@ def globals_of(text: str, target: str = "cortex-m3") -> list[str]:
     return [line for line in lines[lines.index("}") + 1:] if line]
 
 
-# What a module may not have: a name for the case, a function's body, what stands outside it, and what the refusal says.
-REFUSED = [
-    ("a pointer to a number", "%r = ptrtoint ptr %a0 to i64\nret i64 %r", "", "ptrtoint"),
-    ("a number to a pointer", "%p = inttoptr i64 %a1 to ptr\n%r = load i64, ptr %p, align 8\nret i64 %r", "", "inttoptr"),
-    ("a member of a struct", "%p = getelementptr { ptr, i64 }, ptr %a0, i64 0, i32 1", "", "getelementptr { ptr, i64 }"),
-    ("an element of pointers", "%p = getelementptr ptr, ptr %a0, i64 %a1", "", "getelementptr ptr"),
-    ("an atomic load", "%r = load atomic i64, ptr %a0 seq_cst, align 8", "", "load atomic"),
-    ("an atomic sum", "%r = atomicrmw add ptr %a0, i64 1 seq_cst", "", "atomicrmw"),
-    ("an atomic exchange", "%r = cmpxchg ptr %a0, i64 0, i64 1 seq_cst seq_cst", "", "cmpxchg"),
-    ("a fence", "fence seq_cst", "", "fence"),
-    ("a float", "%r = uitofp i64 %a1 to double", "", "uitofp"),
-    ("a load of a float", "%r = load double, ptr %a0, align 8", "", "load double"),
-    ("a volatile load", "%r = load volatile i64, ptr %a0, align 8", "", "load volatile"),
-    ("a volatile store", "store volatile i64 %a1, ptr %a0, align 8", "", "store volatile"),
-    ("assembly", 'call void asm sideeffect "nop", ""()', "", "asm sideeffect"),
-    ("a local of any size", "%p = alloca i8, i64 %a1, align 1", "", "alloca i8, i64 %a1"),
-    ("a local struct", "%p = alloca { ptr, i64 }, align 8", "", "alloca { ptr, i64 }"),
-    ("a local array of pointers", "%p = alloca [2 x ptr], align 8", "", "alloca [2 x ptr]"),
-    ("a vector of pointers", "%p = load <2 x ptr>, ptr %a0, align 16", "", "load <2 x ptr>"),
-    ("a struct in a struct", "%x = load { i64, { ptr, i8 } }, ptr %a0, align 8", "", "load { i64, { ptr, i8 } }"),
-    ("an array that is loaded", "%x = load [2 x ptr], ptr %a0, align 8", "", "load [2 x ptr]"),
-    ("a constant aggregate", "store { ptr, i64 } zeroinitializer, ptr %a0, align 8", "", "store { ptr, i64 } zeroinitializer"),
-    ("two pointers compared", "%r = icmp ult ptr %a0, %a0", "", "icmp ult ptr"),
-    ("two pointers for equality", "%r = icmp eq ptr %a0, %a0", "", "icmp eq ptr"),
-    ("pointers in another address space", "%r = addrspacecast ptr %a0 to ptr addrspace(1)", "", "addrspacecast"),
-    ("a claim about aliases", "%r = load i64, ptr %a0, align 8, !tbaa !0",
-     '!0 = !{!1, !1, i64 0}\n!1 = !{!"kind", !2}\n!2 = !{!"root"}', "!tbaa"),
-    ("a claim about an address", "", "define void @g(ptr align 16 dereferenceable(16) %a0) {\nstart:\n  ret void\n}",
-     "a function's first line"),
-    ("a jump to an address", "indirectbr ptr %a0, []", "", "indirectbr"),
-    ("a call that takes the frame's place", "%r = musttail call i64 @f(ptr %a0, i64 %a1)\nret i64 %r", "", "musttail"),
-    ("a choice between blocks", "br label %next\nnext:\n%r = phi i64 [ 0, %start ]", "", "phi"),
-    ("a C function", "%r = call i64 @write(i64 %a1)", "declare i64 @write(i64)", "declare i64 @write"),
-    ("a memory call of another type", "%r = call ptr @rattle_alloc(i64 %a1, i64 8)", "declare ptr @rattle_alloc(i64, i64)",
-     "declare ptr @rattle_alloc"),
-    ("an intrinsic", "%r = call i64 @llvm.objectsize.i64.p0(ptr %a0, i1 false, i1 false, i1 false)",
-     "declare i64 @llvm.objectsize.i64.p0(ptr, i1, i1, i1)", "@llvm.objectsize"),
-    ("a copy that may not be left out", "call void @llvm.memset.p0.i64(ptr %a0, i8 0, i64 %a1, i1 true)",
-     "declare void @llvm.memset.p0.i64(ptr, i8, i64, i1)", "may not be left out"),
-    ("a copy of 2^31 bytes", "call void @llvm.memset.p0.i64(ptr %a0, i8 0, i64 2147483648, i1 false)",
-     "declare void @llvm.memset.p0.i64(ptr, i8, i64, i1)", "2147483648 bytes"),
-    ("an export that returns a struct", "", "define { i64, i64 } @g() {\nstart:\n  ret { i64, i64 } zeroinitializer\n}",
-     "an exported function"),
-    ("an export that takes a vector", "", "define void @g(<16 x i8> %a0) {\nstart:\n  ret void\n}", "an exported function"),
-    ("an export that takes 128 bits", "", "define void @g(i128 %a0) {\nstart:\n  ret void\n}", "an exported function"),
-    ("a struct passed by value", "", "define void @g(ptr byval({ ptr, i64 }) %a0) {\nstart:\n  ret void\n}", "a function's first line"),
-    ("a struct returned by address", "", "define void @g(ptr sret({ ptr, i64 }) %a0) {\nstart:\n  ret void\n}", "a function's first line"),
-    ("a variadic function", "", "define void @g(i64 %a0, ...) {\nstart:\n  ret void\n}", "a function's first line"),
-    ("a global that changes", "%r = load i64, ptr @t, align 8", "@t = global i64 0", "@t = global"),
-    ("a thread's own global", "%r = load i64, ptr @t, align 8", "@t = thread_local global i64 0", "@t = thread_local"),
-    ("a constant that C sees", "%r = load i64, ptr @t, align 8", "@t = constant i64 0", "@t = constant"),
-    ("a constant struct that isn't packed", "%r = load i64, ptr @t, align 8",
-     "@t = private constant { i8, ptr } { i8 1, ptr null }", "@t = private constant"),
-    ("an address in a constant number", "%r = load i64, ptr @t, align 8",
-     "@t = private constant <{ i64 }> <{ i64 ptrtoint (ptr @t to i64) }>", "a member of a form"),
-    ("an address in a number", "store i64 ptrtoint (ptr @t to i64), ptr %a0, align 8",
-     "@t = private constant [16 x i8] zeroinitializer", "store i64 ptrtoint"),
-    ("an address within a constant", "store ptr getelementptr (i8, ptr @t, i64 8), ptr %a0, align 8",
-     "@t = private constant [16 x i8] zeroinitializer", "store ptr getelementptr"),
-    ("a function in a section", "", 'define void @g() section ".fast" {\nstart:\n  ret void\n}', "a function's first line"),
-    ("a constant in a section", "%r = load i64, ptr @t, align 8", '@t = private constant i64 0, section ".fast"', "@t = private constant"),
-    ("an alias", "", "@g = alias i64 (ptr, i64), ptr @f", "@g = alias"),
-    ("assembly of the whole module", "", 'module asm "nop"', "module asm"),
-]
-
-
-@pytest.mark.parametrize(("body", "rest", "told"), [it[1:] for it in REFUSED], ids=[it[0] for it in REFUSED])
+# A function's body, what stands outside it, and what the refusal says.
+@pytest.mark.parametrize(("body", "rest", "told"), cases("retarget_refused"))
 def test_other_forms_are_refused(body: str, rest: str, told: str, tmp_path: Path) -> None:
     """Each is LLVM's language, and is refused for what it is."""
     source = tmp_path / "module.ll"

@@ -51,7 +51,6 @@ def marks(it: Opened) -> List[Any]:
 
 # ---- Runs ----
 
-
 def test_examples(mote_page: Opened) -> None:  # noqa: F811
     """There are ten, each with two sentences, and each has the transcript that the rules give it."""
     wanted = transcripts_wanted()
@@ -218,7 +217,6 @@ def test_all_calls(mote_page: Opened) -> None:  # noqa: F811
 
 # ---- Buttons ----
 
-
 def test_input_buttons(mote_page: Opened) -> None:  # noqa: F811
     """Each appends its line to the script, which runs."""
     set_fields(mote_page, "echo\n", "# first")
@@ -350,7 +348,6 @@ def test_hand(mote_page: Opened) -> None:  # noqa: F811
 
 # ---- What is shown ----
 
-
 def test_lines(mote_page: Opened) -> None:  # noqa: F811
     """Each line has its number, its clock where that changes, its words and its text; a chosen one is explained, by mouse and by keys."""
     set_fields(mote_page, "calls timer-set 9 1, print \"<b>\", wait\n", "tick 1234\nframe 0102\n")
@@ -461,7 +458,6 @@ def test_about(mote_page: Opened, browser: Browser, page_file: Path) -> None:  #
 
 
 # ---- Keys, screen readers, looks ----
-
 
 def test_keys(mote_page: Opened) -> None:  # noqa: F811
     """Tab goes through all fields in their order and out of the editors; arrows go from tab to tab."""

@@ -3,13 +3,14 @@ from __future__ import annotations
 
 import fcntl
 import functools
+import json
 import os
 import re
 import shutil
 import subprocess
 import tempfile
 from pathlib import Path
-from typing import Callable, Mapping, Union
+from typing import Any, Callable, Mapping, Union
 
 import pytest
 
@@ -40,6 +41,11 @@ def succeed(*words: Word, stdin: bytes | Path = b"", cwd: Path | None = None, se
     return ran
 
 
+def with_stream(redirection: str, *words: str | Path) -> Completed:
+    """Runs a command with a stream that the shell redirects."""
+    return run("bash", "-c", f'exec "$@" {redirection}', "bash", *words)
+
+
 def told(ran: Completed) -> str:
     return (ran.stdout[-4000:] + ran.stderr[-4000:]).decode(errors="replace")
 
@@ -54,6 +60,16 @@ def once(place: Path, make: Callable[[Path], object]) -> Path:
             make(place)
             done.touch()
     return place
+
+
+def table(name: str) -> Any:
+    """What tests/tables/NAME.json holds."""
+    return json.loads((ROOT / f"tests/tables/{name}.json").read_text(encoding="utf-8"))
+
+
+def cases(name: str) -> list[Any]:
+    """The rows of that file, for pytest.mark.parametrize. A row begins with the name of its case."""
+    return [pytest.param(*row[1:], id=row[0]) for row in table(name)]
 
 
 def program(name: str) -> Path:
