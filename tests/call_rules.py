@@ -1,5 +1,4 @@
 """interface/rules.json, as several tests take it."""
-from __future__ import annotations
 
 import json
 from typing import Any, Dict

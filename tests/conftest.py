@@ -1,5 +1,4 @@
 """What tests take that is made once a session: shared by all workers of pytest-xdist."""
-from __future__ import annotations
 
 import os
 import shutil

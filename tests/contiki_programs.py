@@ -1,5 +1,4 @@
 """Programs in C for Contiki-NG: how tests write, build and run them."""
-from __future__ import annotations
 
 import re
 from dataclasses import dataclass

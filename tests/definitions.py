@@ -1,5 +1,4 @@
 """What the contract of `run` reaches, definition by definition: each is a file below `crates`, and a name there."""
-from __future__ import annotations
 
 import collections
 import functools

@@ -1,5 +1,4 @@
 """Chromium without a window, by its DevTools protocol over a pair of pipes: pages are opened, asked by scripts, sized and looked at."""
-from __future__ import annotations
 
 import base64
 import json

@@ -3,7 +3,6 @@
 A crate's height is one more than that of the highest crate it uses, and 0 where it uses none. Each part of crates.txt that has a heading is
 a column.
 """
-from __future__ import annotations
 
 import re
 import textwrap

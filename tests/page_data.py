@@ -1,5 +1,4 @@
 """What a page of `mote_picture --page` says: its data, and what holds at each line by these, and by the rules."""
-from __future__ import annotations
 
 import json
 from typing import Any, Iterator, Sequence

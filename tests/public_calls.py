@@ -1,6 +1,5 @@
 """Compares docs/public-calls.md with the sources: each public call and type that a list of the page names is declared in its crate, under
 exactly this signature. A list of a type's or trait's calls follows its name."""
-from __future__ import annotations
 
 import functools
 import re

@@ -3,7 +3,6 @@
 A line stands for the moment at which its call is carried out. Numbers of lines begin at 0. Where heap blocks lie isn't told here: that
 depends on how gaps are chosen, and what a run's answers to heap-stats tell is enough to compare with.
 """
-from __future__ import annotations
 
 import copy
 import dataclasses

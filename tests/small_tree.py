@@ -1,5 +1,4 @@
 """A small tree of crates in a path with a blank, with stand-ins for rt and for a C compiler: for the scripts at the top."""
-from __future__ import annotations
 
 import os
 import shutil

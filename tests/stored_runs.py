@@ -2,7 +2,6 @@
 
 The names stand in the files; what runs them tells the transcripts is the built program `scenario`, which is asked once a process.
 """
-from __future__ import annotations
 
 import functools
 import json

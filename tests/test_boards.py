@@ -2,7 +2,6 @@
 
 Boards are qemu's. Three are models of real parts, with 16, 64 and 128 KB of RAM; programs that need more run on two with 16 MB.
 """
-from __future__ import annotations
 
 import shutil
 from dataclasses import dataclass

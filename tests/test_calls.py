@@ -1,6 +1,5 @@
 """Each table of calls, refusals, events and names of applications beside interface/rules.json. What scripts/make-calls writes is current,
 and what is written by hand has the same rows: sources, definitions, headers, pages and helps."""
-from __future__ import annotations
 
 import re
 from typing import Callable, Dict

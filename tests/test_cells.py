@@ -1,7 +1,6 @@
 """Each rule is shown by a stored transcript: each call with each of its answers, each event with each way in which it comes to a process,
 each payload, note and end. What no transcript shows is named, and so is what the rules don't know.
 """
-from __future__ import annotations
 
 import functools
 import re

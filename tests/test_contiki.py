@@ -3,7 +3,6 @@
 The expected transcripts and texts are written out from the rules. The applications of mote in C, and random lists of calls, are compared
 with the run that toarmuts_run makes.
 """
-from __future__ import annotations
 
 import random
 import re

@@ -1,5 +1,4 @@
 """The command `contiki`, and the programs that it builds: arguments, scripts, readers, Makefiles, the debugger."""
-from __future__ import annotations
 
 import os
 import pty

@@ -1,5 +1,4 @@
 """Programs in C that go beyond a limit, misuse memory or are interrupted: the message names the process and the line."""
-from __future__ import annotations
 
 import re
 import signal

@@ -4,7 +4,6 @@ The expected transcripts and texts are written out from the rules of docs/networ
 compared with the program network, and each mote with a run of ./contiki for it alone, on the inputs in its lines. For more networks of
 random calls, TOARMUTS_LISTS is their number, and TOARMUTS_LISTS_FROM the first one's.
 """
-from __future__ import annotations
 
 import os
 import random

@@ -2,7 +2,6 @@
 
 What the programs in tests/c/contiki/programs print is worked out by hand from Contiki-NG's documented interface and docs/contiki.md.
 """
-from __future__ import annotations
 
 import os
 import pty

@@ -1,5 +1,4 @@
 """What the mote doesn't have: a program that uses it doesn't compile, with a reason."""
-from __future__ import annotations
 
 import re
 from pathlib import Path

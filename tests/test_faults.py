@@ -3,7 +3,6 @@
 tests/c/faults.c does so. `rt try --fail-alloc N` refuses one growth a call, in a build of its own, and only later kits have the like for
 reads and writes.
 """
-from __future__ import annotations
 
 import shutil
 from dataclasses import dataclass

@@ -1,5 +1,4 @@
 """The gate itself, with stand-ins for what it runs: what it counts, reports and notes; and which packages are installed for it."""
-from __future__ import annotations
 
 import os
 import re

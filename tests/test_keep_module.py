@@ -1,5 +1,4 @@
 """scripts/retarget/keep_module.py on a small repository with a stand-in for the kit: which module is stored, and when none is."""
-from __future__ import annotations
 
 import shutil
 from concurrent.futures import ThreadPoolExecutor

@@ -2,7 +2,6 @@
 
 Nothing is lost or left by interrupts, by a missing rt, a full disk or a tree that can't be written.
 """
-from __future__ import annotations
 
 import os
 import random

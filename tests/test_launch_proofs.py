@@ -1,5 +1,4 @@
 """tests/proofs on a small tree of crates, with a stand-in for `rt ci`: what that proved counts as proved, for exactly these sources."""
-from __future__ import annotations
 
 import shutil
 import sys

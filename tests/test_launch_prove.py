@@ -1,5 +1,4 @@
 """./prove and scripts/for-aarch64 on a small tree of crates, with stand-ins: what they prove in which order, report, store and leave."""
-from __future__ import annotations
 
 import fcntl
 import os

@@ -1,5 +1,4 @@
 """The library for C: runs, motes and networks step by step, by programs in C with all warnings and the sanitizers, and for aarch64."""
-from __future__ import annotations
 
 import re
 from pathlib import Path

@@ -2,7 +2,6 @@
 
 The transcript shows the words in lower case. The same with one word spoilt is refused.
 """
-from __future__ import annotations
 
 import random
 from pathlib import Path

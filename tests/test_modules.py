@@ -3,7 +3,6 @@
 A source in Contiki-NG's own form is compiled with these headers and with plain stand-ins for the original's. The headers are read as C99,
 C11, C17 and C++17, the library is installed, and the same is tried for aarch64.
 """
-from __future__ import annotations
 
 import re
 import shutil

@@ -3,7 +3,6 @@
 A worked network is tests/networks/NAME.net, or one in examples/networks, with NAME.transcript, which was written out from the rules of
 docs/network.md. NAME.run, where it is there, has lines `status N` (none: 0) and `args WORD..`.
 """
-from __future__ import annotations
 
 from pathlib import Path
 

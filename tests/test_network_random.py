@@ -7,7 +7,6 @@ are made in C):
     TOARMUTS_NETWORKS=10000 /usr/bin/python3 -m pytest -n auto tests/test_network_random.py
     TOARMUTS_NETWORKS=2000 /usr/bin/python3 -m pytest tests/test_network_random.py -k all_ways
 """
-from __future__ import annotations
 
 import os
 import random
@@ -108,22 +107,14 @@ def drawn_network(seed: int) -> Drawn:
     return Drawn(motes, links, rng.choice((1024, 1024, 12, 3)), [drawn_input(rng, count) for _ in range(rng.randint(1, 12))])
 
 
-@dataclass
 class Way:
     """A link of the replay: where it leads, its delay, its rule, and the frames so far or the number drawn last."""
 
-    to: int
-    delay: int
-    rule: str
-    number: int
-    state: int
-
-    @staticmethod
-    def of(to: int, delay: int, loss: str) -> Way:
+    def __init__(self, to: int, delay: int, loss: str) -> None:
+        self.to, self.delay = to, delay
         words = loss.split()
-        if not words:
-            return Way(to, delay, "", 0, 0)
-        return Way(to, delay, words[0], int(words[1]), int(words[3]) if words[0] == "lot" else 0)
+        self.rule, self.number = (words[0], int(words[1])) if words else ("", 0)
+        self.state = int(words[3]) if self.rule == "lot" else 0
 
     def loses(self) -> bool:
         if self.rule == "every":
@@ -151,7 +142,7 @@ class Replay:
 
     def __post_init__(self) -> None:
         for a, b, delay, loss in self.drawn.links:
-            self.ways[a].append(Way.of(b, delay, loss))
+            self.ways[a].append(Way(b, delay, loss))
         split = [line.split() for line in self.drawn.inputs]
         self.outside = [(int(words[0]), f"> {words[1]} {words[2]}") for words in split if words[0] != "tick"]
         self.target = sum(int(words[1]) for words in split if words[0] == "tick")

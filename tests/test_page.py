@@ -3,7 +3,6 @@
 The source of the page is what its files in web/ make. Markup that is printed, and markup in names, neither ends the element of the data
 nor begins anything in it.
 """
-from __future__ import annotations
 
 from html.parser import HTMLParser
 

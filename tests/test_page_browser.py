@@ -1,6 +1,5 @@
 """Pages of `mote_picture --page` in Chromium: the script tells of each line what a replay tells; rows, filters, keys, the overview, names
 with markup, widths and 100,000 lines are tried."""
-from __future__ import annotations
 
 import json
 from pathlib import Path

@@ -1,5 +1,4 @@
 """The value change dump of `mote_picture --vcd`: for every stored transcript its values at each line are those that a replay tells."""
-from __future__ import annotations
 
 from pathlib import Path
 from typing import Any

@@ -4,7 +4,6 @@ docs/reading-order.md is compared with what the contract of `run` reaches, the n
 are there, listings with their files, and the libraries that are trusted with those that are used. There is no case for all other calls, and
 no example that nothing calls.
 """
-from __future__ import annotations
 
 import functools
 import re

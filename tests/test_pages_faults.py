@@ -1,5 +1,4 @@
 """A copy of the tree with faults in its pages, of each kind that tests/test_pages.py looks for; and what makes files of others."""
-from __future__ import annotations
 
 import re
 import shutil

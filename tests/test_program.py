@@ -4,7 +4,6 @@ A stored run is a folder of tests/cases with the files `words` (one a line; none
 (none: empty) and `status` (none: 0). In place of `stdout` and `stderr`, `stdout-begins` and `stderr-begins` hold the beginning alone, where
 the text is that of the parser of the command line.
 """
-from __future__ import annotations
 
 import fnmatch
 import re

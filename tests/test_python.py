@@ -2,7 +2,6 @@
 
 One environment sees Debian's packages, another one sees none. What is written in C for it is tried with the sanitizers, too.
 """
-from __future__ import annotations
 
 import functools
 import os

@@ -4,7 +4,6 @@ The archive is unpacked and used with nothing in PATH but its programs and Debia
 again. With --whole that goes on in a clean Debian, in which apt-get installs the package, everything is used once more, and apt-get removes
 it (that needs root, debootstrap, a mirror of Debian's, and some minutes).
 """
-from __future__ import annotations
 
 import os
 import re

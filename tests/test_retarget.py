@@ -2,12 +2,13 @@
 
 The closed list is what these tests are about, so each refused module is one that LLVM takes: the kit's clang reads it first.
 """
-from __future__ import annotations
 
 import ctypes
 import random
+import re
 import subprocess
 from pathlib import Path
+from typing import Any, Iterator
 
 import pytest
 
@@ -17,7 +18,7 @@ from retarget.layout import alignment_at, offsets
 from retarget.module import retargeted
 from retarget.refusal import Refused
 from retarget.targets.known import TARGETS
-from tools import cases
+from tools import ROOT, cases
 
 CORTEX_M3 = TARGETS["cortex-m3"]
 HEAD = f'target datalayout = "{DATA_LAYOUT}"\ntarget triple = "x86_64-unknown-linux-gnu"\n'
@@ -70,11 +71,28 @@ def test_other_data_layout_is_refused() -> None:
         retargeted(text.partition("\n")[2], CORTEX_M3)
 
 
-def test_plain_function_stays() -> None:
-    """What doesn't depend on the size of an address stays as it is."""
-    body = ["%p = getelementptr inbounds i8, ptr %a0, i64 8", "%r = load i64, ptr %p, align 8, !noundef !0", "%s = add nuw i64 %r, %a1",
-            "%t = icmp eq ptr %p, null", "%u = select i1 %t, i64 %s, i64 0", "br label %next"]
-    assert rewritten("\n".join(body)) == body
+def rewritings() -> Iterator[Any]:
+    """The cases of tests/tables/retarget_rewritten.txt, as it says."""
+    for part in re.split(r"^== ", (ROOT / "tests/tables/retarget_rewritten.txt").read_text(encoding="utf-8"), flags=re.M)[1:]:
+        head, _, text = part.partition("\n")
+        name, _, target = head.partition(" for ")
+        before, _, after = re.sub(r"^# .*\n", "", text, flags=re.M).partition("->\n")
+        yield pytest.param(target or "cortex-m3", before, after, id=name)
+
+
+def halves(text: str) -> tuple[str, str]:
+    """The lines of a function, and what stands outside it."""
+    inside, _, outside = f"\n{text}".partition("\n\n")
+    return inside.strip("\n"), outside.strip("\n")
+
+
+@pytest.mark.parametrize(("target", "before", "after"), rewritings())
+def test_rewritten(target: str, before: str, after: str) -> None:
+    (body, rest), (wanted, wanted_rest) = halves(before), halves(after)
+    lines, told = wanted.splitlines(), rewritten(body, rest, target)
+    if lines[:1] == [".."]:
+        lines, told = lines[1:], told[1 - len(lines):]
+    assert told == lines and globals_of(rest, target) == wanted_rest.splitlines()
 
 
 def test_head_names_the_target() -> None:
@@ -86,57 +104,6 @@ def test_head_names_the_target() -> None:
     assert "attributes #0 = { nounwind }" in lines
 
 
-def test_local_pointer_has_a_slot() -> None:
-    """What copies a local pointer copies 8 bytes. No run notices where it has 4."""
-    assert rewritten("%p = alloca ptr, align 8") == ["%p = alloca [8 x i8], align 8"]
-    assert rewritten("%p = alloca [24 x i8], align 8") == ["%p = alloca [24 x i8], align 8"]
-
-
-def test_zeros_follow_an_address() -> None:
-    """A pointer's 8 bytes read as a number are its address. No run notices where they aren't."""
-    assert rewritten("store ptr %a0, ptr %a0, align 8") == [
-        "store ptr %a0, ptr %a0, align 8",
-        "%line5.above = getelementptr i8, ptr %a0, i64 4",
-        "store i32 0, ptr %line5.above, align 4",
-    ]
-    assert rewritten("store ptr null, ptr %a0, align 1")[2] == "store i32 0, ptr %line5.above, align 1"
-    assert rewritten("store i64 %a1, ptr %a0, align 8") == ["store i64 %a1, ptr %a0, align 8"]
-
-
-def test_aggregate_is_loaded_by_members() -> None:
-    """A pointer after a byte is at 8, as on x86-64. LLVM would choose 4."""
-    assert rewritten("%x = load { i8, ptr }, ptr %a0, align 8") == [
-        "%line5.place0 = getelementptr i8, ptr %a0, i64 0",
-        "%line5.member0 = load i8, ptr %line5.place0, align 8",
-        "%line5.whole0 = insertvalue { i8, ptr } poison, i8 %line5.member0, 0",
-        "%line5.place1 = getelementptr i8, ptr %a0, i64 8",
-        "%line5.member1 = load ptr, ptr %line5.place1, align 8",
-        "%x = insertvalue { i8, ptr } %line5.whole0, ptr %line5.member1, 1",
-    ]
-    assert rewritten("%x = load { i64, i32, i32 }, ptr %a0, align 8")[-2] == "%line5.member2 = load i32, ptr %line5.place2, align 4"
-
-
-def test_aggregate_is_stored_by_members() -> None:
-    """Zeros follow each address of it."""
-    body = "%x = load { i64, i32 }, ptr %a0, align 8\nstore { i64, i32 } %x, ptr %a0, align 16"
-    assert rewritten(body)[-6:] == [
-        "%line6.place0 = getelementptr i8, ptr %a0, i64 0",
-        "%line6.member0 = extractvalue { i64, i32 } %x, 0",
-        "store i64 %line6.member0, ptr %line6.place0, align 8",
-        "%line6.place1 = getelementptr i8, ptr %a0, i64 8",
-        "%line6.member1 = extractvalue { i64, i32 } %x, 1",
-        "store i32 %line6.member1, ptr %line6.place1, align 8",
-    ]
-    body = "%x = load { i32, ptr }, ptr %a0, align 8\nstore { i32, ptr } %x, ptr %a0, align 8"
-    assert rewritten(body)[-5:] == [
-        "%line6.place1 = getelementptr i8, ptr %a0, i64 8",
-        "%line6.member1 = extractvalue { i32, ptr } %x, 1",
-        "store ptr %line6.member1, ptr %line6.place1, align 8",
-        "%line6.above1 = getelementptr i8, ptr %line6.place1, i64 4",
-        "store i32 0, ptr %line6.above1, align 4",
-    ]
-
-
 def test_offsets_are_those_of_x86_64() -> None:
     """Members are at multiples of their sizes; a pointer has 8 bytes."""
     assert offsets(["i8", "ptr", "i8"]) == [0, 8, 16]
@@ -146,49 +113,12 @@ def test_offsets_are_those_of_x86_64() -> None:
     assert [alignment_at(offset, 8) for offset in (0, 2, 4, 8, 12, 17)] == [8, 2, 4, 8, 4, 1]
 
 
-def test_constants_keep_their_layout() -> None:
-    """4 zeros follow each packed pointer; bytes stay as they are."""
-    table = ('@t = private unnamed_addr constant <{ ptr, [16 x i8], ptr }> '
-             '<{ ptr @f, [16 x i8] c"\\01, ptr @f\\22\\00\\00\\00\\00\\00", ptr getelementptr (i8, ptr @t, i64 8) }>, align 16')
-    assert globals_of(table) == [
-        '@t = private unnamed_addr constant <{ ptr, [4 x i8], [16 x i8], ptr, [4 x i8] }> '
-        '<{ ptr @f, [4 x i8] zeroinitializer, [16 x i8] c"\\01, ptr @f\\22\\00\\00\\00\\00\\00", '
-        'ptr getelementptr (i8, ptr @t, i64 8), [4 x i8] zeroinitializer }>, align 8']
-    text = '@s = private unnamed_addr constant [3 x i8] c"ptr", align 1'
-    assert globals_of(text) == [text]
-
-
 def test_exports_extend_what_they_return() -> None:
     """AAPCS wants the callee to extend a u8. No run notices where it doesn't."""
     for first, wanted in (("noundef i8", "noundef zeroext i8"), ("i16", "zeroext i16"), ("i1", "zeroext i1"), ("i32", "i32"),
                           ("internal noundef i8", "internal noundef i8"), ("zeroext i8", "zeroext i8")):
         kind = first.split(" ")[-1]
         assert globals_of(f"define {first} @g() {{\nstart:\n  ret {kind} 1\n}}")[0] == f"define {wanted} @g() {{"
-
-
-def test_address_is_widened() -> None:
-    """An address has 32 bits, and zeros above."""
-    assert rewritten("%r = ptrtoaddr ptr %a0 to i64") == ["%line5.address = ptrtoaddr ptr %a0 to i32",
-                                                          "%r = zext i32 %line5.address to i64"]
-
-
-def test_calls_on_memory_take_32_bits() -> None:
-    """A number that isn't known is cut: no object has 2^32 bytes."""
-    declared = "declare void @llvm.memset.p0.i64(ptr writeonly captures(none), i8, i64, i1)"
-    assert rewritten("call void @llvm.memset.p0.i64(ptr %a0, i8 0, i64 2147483647, i1 false)", declared) == [
-        "call void @llvm.memset.p0.i32(ptr %a0, i8 0, i32 2147483647, i1 false)"]
-    assert rewritten("call void @llvm.memset.p0.i64(ptr %a0, i8 0, i64 %a1, i1 false)", declared) == [
-        "%line5.size = trunc i64 %a1 to i32",
-        "call void @llvm.memset.p0.i32(ptr %a0, i8 0, i32 %line5.size, i1 false)"]
-    assert globals_of(declared) == ["declare void @llvm.memset.p0.i32(ptr writeonly captures(none), i8, i32, i1)"]
-
-
-def test_alignments_are_those_of_malloc() -> None:
-    """newlib's malloc aligns at 8."""
-    assert rewritten("%p = alloca <16 x i8>, align 16\n%x = load <16 x i8>, ptr %a0, align 32\nstore <16 x i8> %x, ptr %p, align 64") == [
-        "%p = alloca <16 x i8>, align 8", "%x = load <16 x i8>, ptr %a0, align 8", "store <16 x i8> %x, ptr %p, align 8"]
-    assert rewritten('%x = load i64, ptr %"a, align 16", align 16') == ['%x = load i64, ptr %"a, align 16", align 8']
-    assert rewritten("%x = load i128, ptr %a0, align 16", target="wasm32") == ["%x = load i128, ptr %a0, align 16"]
 
 
 def function_of(name: str, lines: list[str]) -> list[str]:
@@ -219,12 +149,6 @@ def test_memory_calls_have_a_stand_in() -> None:
         "%answer = insertvalue { i64, i64 } %half, i64 %wide, 1", "ret { i64, i64 } %answer"]
 
 
-def test_fence_of_floats_is_its_value() -> None:
-    """No form on the list lets floats be reordered, so nothing is lost; clang can't compile a fence for WebAssembly."""
-    body = "%b = uitofp i64 %a1 to double\n%c = call double @llvm.arithmetic.fence.f64(double %b)"
-    assert rewritten(body, target="wasm32") == [body.splitlines()[0], "%c = bitcast double %b to double"]
-
-
 def test_system_calls_are_for_wasm32_alone() -> None:
     """What programs ask of the system is on the list where the page has it, each with its type."""
     declared = "declare i64 @read(i32, ptr, i64)"
@@ -250,11 +174,8 @@ def test_wide_lanes_are_for_wasm32_alone() -> None:
 
 
 def test_shuffle_has_a_stand_in() -> None:
-    """A call of the instruction pshufb is one of the function that does the same, which stands where it was declared."""
+    """The function that does the same as the instruction pshufb stands where that was declared."""
     declared = "declare <16 x i8> @llvm.x86.ssse3.pshuf.b.128(<16 x i8>, <16 x i8>)"
-    body = "%a = load <16 x i8>, ptr %a0, align 1\n%b = call <16 x i8> @llvm.x86.ssse3.pshuf.b.128(<16 x i8> %a, <16 x i8> %a)"
-    called = "%b = call <16 x i8> @toarmuts.x86.ssse3.pshuf.b.128(<16 x i8> %a, <16 x i8> %a)"
-    assert rewritten(body, declared, target="wasm32") == [body.splitlines()[0], called]
     text = "\n".join(globals_of(declared, target="wasm32"))
     assert "define internal <16 x i8> @toarmuts.x86.ssse3.pshuf.b.128(" in text and "declare" not in text
 
@@ -282,12 +203,6 @@ def test_shuffle(tmp_path: Path) -> None:
         given, places, to = number.randbytes(16), number.randbytes(16), ctypes.create_string_buffer(16)
         apply(given, places, to)
         assert to.raw == bytes(0 if place & 0x80 else given[place & 0x0f] for place in places)
-
-
-def test_floats_are_for_wasm32_alone() -> None:
-    """The libraries for Cortex-M have none; the programs for the page have."""
-    body = "%x = uitofp i64 %a1 to double\n%y = fmul double %x, 1.500000e+00\nstore double %y, ptr %a0, align 8"
-    assert rewritten(body, target="wasm32") == body.splitlines()
 
 
 @pytest.mark.parametrize("name", sorted(TARGETS))

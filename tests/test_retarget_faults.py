@@ -1,5 +1,4 @@
 """Wrong rewritings, each planted in a copy of scripts/retarget: a test of tests/test_retarget.py notices it."""
-from __future__ import annotations
 
 import shutil
 import sys
@@ -15,9 +14,8 @@ from tools import ROOT, cases, run, told
 def test_fault_is_noticed(tmp_path: Path, file: str, before: str, after: str, test: str) -> None:
     """The test passes with the files as they are (tests/test_retarget.py), and fails with the wrong ones."""
     shutil.copytree(ROOT / "scripts/retarget", tmp_path / "scripts/retarget", ignore=shutil.ignore_patterns("__pycache__"))
-    for name in ("pytest.ini", "scripts/kit_rt.py", "scripts/sources.py", "tests/test_retarget.py", "tests/tools.py",
-                 "tests/tables/retarget_refused.json"):
-        (tmp_path / name).parent.mkdir(parents=True, exist_ok=True)
+    shutil.copytree(ROOT / "tests/tables", tmp_path / "tests/tables")
+    for name in ("pytest.ini", "scripts/kit_rt.py", "scripts/sources.py", "tests/test_retarget.py", "tests/tools.py"):
         shutil.copy2(ROOT / name, tmp_path / name)
     planted = tmp_path / "scripts/retarget" / file
     text = planted.read_text(encoding="utf-8")

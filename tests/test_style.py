@@ -1,5 +1,4 @@
 """The style of what isn't proved: flake8 and mypy for Python, shellcheck for shell, clang-format for C; shebangs and endings."""
-from __future__ import annotations
 
 import functools
 import re

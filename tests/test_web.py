@@ -1,5 +1,4 @@
 """The page with the mote (scripts/for-web) in Chromium: examples, mistakes, buttons, links, files, keys, looks; nothing leaves it."""
-from __future__ import annotations
 
 import json
 import re

@@ -1,5 +1,4 @@
 """The modules of the page with the mote, in Chromium: random runs, pictures and scenarios, byte for byte as the native builds make them."""
-from __future__ import annotations
 
 import base64
 import hashlib

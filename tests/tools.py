@@ -1,5 +1,4 @@
 """What tests share: commands, what is built, and what this machine has."""
-from __future__ import annotations
 
 import fcntl
 import functools

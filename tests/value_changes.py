@@ -1,5 +1,4 @@
 """A reader of value change dumps (IEEE 1364, clause 18), as far as a run's dump goes: vectors of one module, no x or z within digits."""
-from __future__ import annotations
 
 import bisect
 import dataclasses

@@ -1,5 +1,4 @@
 """Random experiments for the page, and the native builds that they are compared with."""
-from __future__ import annotations
 
 import base64
 import ctypes

@@ -2,7 +2,6 @@
 
 A page that a test has opened may ask for nothing outside, break no policy of its own, and end no script with an error.
 """
-from __future__ import annotations
 
 import contextlib
 import os
