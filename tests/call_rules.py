@@ -1,13 +1,13 @@
 """interface/rules.json, as several tests take it."""
 
 import json
-from typing import Any, Dict
+from typing import Any
 
 from tools import ROOT
 
-RULES: Dict[str, Any] = json.loads((ROOT / "interface/rules.json").read_text(encoding="utf-8"))
-ARGUMENTS: Dict[str, Any] = {rule["name"]: rule for rule in RULES["arguments"]}
-CALLS: Dict[str, Any] = {rule["name"]: rule for rule in RULES["calls"]}
+RULES: dict[str, Any] = json.loads((ROOT / "interface/rules.json").read_text(encoding="utf-8"))
+ARGUMENTS: dict[str, Any] = {rule["name"]: rule for rule in RULES["arguments"]}
+CALLS: dict[str, Any] = {rule["name"]: rule for rule in RULES["calls"]}
 OF_MOTE = [name for name in RULES["applications"] if name not in RULES["not_of_mote"]]
 
 
@@ -17,4 +17,4 @@ def letter(argument: str) -> str:
 
 
 # Each call with the letters of what follows its word.
-LETTERS: Dict[str, str] = {name: "".join(map(letter, rule["arguments"])) for name, rule in CALLS.items()}
+LETTERS: dict[str, str] = {name: "".join(map(letter, rule["arguments"])) for name, rule in CALLS.items()}

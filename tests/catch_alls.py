@@ -1,7 +1,7 @@
 """Finds where definitions and code ask which call they have, and have one case for all other calls: the prover finds no call that is
 forgotten there."""
 import re
-from typing import Iterator, List, Tuple
+from typing import Iterator
 
 SIGNATURE = re.compile(r"^( *)(?:pub |abbrev |unfoldable )*(\w+) : ", re.M)
 # A pattern that takes every call.
@@ -11,7 +11,7 @@ ONLY = re.compile(r"\bmatches!\([^;]*?, *Call::|\blet (?:\w+\()?Call::")
 COMMENT_OR_LITERAL = re.compile(r"//.*|\"(?:\\.|[^\"\\])*\"|'(?:\\.|[^'\\])'")
 
 
-def parts(text: str, between: str) -> List[str]:
+def parts(text: str, between: str) -> list[str]:
     """The parts of a text between the positions of this character outside of all brackets."""
     found, depth = [""], 0
     for letter in text:
@@ -41,7 +41,7 @@ def in_definitions(text: str) -> Iterator[str]:
                 yield from (name for argument in arguments if ANY.fullmatch(argument))
 
 
-def arms_of(body: str) -> Iterator[Tuple[str, str]]:
+def arms_of(body: str) -> Iterator[tuple[str, str]]:
     while "=>" in body:
         pattern, _, rest = body.partition("=>")
         rest = rest.lstrip()

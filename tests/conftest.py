@@ -3,6 +3,7 @@
 import os
 import shutil
 from pathlib import Path
+from typing import Callable
 
 import pytest
 
@@ -27,12 +28,8 @@ def pytest_collection_modifyitems(config: pytest.Config, items: list[pytest.Item
     """Puts tests that need a library for C last, and after them those that need its module."""
     if not config.getoption("--whole"):
         items[:] = [item for item in items if item.get_closest_marker("whole") is None]
-    items.sort(key=lambda item: max((turn for turn, names in enumerate(BUILT_LAST, 1) if not names.isdisjoint(fixtures_of(item))),
+    items.sort(key=lambda item: max((turn for turn, names in enumerate(BUILT_LAST, 1) if names & set(getattr(item, "fixturenames", ()))),
                                     default=0))
-
-
-def fixtures_of(item: pytest.Item) -> list[str]:
-    return list(getattr(item, "fixturenames", ()))
 
 
 @pytest.fixture(scope="session")
@@ -43,29 +40,16 @@ def shared(tmp_path_factory: pytest.TempPathFactory) -> Path:
     return folder
 
 
-@pytest.fixture(scope="session")
-def mote() -> Path:
-    return program("mote")
+def built(name: str) -> Callable[[], Path]:
+    """The fixture of a built program."""
+    @pytest.fixture(scope="session", name=name)
+    def it() -> Path:
+        return program(name)
+    return it
 
 
-@pytest.fixture(scope="session")
-def scenario() -> Path:
-    return program("scenario")
-
-
-@pytest.fixture(scope="session")
-def mote_picture() -> Path:
-    return program("mote_picture")
-
-
-@pytest.fixture(scope="session")
-def network() -> Path:
-    return program("network")
-
-
-@pytest.fixture(scope="session")
-def network_picture() -> Path:
-    return program("network_picture")
+mote, scenario, network = built("mote"), built("scenario"), built("network")
+mote_picture, network_picture = built("mote_picture"), built("network_picture")
 
 
 @pytest.fixture(scope="session")

@@ -1,6 +1,5 @@
 """Chromium without a window, by its DevTools protocol over a pair of pipes: pages are opened, asked by scripts, sized and looked at."""
 
-import base64
 import json
 import os
 import select
@@ -9,7 +8,7 @@ import subprocess
 import time
 from collections.abc import Sequence
 from pathlib import Path
-from typing import Any, Dict, List, Optional
+from typing import Any
 
 # Chromium reads commands from file 3 and writes answers to file 4, each message with a byte 0 at its end.
 COMMANDS, ANSWERS = 3, 4
@@ -46,10 +45,10 @@ class Browser:
         os.close(up)
         self._rest = b""
         self._number = 0
-        self.pages: Dict[str, Page] = {}
+        self.pages: dict[str, Page] = {}
 
     @staticmethod
-    def _redirected(words: Sequence[str], down: int, up: int) -> List[str]:
+    def _redirected(words: Sequence[str], down: int, up: int) -> list[str]:
         """A shell's command that has the pipes as the files that Chromium wants."""
         high = max(down, up) + 10
         command = f'exec {high}<&{down} {high + 1}>&{up}; exec {COMMANDS}<&{high} {ANSWERS}>&{high + 1}; exec "$@"'
@@ -67,32 +66,26 @@ class Browser:
             self._process.wait()
         os.close(self._answers)
 
-    def call(self, method: str, session: Optional[str] = None, **parameters: Any) -> Dict[str, Any]:
+    def call(self, method: str, session: str | None = None, **parameters: Any) -> dict[str, Any]:
         self._number += 1
-        message: Dict[str, Any] = {"id": self._number, "method": method, "params": parameters}
+        message: dict[str, Any] = {"id": self._number, "method": method, "params": parameters}
         if session:
             message["sessionId"] = session
-        self._write(json.dumps(message).encode() + b"\0")
+        data = json.dumps(message).encode() + b"\0"
+        while data:
+            data = data[os.write(self._commands, data):]
         end = time.monotonic() + MOST_SECONDS
         while True:
             told = self._read(end - time.monotonic())
             if told.get("id") == self._number:
                 if "error" in told:
                     raise NoAnswer(f"{method}: {told['error']['message']}")
-                result: Dict[str, Any] = told["result"]
+                result: dict[str, Any] = told["result"]
                 return result
-            self._take_event(told)
+            if told.get("sessionId") in self.pages:
+                self.pages[told["sessionId"]].events.append(told)
 
-    def _write(self, data: bytes) -> None:
-        while data:
-            data = data[os.write(self._commands, data):]
-
-    def _take_event(self, told: Dict[str, Any]) -> None:
-        page = self.pages.get(told.get("sessionId", ""))
-        if page is not None:
-            page.events.append(told)
-
-    def _read(self, seconds: float) -> Dict[str, Any]:
+    def _read(self, seconds: float) -> dict[str, Any]:
         parts = [self._rest]
         while b"\0" not in parts[-1]:
             if seconds <= 0 or not select.select([self._answers], [], [], seconds)[0]:
@@ -102,20 +95,19 @@ class Browser:
                 raise NoAnswer("Chromium has ended")
             parts.append(part)
         message, _, self._rest = b"".join(parts).partition(b"\0")
-        told: Dict[str, Any] = json.loads(message)
+        told: dict[str, Any] = json.loads(message)
         return told
 
-    def open(self, address: str, width: int = 1200, height: int = 900, dark: bool = False, before: str = "") -> "Page":
-        """A new page of this size. The script `before` runs ahead of those of the page."""
+    def open(self, address: str, width: int = 1200, height: int = 900, dark: bool = False) -> "Page":
+        """A new page in a window of this size in pixels, where dark colours are preferred or light ones."""
         target = self.call("Target.createTarget", url="about:blank")["targetId"]
         session = self.call("Target.attachToTarget", targetId=target, flatten=True)["sessionId"]
         page = Page(self, session, target)
         self.pages[session] = page
         for domain in ("Page", "Runtime", "Network", "Log"):
             page.call(f"{domain}.enable")
-        if before:
-            page.call("Page.addScriptToEvaluateOnNewDocument", source=before)
-        page.set_looks(width, height, dark)
+        page.call("Emulation.setDeviceMetricsOverride", width=width, height=height, deviceScaleFactor=1, mobile=False)
+        page.call("Emulation.setEmulatedMedia", features=[{"name": "prefers-color-scheme", "value": "dark" if dark else "light"}])
         page.call("Page.navigate", url=address)
         return page
 
@@ -123,9 +115,9 @@ class Browser:
 class Page:
     def __init__(self, browser: Browser, session: str, target: str) -> None:
         self._browser, self._session, self._target = browser, session, target
-        self.events: List[Dict[str, Any]] = []
+        self.events: list[dict[str, Any]] = []
 
-    def call(self, method: str, **parameters: Any) -> Dict[str, Any]:
+    def call(self, method: str, **parameters: Any) -> dict[str, Any]:
         return self._browser.call(method, self._session, **parameters)
 
     def ask(self, script: str) -> Any:
@@ -142,11 +134,11 @@ class Page:
             try:
                 if self.ask(f"return Boolean({condition});"):
                     return
-            except (ScriptError, NoAnswer) as error:
-                if time.monotonic() > end:
-                    raise ScriptError(str(error)) from error
+                error = f"not within {seconds} seconds: {condition}"
+            except (ScriptError, NoAnswer) as failure:
+                error = str(failure)
             if time.monotonic() > end:
-                raise ScriptError(f"not within {seconds} seconds: {condition}")
+                raise ScriptError(error)
             time.sleep(0.02)
 
     def ask_frame(self, expression: str, wanted: Any = None, seconds: float = 90.0) -> Any:
@@ -160,11 +152,6 @@ class Page:
                 return value
             time.sleep(0.02)
 
-    def set_looks(self, width: int, height: int = 900, dark: bool = False) -> None:
-        """The window's size, in pixels, and whether dark colours are preferred."""
-        self.call("Emulation.setDeviceMetricsOverride", width=width, height=height, deviceScaleFactor=1, mobile=False)
-        self.call("Emulation.setEmulatedMedia", features=[{"name": "prefers-color-scheme", "value": "dark" if dark else "light"}])
-
     def press(self, key: str, code: int = 0, modifiers: int = 0, text: str = "") -> None:
         told = {"key": key, "windowsVirtualKeyCode": code, "modifiers": modifiers}
         self.call("Input.dispatchKeyEvent", type="keyDown", text=text, **told)
@@ -173,13 +160,10 @@ class Page:
     def insert(self, text: str) -> None:
         self.call("Input.insertText", text=text)
 
-    def picture(self, path: Path) -> None:
-        path.write_bytes(base64.b64decode(self.call("Page.captureScreenshot")["data"]))
-
-    def requests(self) -> List[str]:
+    def requests(self) -> list[str]:
         return [it["params"]["request"]["url"] for it in self.events if it["method"] == "Network.requestWillBeSent"]
 
-    def errors(self) -> List[str]:
+    def errors(self) -> list[str]:
         """Scripts' errors, what breaks the page's policy, and what the browser logs as an error."""
         found = [it["params"]["exceptionDetails"] for it in self.events if it["method"] == "Runtime.exceptionThrown"]
         logged = [it["params"]["entry"] for it in self.events if it["method"] == "Log.entryAdded"]

@@ -2,7 +2,7 @@
 and what is written by hand has the same rows: sources, definitions, headers, pages and helps."""
 
 import re
-from typing import Callable, Dict
+from typing import Callable
 
 import pytest
 
@@ -12,7 +12,7 @@ from tools import ROOT, run
 EVENTS: dict[str, int] = {rule["name"]: rule["code"] for rule in RULES["events"]}
 REFUSALS: dict[str, int] = {rule["name"]: rule["number"] for rule in RULES["refusals"]}
 # A table of calls: each call with the letters of what follows its word.
-Table = Dict[str, str]
+Table = dict[str, str]
 # Where numbers of both sizes look alike.
 NUMBERS: Table = {name: letters.replace("s", "n") for name, letters in LETTERS.items()}
 

@@ -6,7 +6,7 @@ from typing import Callable, NamedTuple
 
 import pytest
 
-from tools import ROOT, SANITIZERS, all_hold, current_library, library_for_aarch64, needs, once, run, sanitizes, succeed, told
+from tools import ROOT, SANITIZERS, all_hold, current_library, library_for_aarch64, needs, once, run, succeed, told, with_sanitizers
 
 WARNINGS = ("-Wall", "-Wextra", "-Werror")
 SOURCES = ROOT / "tests/c"
@@ -26,7 +26,6 @@ NETWORK = Program("network_test", ["1000000"], ["10000"], ["toarmuts_memory.c"])
 PROGRAMS = [Program("library_test", ["1000000"], ["10000"], ["toarmuts_memory.c"]), STEPS, Program("steps_memory_test", [], ["0"], []),
             NETWORK, Program("network_memory_test", [], [], [])]
 of_each_program = pytest.mark.parametrize("program", PROGRAMS, ids=[program.name for program in PROGRAMS])
-with_sanitizers = pytest.mark.skipif(not sanitizes("gcc"), reason="no gcc with sanitizers here")
 
 
 def compile_over(library: Path, archive: Path, program: Program, built: Path, *compiler: str) -> Path:
@@ -42,8 +41,10 @@ def sanitized(toarmuts_library: Path, shared: Path) -> Callable[[Program], Path]
                                         "gcc", "-O1", "-g", *SANITIZERS)
 
 
-def test_is_current(toarmuts_library: Path) -> None:
-    assert toarmuts_library.exists() and current_library("toarmuts").exists()
+@pytest.mark.parametrize("name", ["toarmuts", "modules_c"])
+def test_is_current(toarmuts_library: Path, modules_library: Path, name: str) -> None:
+    """The library that is tested is the one of the sources as they are."""
+    assert toarmuts_library.exists() and modules_library.exists() and current_library(name).exists()
 
 
 @with_sanitizers

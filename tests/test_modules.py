@@ -10,7 +10,8 @@ from pathlib import Path
 
 import pytest
 
-from tools import EXAMPLES, ROOT, SANITIZERS, all_hold, current_library, library_for_aarch64, needs, once, run, sanitizes, succeed, told
+from tools import (EXAMPLES, ROOT, SANITIZERS, all_hold, current_library, library_for_aarch64, needs, once, run, succeed, told,
+                   with_sanitizers)
 
 MODULES = ROOT / "c/modules"
 SOURCES = ROOT / "tests/c/modules"
@@ -23,7 +24,6 @@ WARNINGS = ("-Wall", "-Wextra", "-Wconversion", "-Wsign-conversion", "-Wpedantic
 LANGUAGES = (*(f"c -std={standard} -Wshadow -Wstrict-prototypes" for standard in ("c99", "c11", "c17")),
              "c++ -std=c++17 -Wshadow -Wold-style-cast")
 SANITIZED = ("-O1", "-g", *SANITIZERS)
-with_sanitizers = pytest.mark.skipif(not sanitizes("gcc"), reason="no gcc with sanitizers here")
 
 
 def build_modules(folder: Path, archive: Path, compiler: str, *flags: str) -> Path:
@@ -56,10 +56,6 @@ def install(modules: Path, archive: Path, *settings: str) -> None:
 @pytest.fixture(scope="module")
 def prefix(plain: Path, modules_library: Path, shared: Path) -> Path:
     return once(shared / "modules-prefix", lambda place: install(plain, modules_library, f"PREFIX={place}"))
-
-
-def test_is_current(modules_library: Path) -> None:
-    assert modules_library.exists() and current_library("modules_c").exists()
 
 
 @with_sanitizers

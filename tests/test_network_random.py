@@ -19,7 +19,7 @@ import pytest
 
 import test_library
 import test_python
-from tools import all_hold, program, run, succeed
+from tools import all_hold, program, run, succeed, with_sanitizers
 
 NETWORKS = int(os.environ.get("TOARMUTS_NETWORKS", "120"))
 FIRST = int(os.environ.get("TOARMUTS_NETWORKS_FROM", "0"))
@@ -274,7 +274,7 @@ def test_random_networks(network: Path, mote: Path, scenario: Path, tmp_path: Pa
             raise AssertionError(f"network {seed}: {fault}") from fault
 
 
-@test_library.with_sanitizers
+@with_sanitizers
 @test_python.lacks("venv", "ensurepip", "setuptools")
 def test_all_ways(network: Path, scenario: Path, sanitized: Callable[[test_library.Program], Path],
                   environments: test_python.Environments, tmp_path: Path) -> None:

@@ -11,7 +11,7 @@ from pathlib import Path
 
 import pytest
 
-from tools import CRATES, EXAMPLES, ROOT, SANITIZERS, Completed, Word, all_hold, needs, once, run, sanitizes, succeed, told
+from tools import CRATES, EXAMPLES, ROOT, SANITIZERS, Completed, Word, all_hold, needs, once, run, succeed, told, with_sanitizers
 
 PACKAGE = ROOT / "python"
 TESTS = PACKAGE / "tests"
@@ -135,7 +135,7 @@ def test_page(environments: Environments, tmp_path: Path) -> None:
 
 
 @lacks("pytest", "hypothesis", "cffi")
-@pytest.mark.skipif(not sanitizes("gcc"), reason="no gcc with sanitizers here")
+@with_sanitizers
 @pytest.mark.parametrize("file", ["test_entries.py", "test_mote.py", "test_network.py"])
 def test_sanitized(environments: Environments, file: str) -> None:
     """What is written in C, with all warnings and the sanitizers."""

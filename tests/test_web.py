@@ -4,17 +4,17 @@ import json
 import re
 import subprocess
 from pathlib import Path
-from typing import Any, Dict, List, Tuple
+from typing import Any
 
 import pytest
 
 from call_rules import RULES
 from devtools import Browser
-from tools import ROOT, program
+from tools import ROOT, cases, program
 from web_page import Opened, browser, in_chromium, mote_page, opened, page_file, script  # noqa: F401  fixtures
 
 pytestmark = in_chromium
-EXAMPLES: List[Dict[str, Any]] = json.loads((ROOT / "web/examples.json").read_text(encoding="utf-8"))
+EXAMPLES: list[dict[str, Any]] = json.loads((ROOT / "web/examples.json").read_text(encoding="utf-8"))
 TABS = ("transcript", "picture", "explorer", "hand", "about")
 WIDTHS = (420, 560, 760, 900, 1600)
 TAB, ENTER, SPACE = ("Tab", 9), ("Enter", 13), (" ", 32)
@@ -24,9 +24,9 @@ NAMED = {"button", "textbox", "combobox", "checkbox", "spinbutton", "tab", "tabp
          "ComboBoxGrouping"}
 
 
-def transcripts_wanted() -> Dict[str, str]:
+def transcripts_wanted() -> dict[str, str]:
     """The transcripts of the examples, as the rules of docs/profile.md have them. `32 times LINE` is 32 lines, `as FILE` all of a file."""
-    found: Dict[str, str] = {}
+    found: dict[str, str] = {}
     for part in re.split(r"^== ", (ROOT / "tests/web/examples.txt").read_text(encoding="utf-8"), flags=re.M)[1:]:
         name, _, lines = part.partition("\n")
         lines = re.sub(r"^as (.*)\n", lambda told: (ROOT / told[1]).read_text(encoding="utf-8"), lines, flags=re.M)
@@ -42,9 +42,9 @@ def set_network(it: Opened, network: str, only: int | None = None, quiet: bool =
     it.ask(f"await showExperiment({json.dumps({'network': network, 'only': only, 'quiet': quiet})}); await idle();")
 
 
-def marks(it: Opened) -> List[Any]:
+def marks(it: Opened) -> list[Any]:
     """The lines that are marked as mistaken: the editor, the line from 1 on, and the words at it."""
-    found: List[Any] = it.ask(script("marks"))
+    found: list[Any] = it.ask(script("marks"))
     return found
 
 
@@ -72,20 +72,7 @@ def test_examples_by_the_native_program(mote_page: Opened, tmp_path: Path) -> No
         assert (ran.returncode, ran.stdout, ran.stderr) == (0, "example: 1 of 1 runs as told\n", ""), example["name"]
 
 
-MISTAKES: List[Tuple[str, str, str, int, str]] = [
-    ("calls timer-set 0 5, mmem-aloc 0 8\n", "", "applications", 1, "no call mmem-aloc"),
-    ("blink\n\nnobody\n", "", "applications", 3, "no application nobody"),
-    ("calls kill\n", "", "applications", 1, "kill lacks a word"),
-    ('blink\ncalls print "hi\n', "", "applications", 2, "quotes hold a text"),
-    ("# one\nrows\non INIT foo\n", "", "applications", 3, "a row is a stimulus"),
-    ("blink\n" * 17, "", "applications", 17, "At most 16 applications"),
-    ("blink\n", "tick 1\ntick 1x\n", "script", 2, "tick 1x is no line of a script"),
-    ("blink\n", "# a\n\ntock 5\n", "script", 3, "This line is malformed"),
-    ("rows\non any: wait\n", "tick 3\nat 2\n", "script", 2, "the clock is at 3 already"),
-]
-
-
-@pytest.mark.parametrize("applications, inputs, editor, line, words", MISTAKES)
+@pytest.mark.parametrize("applications, inputs, editor, line, words", cases("web_mistakes"))
 def test_mistakes(mote_page: Opened, applications: str, inputs: str, editor: str, line: int, words: str) -> None:  # noqa: F811
     """A mistake is marked at its line, in words, also for screen readers; the mark goes once it is corrected."""
     set_fields(mote_page, applications, inputs)
@@ -97,19 +84,7 @@ def test_mistakes(mote_page: Opened, applications: str, inputs: str, editor: str
     assert marks(mote_page) == [] and mote_page.ask("return document.querySelector('[aria-invalid]');") is None
 
 
-NETWORK_MISTAKES: List[Tuple[str, int, str]] = [
-    ("mote 1 relay\nmote 3 relay\n", 2, "the next mote has number 2."),
-    ("mote 1 relay\nmote 2 nobody\n", 2, "write names of applications and sizes, and last calls and a list of calls."),
-    ("# one\nmote 1..2 relay\n\nlink 1 2 delay 0\n", 4, "write link A B delay D, of motes in lines above."),
-    ("mote 1 relay\nmotes 2\n", 2,
-     "a line begins with mote, link, line, ring, mesh, grid, room, rounds, tick or the number of a mote."),
-    ("mote 1 relay\ntick 1\ntick 1x\n", 3, "write tick N."),
-    ("mote 1 relay\ntick 1\n2 frame 01\n", 3, "write 2 serial HEX or 2 frame HEX, for a mote that exists."),
-    ("mote 1..2 relay\ntick 1\nlink 1 2 delay 1\n", 3, "motes, links and limits must be before the first input."),
-]
-
-
-@pytest.mark.parametrize("network, line, words", NETWORK_MISTAKES)
+@pytest.mark.parametrize("network, line, words", cases("web_network_mistakes"))
 def test_mistakes_of_a_network(mote_page: Opened, network: str, line: int, words: str) -> None:  # noqa: F811
     """A malformed line is marked, with what to write; the run up to there is shown."""
     set_network(mote_page, network)
@@ -152,7 +127,7 @@ def test_network_that_halts(mote_page: Opened) -> None:  # noqa: F811
     ({"quota": 2}, "quota", "A quota must be"), ({"mmem": 2**32 + 64}, "mmem", "Managed memory must be"), ({"heap": -4}, "heap", "from 20"),
     ({"mmem": 32, "quota": 32}, "quota", "a quota of each application and one of the frames"),
 ])
-def test_mistaken_sizes(mote_page: Opened, sizes: Dict[str, Any], field: str, words: str) -> None:  # noqa: F811
+def test_mistaken_sizes(mote_page: Opened, sizes: dict[str, Any], field: str, words: str) -> None:  # noqa: F811
     set_fields(mote_page, "blink\n", "", **sizes)
     told = mote_page.ask(f"return [byId('said').textContent, byId('{field}').getAttribute('aria-invalid'), byId('sizes').open];")
     assert words in told[0] and told[1:] == ["true", True]
@@ -260,7 +235,7 @@ def test_sizes(mote_page: Opened) -> None:  # noqa: F811
     assert told[2] == ""
 
 
-def downloaded(it: Opened, folder: Path, names: List[str]) -> List[str]:
+def downloaded(it: Opened, folder: Path, names: list[str]) -> list[str]:
     it.page.call("Page.setDownloadBehavior", behavior="allow", downloadPath=str(folder))
     for button in ("save-transcript", "save-scenario", "save-picture"):
         it.ask(f"await click('{button}');")
@@ -298,7 +273,7 @@ def test_saved_network(mote_page: Opened, tmp_path: Path) -> None:  # noqa: F811
 
 def test_link_of_a_network(browser: Browser, page_file: Path, mote_page: Opened) -> None:  # noqa: F811
     """A link carries the script of a network, and the choice of one mote."""
-    given: Dict[str, Any] = {"network": "mote 1..2 echo\n# ü\n2 serial 410a\n", "only": 2, "quiet": True}
+    given: dict[str, Any] = {"network": "mote 1..2 echo\n# ü\n2 serial 410a\n", "only": 2, "quiet": True}
     set_network(mote_page, **given)
     told = mote_page.ask("await click('link'); await copyLink(); return [location.hash, transcript()];")
     with opened(browser, page_file.as_uri() + told[0]) as other:
@@ -308,8 +283,8 @@ def test_link_of_a_network(browser: Browser, page_file: Path, mote_page: Opened)
 
 def test_link(browser: Browser, page_file: Path, mote_page: Opened) -> None:  # noqa: F811
     """A link carries all of an experiment: another page that opens it has the same fields and the same transcript."""
-    sizes: Dict[str, Any] = {"mmem": 64, "heap": 128, "header": 8, "quota": 16, "quiet": False}
-    given: Dict[str, Any] = {"applications": 'calls timer-set 0 5, wait, print "ü<b>\\n"\nblink\n', "script": "tick 9\n# ü\n", **sizes}
+    sizes: dict[str, Any] = {"mmem": 64, "heap": 128, "header": 8, "quota": 16, "quiet": False}
+    given: dict[str, Any] = {"applications": 'calls timer-set 0 5, wait, print "ü<b>\\n"\nblink\n', "script": "tick 9\n# ü\n", **sizes}
     set_fields(mote_page, str(given["applications"]), str(given["script"]), **sizes)
     told = mote_page.ask("await click('link'); await copyLink(); return [location.hash, transcript(), byId('saved').textContent];")
     assert told[0].startswith("#e=") and len(told[0]) < 300 and "link" in told[2]
@@ -416,7 +391,7 @@ def test_picture(mote_page: Opened, tmp_path: Path) -> None:  # noqa: F811
     """The picture is that of the native program, of the whole run and of a part; an invalid part is reported."""
     transcript = (ROOT / "examples/blink.transcript").read_text(encoding="utf-8")
     told = mote_page.ask(script("picture"))
-    pictures: List[Tuple[List[str], str]] = [([], told["whole"]), (["--from", "5", "--to", "20"], told["part"])]
+    pictures: list[tuple[list[str], str]] = [([], told["whole"]), (["--from", "5", "--to", "20"], told["part"])]
     for words, drawn in pictures:
         ran = subprocess.run([program("mote_picture"), *words, "blink"], input=transcript.encode(), capture_output=True, check=True)
         assert drawn == ran.stdout.decode()

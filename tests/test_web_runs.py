@@ -5,7 +5,7 @@ import hashlib
 import json
 import subprocess
 from pathlib import Path
-from typing import Any, Dict, List
+from typing import Any
 
 import pytest
 
@@ -24,7 +24,7 @@ NETWORKS = 50
 # The first random network; tests/test_network_random.py has those before it.
 FIRST_NETWORK = 100_000
 # Forms of what mote_picture writes; of a part of a run, too.
-FORMS: List[List[str]] = [[], ["--page"], ["--vcd"], ["--unfolded"], ["--page", "--from", "3", "--to", "20"]]
+FORMS: list[list[str]] = [[], ["--page"], ["--vcd"], ["--unfolded"], ["--page", "--from", "3", "--to", "20"]]
 of_each_part = pytest.mark.parametrize("part", range(PARTS))
 
 # The page itself leaves programs to its worker.
@@ -35,18 +35,18 @@ PLAYED_RUNS = script("played_runs")
 PROGRAM_RUNS = PROGRAM_CLASS + script("program_runs")
 
 
-def with_cases(body: str, cases: List[Any], program: str = "") -> str:
+def with_cases(body: str, cases: list[Any], program: str = "") -> str:
     """A script with its data before it: cases, and the module of a program, which has its name."""
     module = {"mote_picture": "picture"}.get(program, program)
     return f"const CASES = {json.dumps(cases)}, NAME = {json.dumps(program)}, PROGRAM = {json.dumps(module)};\n{body}"
 
 
-def outcome(ran: "subprocess.CompletedProcess[bytes]") -> List[Any]:
+def outcome(ran: "subprocess.CompletedProcess[bytes]") -> list[Any]:
     """A native run in the form of PROGRAM_RUNS."""
     return [ran.returncode, hashlib.sha256(ran.stdout).hexdigest(), ran.stderr.decode()]
 
 
-def differing(told: List[Any], wanted: List[Any], cases: List[Any]) -> List[Any]:
+def differing(told: list[Any], wanted: list[Any], cases: list[Any]) -> list[Any]:
     assert len(told) == len(wanted)
     return [(case, own, other) for own, other, case in zip(told, wanted, cases) if own != other][:3]
 
@@ -62,7 +62,7 @@ def test_library(mote_page: Opened, native_library: NativeLibrary, part: int) ->
     maker = Maker(1 + part)
     cases = [maker.case() for _ in range(RUNS)]
     answers = [native_library.run(case) for case in cases]
-    given: List[Dict[str, Any]] = [case.for_page() for case in cases]
+    given: list[dict[str, Any]] = [case.for_page() for case in cases]
     told = mote_page.ask(with_cases(LIBRARY_RUNS, given))
     assert differing(told, [answer.for_page() for answer in answers], cases) == []
     played = [(case, answer) for case, answer in zip(cases, answers) if is_played(case) and answer.transcript]
@@ -79,7 +79,7 @@ def test_pictures(mote_page: Opened, native_library: NativeLibrary, part: int) -
     maker = Maker(101 + part)
     cases = [maker.case() for _ in range(RUNS)]
     transcripts = [native_library.run(case).transcript.decode() for case in cases]
-    given: List[Dict[str, Any]] = [{"words": [*FORMS[place % len(FORMS)], *case.words, "--", *case.names], "file": None,
+    given: list[dict[str, Any]] = [{"words": [*FORMS[place % len(FORMS)], *case.words, "--", *case.names], "file": None,
                                     "input": transcript + ("nonsense\n" if place % 40 == 0 else "")}
                                    for place, (case, transcript) in enumerate(zip(cases, transcripts))]
     told = mote_page.ask(with_cases(PROGRAM_RUNS, given, "mote_picture"))
@@ -94,7 +94,7 @@ def test_scenarios(mote_page: Opened, part: int, tmp_path: Path) -> None:  # noq
     maker = Maker(201 + part)
     # A comment in any letters comes first: the program looks at UTF-8 in blocks, with instructions that are rewritten for the page.
     files = [b"# " + maker.text(maker.random.randint(0, 200)) + b"\n" + maker.scenario().encode() for _ in range(SCENARIOS)]
-    given: List[Dict[str, Any]] = [{"words": [*(["--json"] if place % 10 == 0 else []), "run"], "input": "",
+    given: list[dict[str, Any]] = [{"words": [*(["--json"] if place % 10 == 0 else []), "run"], "input": "",
                                     "file": base64.b64encode(file).decode()} for place, file in enumerate(files)]
     told = mote_page.ask(with_cases(PROGRAM_RUNS, given, "scenario"))
     wanted = []
@@ -109,8 +109,8 @@ def test_scenarios(mote_page: Opened, part: int, tmp_path: Path) -> None:  # noq
 def test_networks(mote_page: Opened, part: int) -> None:  # noqa: F811
     """Random networks come out as by the native program, of all motes, of one, and quiet; so does a mote that there isn't."""
     scripts = [drawn_network(FIRST_NETWORK + PARTS * place + part).script() for place in range(NETWORKS)]
-    options: List[List[str]] = [[], ["--only", "2"], ["--quiet"], ["--only", "1", "--quiet"], [], ["--only", "12"]]
-    given: List[Dict[str, Any]] = [{"words": options[place % len(options)], "input": it, "file": None} for place, it in enumerate(scripts)]
+    options: list[list[str]] = [[], ["--only", "2"], ["--quiet"], ["--only", "1", "--quiet"], [], ["--only", "12"]]
+    given: list[dict[str, Any]] = [{"words": options[place % len(options)], "input": it, "file": None} for place, it in enumerate(scripts)]
     told = mote_page.ask(with_cases(PROGRAM_RUNS, given, "network"))
     assert differing(told, [outcome(native("network", it["words"], it["input"].encode())) for it in given], given) == []
     assert {status for status, _, _ in told} >= {0, 64}
@@ -118,7 +118,7 @@ def test_networks(mote_page: Opened, part: int) -> None:  # noqa: F811
 
 def test_worked_networks(mote_page: Opened) -> None:  # noqa: F811
     """Networks whose transcripts were written out from the rules."""
-    given: List[Dict[str, Any]] = [{"words": how(it)[1], "input": it.read_text(encoding="utf-8"), "file": None} for it in WORKED]
+    given: list[dict[str, Any]] = [{"words": how(it)[1], "input": it.read_text(encoding="utf-8"), "file": None} for it in WORKED]
     wanted = [[how(it)[0], hashlib.sha256(it.with_suffix(".transcript").read_bytes()).hexdigest(), ""] for it in WORKED]
     assert differing(mote_page.ask(with_cases(PROGRAM_RUNS, given, "network")), wanted, WORKED) == []
 

@@ -9,7 +9,7 @@ import shutil
 import subprocess
 import tempfile
 from pathlib import Path
-from typing import Any, Callable, Mapping, Union
+from typing import Any, Callable, Mapping
 
 import pytest
 
@@ -19,7 +19,7 @@ EXAMPLES = ROOT / "examples"
 SANITIZERS = ("-fsanitize=address,undefined", "-fno-sanitize-recover=all")
 
 Completed = subprocess.CompletedProcess[bytes]
-Word = Union[str, bytes, Path, int]
+Word = str | bytes | Path | int
 
 
 def run(*words: Word, stdin: bytes | Path = b"", cwd: Path | None = None, settings: Mapping[str, str] | None = None,
@@ -120,6 +120,7 @@ def sanitizes(compiler: str) -> bool:
         return run(compiler, *SANITIZERS, "-x", "c", "-", "-o", f"{room}/none", stdin=b"int main(void) { return 0; }\n").returncode == 0
 
 
+with_sanitizers = pytest.mark.skipif(not sanitizes("gcc"), reason="no gcc with sanitizers here")
 # How a command is begun as a user who owns nothing.
 AS_NOBODY = ("setpriv", "--reuid", "65534", "--clear-groups")
 

@@ -6,7 +6,7 @@ import random
 import subprocess
 from dataclasses import asdict, dataclass
 from pathlib import Path
-from typing import Any, Callable, Dict, List
+from typing import Any, Callable
 
 from call_rules import RULES
 from tools import program, succeed
@@ -19,20 +19,20 @@ NO_ROOM = 20
 class Case:
     """A run: sizes as the page has them, the applications, the script, and whether it is one of names and lists that are well formed."""
 
-    configuration: Dict[str, Any]
-    applications: List[str]
+    configuration: dict[str, Any]
+    applications: list[str]
     script: bytes
 
     @property
-    def names(self) -> List[str]:
+    def names(self) -> list[str]:
         return [it.split(" ")[0] for it in self.applications]
 
     @property
-    def words(self) -> List[str]:
+    def words(self) -> list[str]:
         sizes = [(name, value) for name, value in self.configuration.items() if name != "quiet" and value is not None]
         return [word for name, value in sizes for word in (f"--{name}", str(value))]
 
-    def for_page(self) -> Dict[str, Any]:
+    def for_page(self) -> dict[str, Any]:
         return {"configuration": self.configuration, "applications": "\n".join(self.applications),
                 "script": base64.b64encode(self.script).decode()}
 
@@ -47,7 +47,7 @@ class Answer:
     call: int
     transcript: bytes
 
-    def for_page(self) -> Dict[str, Any]:
+    def for_page(self) -> dict[str, Any]:
         """The outcome in the form of the page's script."""
         return {**asdict(self), "transcript": base64.b64encode(self.transcript).decode()}
 
@@ -57,7 +57,7 @@ class Maker:
 
     def __init__(self, seed: int) -> None:
         self.random = random.Random(seed)
-        self.makers: Dict[str, Callable[[], str]] = {
+        self.makers: dict[str, Callable[[], str]] = {
             "process": lambda: self.number(3, 8), "code": lambda: self.one_of("133", "134", "140", "141", "129", "255"),
             "payload": self.payload, "data": lambda: self.hex(0, 12), "timer": lambda: self.number(0, 8),
             "callback": lambda: self.number(0, 4),
@@ -101,10 +101,10 @@ class Maker:
         return self.one_of(f"tick {self.number(0, 20)}", f"tick {self.number(0, 20)}", f"serial {self.hex(1, 9)}", "serial 680a",
                            f"frame {self.hex(1, 12)}", "# note", "")
 
-    def configuration(self) -> Dict[str, Any]:
+    def configuration(self) -> dict[str, Any]:
         """Sizes of a mote; one in thirty is none."""
         quota = self.random.choice([None, None, None, 16, 64])
-        made: Dict[str, Any] = {
+        made: dict[str, Any] = {
             "mmem": self.random.choice([64, 256, 4096, 4096, 65536]), "heap": self.random.choice([64, 256, 4096, 4096, 65536]),
             "header": self.random.choice([16, 16, 8]), "quota": quota, "quiet": self.random.random() < 0.1,
         }
@@ -172,5 +172,5 @@ class NativeLibrary:
         return Answer(told.status, told.line, told.length, told.reason, told.application, told.call, text)
 
 
-def native(name: str, words: List[str], given: bytes, folder: Path | None = None) -> "subprocess.CompletedProcess[bytes]":
+def native(name: str, words: list[str], given: bytes, folder: Path | None = None) -> "subprocess.CompletedProcess[bytes]":
     return subprocess.run([program(name), *words], input=given, capture_output=True, cwd=folder, check=False, timeout=600)
