@@ -10,8 +10,8 @@ standard error.
 from __future__ import annotations
 
 # A proved program starts in a few milliseconds: modules that only an unproved run needs are imported there.
+import io
 import os
-import stat
 import sys
 
 TYPE_CHECKING = False
@@ -70,22 +70,15 @@ class Launch:
         return subprocess.run([os.path.join(ROOT, "prove"), "--is-current", self.crate], check=False).returncode == 0
 
     def tell_of_input(self) -> None:
-        """Checks the input of a proved program, where it can be read twice: files, and standard input from the start of a file."""
-        if self.reads == "files":
-            self.tell_of_files()
-            return
-        try:
-            if stat.S_ISREG(os.fstat(0).st_mode) and os.lseek(0, 0, os.SEEK_CUR) == 0:
-                with open("/proc/self/fd/0", "rb") as opened:
-                    self.tell_of_windows("line", opened)
-        except OSError:
-            pass
-
-    def tell_of_files(self) -> None:
-        for word in filter(os.path.isfile, self.words):
+        """Checks the input of a program, where it can be read twice: files, and standard input from the start of a file."""
+        places = [(f"{word}: line", word) for word in self.words if os.path.isfile(word)]
+        if self.reads == "input":
+            stdin = "/proc/self/fd/0"
+            places = [("line", stdin)] if os.path.isfile(stdin) and os.lseek(0, 0, os.SEEK_CUR) == 0 else []
+        for what, path in places:
             try:
-                with open(word, "rb") as opened:
-                    self.tell_of_windows(f"{word}: line", opened)
+                with open(path, "rb") as opened:
+                    self.tell_of_windows(what, opened)
             except OSError:
                 pass
 
@@ -108,26 +101,28 @@ class Launch:
         import signal
         if shutil.which("rt") is None:
             self.give_up("no proved program is built from the present sources, and there is no rt in PATH to run them unproved", 127)
-        if not all(map(is_text, self.words)):
+        try:
+            os.fsencode(" ".join(self.words)).decode("utf-8")
+        except UnicodeDecodeError:
+            # `rt try` refuses it with another status.
             self.give_up("a word is not text", 64)
-        has_input = is_open(0)
         for number in (signal.SIGINT, signal.SIGTERM, signal.SIGHUP):
             if signal.getsignal(number) != signal.SIG_IGN:
                 signal.signal(number, lambda number, _: sys.exit(128 + number))
         self.tell(f"this run is unproved and takes half a minute to two minutes, on a busy machine six; {self.proving} proves and builds "
                   "the program")
-        streams = [self.make_file() for _ in range(3)]
-        data: list[str] = []
+        given, data = b"", list[str]()
         if self.reads == "files":
-            self.tell_of_files()
+            self.tell_of_input()
             data = self.give_files()
         else:
-            self.keep_input(streams[0], has_input)
-            self.tell_of_windows("line", streams[0])
-        for stream in streams:
-            stream.seek(0)
-        status = self.try_it(data, streams)
-        self.judge(status, *streams)
+            given = self.read_input()
+            self.tell_of_windows("line", io.BytesIO(given))
+        streams = [self.make_file() for _ in range(3)]
+        if not write_all(streams[0].fileno(), given):
+            self.no_room()
+        streams[0].seek(0)
+        self.judge(self.try_it(data, streams), *streams)
 
     def no_room(self) -> NoReturn:
         folder = os.environ.get("TMPDIR") or "/tmp"
@@ -148,25 +143,14 @@ class Launch:
             signal.pthread_sigmask(signal.SIG_UNBLOCK, ending)
         return file  # type: ignore[return-value]
 
-    def keep_input(self, kept: BinaryIO, has_input: bool) -> None:
-        """Stores standard input, as much as mote reads: `rt try` reads nothing from a terminal, and stops reading a pipe that is silent
-        for two seconds."""
-        left = MOST_INPUT
-        while left > 0:
-            try:
-                part = os.read(0, min(left, 65_536)) if has_input else None
-            except OSError:
-                part = None
-            if part is None:
-                self.give_up("read failed", 5)
-            if not part:
-                break
-            left -= len(part)
-            try:
-                kept.write(part)
-            except OSError:
-                self.no_room()
-        kept.seek(0)
+    def read_input(self) -> bytes:
+        """Standard input, as much as mote reads: `rt try` reads nothing from a terminal, and stops reading a pipe that is silent for two
+        seconds."""
+        try:
+            with open(0, "rb", closefd=False) as opened:
+                return opened.read(MOST_INPUT)
+        except OSError:
+            self.give_up("read failed", 5)
 
     def give_files(self) -> list[str]:
         """The options by which `rt try` gives the program the files that its arguments name. The files of such a run are below its
@@ -205,8 +189,7 @@ class Launch:
         if ended:
             self.pass_on(int(ended[1]), lines[:left], stdin, stdout)
         for line in lines[left:]:
-            why = re.match(rb"checked: no-answer: (.*limit.*)", line)
-            if why:
+            if why := re.match(rb"checked: no-answer: (.*limit.*)", line):
                 self.give_up(f"{why[1].decode(errors='replace')}: an unproved run has 1 MiB of output and 60 seconds; "
                              f"what {self.proving} builds has no limit")
         if not has_room(stdin):
@@ -233,23 +216,6 @@ def times(places: Iterable[str]) -> Iterable[int]:
         if os.path.isdir(path):
             with os.scandir(path) as inner:
                 yield from times(entry.path for entry in inner)
-
-
-def is_text(word: str) -> bool:
-    """Whether an argument is text in UTF-8: `rt try` refuses others with another status."""
-    try:
-        os.fsencode(word).decode("utf-8")
-    except UnicodeDecodeError:
-        return False
-    return True
-
-
-def is_open(number: int) -> bool:
-    try:
-        os.fstat(number)
-    except OSError:
-        return False
-    return True
 
 
 def has_room(kept: BinaryIO) -> bool:

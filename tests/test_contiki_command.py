@@ -245,41 +245,13 @@ def test_picture(tree: Path, source: Path, name: str, status: int) -> None:
     assert (ran.returncode, ran.stdout.decode()) == (status, f"--heap=64 --mmem 128 -- {name}\n{2 - status}\n"), told(ran)
 
 
-# Makefiles of Contiki-NG's kind, one of them with CONTIKI elsewhere, and one of the old Contiki's that names a program as a target alone;
-# what the program prints.
-MAKEFILES = {"Makefile": ("""CONTIKI_PROJECT = node
-all: $(CONTIKI_PROJECT)
-CONTIKI = ../../..
-PROJECT_SOURCEFILES += part.c
-PROJECTDIRS += parts
-MODULES += os/services/simple-energest
-MAKE_NET = MAKE_NET_NULLNET
-CFLAGS += -D PROJECT_CONF_H=\\"settings.h\\" -DWORD='"a b"'
-TARGET_LIBFILES += -lm
-include $(CONTIKI)/Makefile.include
-""", "7 a b\n"), "Makefile.quotes": ("""CONTIKI_PROJECT = node
-all: $(CONTIKI_PROJECT)
-CONTIKI = ../..
-DEFINES = PROJECT_CONF_H=\\"settings.h\\",WORD=\\"it\\'s\\"
-PROJECT_SOURCEFILES = parts/part.c
-include $(CONTIKI)/Makefile.include
-""", "7 it's\n"), "Makefile.old": ("""all: node
-DEFINES = PROJECT_CONF_H=\\"settings.h\\",WORD=\\"c\\"
-PROJECT_SOURCEFILES = parts/part.c
-include $(CONTIKI)/Makefile.include
-""", "7 c\n")}
-
-
+# Makefiles of Contiki-NG's kind, one of them with CONTIKI elsewhere, and one of the old Contiki's that names a program as a target alone.
 @needs("make")
-@pytest.mark.parametrize("name", MAKEFILES)
-def test_makefile(contiki: Contiki, tmp_path: Path, name: str) -> None:
+@pytest.mark.parametrize(("name", "wanted"), [("Makefile", "7 a b\n"), ("Makefile.quotes", "7 it's\n"), ("Makefile.old", "7 c\n")])
+def test_makefile(contiki: Contiki, tmp_path: Path, name: str, wanted: str) -> None:
     """A program's own Makefile builds it, by `make`, `make NAME.native` or `make NAME`, and has the targets of Contiki-NG's tutorials."""
-    text, wanted = MAKEFILES[name]
-    part = '#include "contiki.h"\nvoid tell(void);\nvoid tell(void) { printf("%d %s\\n", NUMBER, WORD); }\n'
-    files = {name: text, "settings.h": "#define NUMBER 7\n", "node.c": "void tell(void);\n" + program_of("tell();"), "parts/part.c": part}
-    (tmp_path / "parts").mkdir()
-    for file, content in files.items():
-        (tmp_path / file).write_text(content, encoding="utf-8")
+    shutil.copytree(SOURCES / "makefiles", tmp_path, dirs_exist_ok=True)
+    text = (tmp_path / name).read_text(encoding="utf-8")
 
     def make(*words: str) -> Completed:
         return run("make", "-s", "-C", tmp_path, "-f", name, "TARGET=sky", f"CONTIKI={ROOT}/c/contiki",
@@ -294,7 +266,7 @@ def test_makefile(contiki: Contiki, tmp_path: Path, name: str) -> None:
     assert outcome(run(tmp_path / target, "--text")) == (0, wanted, "")
     if name != "Makefile.old":
         make("distclean")
-        assert sorted(path.name for path in tmp_path.iterdir()) == sorted([name, "node.c", "parts", "settings.h"])
+        assert {path.name for path in tmp_path.iterdir()} == {path.name for path in (SOURCES / "makefiles").iterdir()}
 
 
 # ---- The debugger ----

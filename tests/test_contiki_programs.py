@@ -199,22 +199,6 @@ MISUSES = [
 ]
 USE = ("char *block = heapmem_alloc(20), *more = heapmem_alloc(7); block = heapmem_realloc(block, 400); memset(block, 1, 400); "
        "memset(more, 1, 7); heapmem_realloc(more, 100000); memset(more, 1, 7); item->number = 1;")
-OVER_MODULES = """#include "lib/heapmem.h"
-#include "lib/memb.h"
-#include "lib/mmem.h"
-#include <string.h>
-struct item {{ int number; char bytes[12]; }};
-MEMB(pool, struct item, 3);
-static inline struct item *pool_item(int number) {{ return (struct item *)pool.mem + number; }}
-int main(void)
-{{
-  struct item *item = memb_alloc(&pool);
-  (void)item;
-  (void)pool_item;
-  {}
-  return 0;
-}}
-"""
 
 
 @needs("make")
@@ -222,8 +206,8 @@ int main(void)
 def test_misuse_of_modules(modules_library: Path, shared: Path, tmp_path: Path, statement: str) -> None:
     """With the address sanitizer the memory modules, as they are installed, show the use of freed blocks, and of what is between blocks."""
     modules = build_modules(shared / "modules-plain", modules_library, "gcc", "-O2")
-    source = write_source(tmp_path, OVER_MODULES.format(statement))
-    made = run("gcc", "-std=c11", "-Wall", "-g", "-fsanitize=address", f"-I{MODULES}/include", source, modules, "-o", tmp_path / "misuse")
+    made = run("gcc", "-std=c11", "-Wall", "-g", "-fsanitize=address", f"-I{MODULES}/include", f"-DSTATEMENT={statement}",
+               ROOT / "tests/c/modules/misuse.c", modules, "-o", tmp_path / "misuse")
     assert outcome(made) == (0, "", "")
     ran = run(tmp_path / "misuse")
     assert (ran.returncode == 0, b"use-after-poison" in ran.stderr) == (statement == USE, statement != USE), told(ran)

@@ -1,0 +1,9 @@
+#include "contiki.h"
+
+void tell(void);
+
+void
+tell(void)
+{
+  printf("%d %s\n", NUMBER, WORD);
+}
