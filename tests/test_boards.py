@@ -281,7 +281,6 @@ def compile_kernel_test(room: Path, kernel: Path, source: Path, has_memory: bool
 
 @pytest.mark.parametrize("sample", OF_MOTE)
 def test_kernel_runs(room: Path, kernel: Path, sample: str) -> None:
-    """toarmuts_run makes a sample's transcript."""
     program = compile_kernel_test(room, kernel, HERE / "boards/run_script.c")
     told = run_on(KERNEL_BOARD, program, sample, EXAMPLES / f"{sample}.script")
     assert told == (EXAMPLES / f"{sample}.transcript").read_text(encoding="utf-8")
@@ -296,7 +295,6 @@ def test_kernel_step_by_step(room: Path, kernel: Path, sample: str) -> None:
 
 
 def test_kernel_asks_an_application(room: Path, kernel: Path) -> None:
-    """examples/c/beat.c, whose application is in C."""
     program = compile_kernel_test(room, kernel, EXAMPLES / "c/beat.c")
     assert run_on(KERNEL_BOARD, program) == (EXAMPLES / "c/beat.transcript").read_text(encoding="utf-8")
 

@@ -43,7 +43,6 @@ def c_enum(header: str, name: str) -> list[tuple[str, int]]:
 
 
 def test_made_tables() -> None:
-    """What scripts/make-calls writes is as it would write it now."""
     ran = run(ROOT / "scripts/make-calls", "--check")
     assert ran.returncode == 0, ran.stderr.decode()
 
@@ -151,7 +150,6 @@ TABLES: dict[str, tuple[Callable[[], Table], Table]] = {
 
 @pytest.mark.parametrize("name", TABLES)
 def test_calls(name: str) -> None:
-    """Each call is there, with its arguments, and no other."""
     found, wanted = TABLES[name]
     told = differences(found(), wanted)
     assert not told, f"{name} differs from interface/rules.json:\n" + "\n".join(told)
@@ -249,7 +247,6 @@ NAMES: dict[str, tuple[str, str, str, list[str]]] = {
 
 @pytest.mark.parametrize("file", NAMES)
 def test_applications(file: str) -> None:
-    """Each list of names of applications is that of the rules."""
     before, after, name, wanted = NAMES[file]
     told = source(file).partition(before)[2].partition(after)[0]
     assert re.findall(name, told, re.M) == wanted, f"{file} differs from interface/rules.json"

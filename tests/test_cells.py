@@ -96,7 +96,6 @@ def test_samples() -> None:
 
 @pytest.mark.parametrize("cell", sorted(set(possible_cells()) - OUT_OF_REACH.keys()))
 def test_cell(cell: str) -> None:
-    """A stored transcript shows it."""
     assert cell in shown()
 
 

@@ -135,7 +135,6 @@ def test_malformed_line(blinker: Path, script: bytes, line: int, why: str) -> No
     (COMMENTS + b"\ntick 1\n", 4, b"wait\ntoo long\n"),
 ], ids=["longest line", "longer line", "longest script", "longer script", "longer by a line end"])
 def test_longest_script(blinker: Path, script: bytes, status: int, end: bytes) -> None:
-    """Lines have at most 1,024 bytes, scripts 16,777,216."""
     ran = run(blinker, stdin=script)
     assert ran.returncode == status and ran.stdout.endswith(end), told(ran)
 
@@ -149,14 +148,12 @@ def test_longest_script(blinker: Path, script: bytes, status: int, end: bytes) -
     Case(["--text", "--mmem=64", "--heap=64"], b"tick 128\n", out="LED on\n"),
 ], ids=lambda case: " ".join(map(str, case.words)))
 def test_arguments_of_the_program(blinker: Path, case: Case) -> None:
-    """Arguments of a program that the command has built."""
     check(run(blinker, *case.words, stdin=case.script), case)
 
 
 # ---- Readers ----
 
 def test_lines_are_written_before_more_is_read(blinker: Path) -> None:
-    """The transcript so far is written before more of the script is read."""
     with subprocess.Popen([blinker], stdin=subprocess.PIPE, stdout=subprocess.PIPE) as ran:
         assert ran.stdin is not None and ran.stdout is not None
         for line, wanted in ((b"", [b"4 synch 129 - -> timer-set 0 128\n", b"4 answer done -> wait\n"]), (b"tick 1\n", [b"> tick 1\n"])):
@@ -273,7 +270,6 @@ def test_makefile(contiki: Contiki, tmp_path: Path, name: str, wanted: str) -> N
 
 @needs("gdb")
 def test_debugger(contiki: Contiki) -> None:
-    """A program runs in gdb."""
     ran = contiki("--gdb", SOURCES / "faults/null_pointer.c", settings={"GDB": "gdb -q -batch -ex run -ex backtrace"})
     assert b"process_thread_careless" in ran.stdout, told(ran)
 

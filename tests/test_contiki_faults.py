@@ -46,7 +46,6 @@ STOPPED = {
 
 
 def test_each_fault_is_tried() -> None:
-    """The table has each source there."""
     assert sorted(row[0] for row in table("contiki_faults")) == sorted(path.stem for path in (SOURCES / "faults").glob("*.c"))
 
 
@@ -100,12 +99,10 @@ ANOTHER = 'PROCESS(p{0}, "P");\nPROCESS_THREAD(p{0}, ev, data)\n{{PROCESS_BEGIN(
     (program_of("") + "".join(ANOTHER.format(number) for number in range(16)), "more than 16 processes"),
 ], ids=["none", "seventeen"])
 def test_number_of_processes(contiki: Contiki, tmp_path: Path, text: str, reason: str) -> None:
-    """A program has a process that is started, and no more than sixteen."""
     assert outcome(contiki(write_source(tmp_path, text), stdin=b"tick 1\n")) == (64, "", f"contiki: {reason}\n")
 
 
 def test_process_without_a_name(contiki: Contiki, tmp_path: Path) -> None:
-    """A process may have NULL for its name."""
     source, program = write_source(tmp_path, program_of("while(1) { clock_time(); }").replace('"Only"', "NULL")), tmp_path / "nameless"
     contiki("--build", program, source)
     assert run(program, "--names").stdout == b"\n"

@@ -62,7 +62,6 @@ def runner(contiki: Contiki, tmp_path: Path) -> Runner:
 @pytest.mark.parametrize("words", COPIES, ids=["swapped", "copies"])
 @pytest.mark.parametrize("network", WORKED, ids=lambda network: str(network.stem))
 def test_example(contiki: Contiki, sanitizing_compiler: str, network: Path, words: list[str]) -> None:
-    """Each example writes its transcript, or its text."""
     text = network.with_suffix(".text")
     ran = contiki("--network", network, "--cc", sanitizing_compiler, *STRICT, *words, *(["--text"] if text.exists() else []),
                   *sources_of(network), stdin=network.with_suffix(".script"))
@@ -71,7 +70,6 @@ def test_example(contiki: Contiki, sanitizing_compiler: str, network: Path, word
 
 
 def test_each_example_is_tried() -> None:
-    """No file beside the networks is forgotten."""
     stems = {network.stem for network in WORKED} | {source.stem for network in WORKED for source in sources_of(network)}
     assert {path.stem for path in NETWORKS.iterdir()} == stems
 
@@ -322,7 +320,6 @@ def test_malformed_input(runner: Runner, line: str) -> None:
     (["--network", "{net}"], 64, "no source is given; see --help"),
 ], ids=lambda word: " ".join(map(str, word)) if isinstance(word, list) else "")
 def test_refused_arguments(contiki: Contiki, tmp_path: Path, words: list[Word], status: int, why: str) -> None:
-    """What doesn't go with a network."""
     net = write_network(tmp_path, TWO_MOTES)
     assert outcome(contiki(*(net if word == "{net}" else word for word in words))) == (status, "", f"contiki: {why}\n")
 
@@ -416,5 +413,4 @@ def test_rounds(runner: Runner) -> None:
 
 
 def test_no_motes(runner: Runner) -> None:
-    """A network of no motes has a clock."""
     assert outcome(runner("", [HELLO], "tick 5\ntick 1\n")) == (0, "= 5\n= 6\n", "")

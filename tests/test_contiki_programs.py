@@ -32,7 +32,6 @@ def has_crypto(compiler: str) -> bool:
 
 
 def test_each_program_is_tried() -> None:
-    """The tables have each source there."""
     there = [str(path.relative_to(FOLDER).with_suffix("")) for path in FOLDER.glob("**/*.c")]
     assert sorted((*PLAIN_PROGRAMS, *WITH_MODULES)) == sorted(there)
 

@@ -30,7 +30,6 @@ def compile_all(contiki: Contiki, compiler: str, name: str, texts: list[str]) ->
 
 @pytest.mark.parametrize("statement", STATEMENTS)
 def test_statement(contiki: Contiki, sanitizing_compiler: str, statement: str) -> None:
-    """What the mote hasn't is no program, and the compiler says why."""
     said = compile_all(contiki, sanitizing_compiler, "statements", [program_of(each) for each in STATEMENTS]).decode()
     parts = re.split(r"refused-(\d+)\.c\b", said)
     number = str(list(STATEMENTS).index(statement))

@@ -151,7 +151,6 @@ def test_uncommitted_file(gate: Gate) -> None:
 
 
 def test_skipped(gate: Gate) -> None:
-    """What is skipped is reported with its reason, and noted."""
     gate.add({"tests/test_third.py": "import pytest\n@pytest.mark.skip(reason='no such tool')\ndef test_it(): pass\n"})
     status, lines = gate()
     assert (status, lines[-2:], gate.notes()) == (0, ["1 skipped, for the reasons above", ALL_PASS], "11 passed, 1 skipped"), lines
@@ -184,7 +183,6 @@ def test_tests_that_fail(gate: Gate, fault: str, workers: str) -> None:
 
 
 def test_nothing_is_chosen(gate: Gate) -> None:
-    """Where nothing is tried, that isn't taken for success."""
     status, lines = gate("first", "-k", "nothing")
     assert (status, lines[-2:]) == (1, ["pytest: 1 failed", "0 passed, 1 failed"])
 

@@ -150,6 +150,5 @@ def test_note_of_another(noted: Sources, file: str, times: int) -> None:
 
 
 def test_other_names_are_refused(repository: Path) -> None:
-    """Only programs and libraries for C have a module."""
     with pytest.raises(Refused, match="high is no program and no library for C"):
         keep_module(repository, "high")

@@ -166,7 +166,6 @@ def test_unproved_run_writes_no_files(tree: Tree) -> None:
 # ---- A proved program ----
 
 def test_proved_run(proved_tree: Tree) -> None:
-    """A proved program runs with no rt too."""
     proved_tree.run("mote", "a", "b c", stdin=SCRIPT, PATH=WITHOUT_RT)
     assert (proved_tree.ran.returncode, proved_tree.ran.stdout, proved_tree.stderr) == (3, b"proved a b c\n" + SCRIPT, "")
 
@@ -186,7 +185,6 @@ def test_lines_of_windows_proved(proved_tree: Tree) -> None:
 
 @pytest.mark.parametrize(("script", "first"), [("mote", "proved "), ("scenario", "words "), ("mote-picture", "words ")])
 def test_script_by_a_link(proved_tree: Tree, script: str, first: str) -> None:
-    """A script may be called by a link, from elsewhere."""
     (proved_tree.root / "crates/mote_picture").mkdir()
     (proved_tree.bin / "called").symlink_to(proved_tree.root / script)
     assert run(proved_tree.bin / "called", cwd=Path("/"), settings=proved_tree.settings()).stdout.decode() == first + "\n"

@@ -117,7 +117,6 @@ def test_interrupt(tree: Tree, number: signal.Signals) -> None:
 
 
 def test_hangup_below_nohup(tree: Tree) -> None:
-    """Where hangups are ignored, it continues."""
     command = ["env", "--ignore-signal=HUP", str(tree.root / "prove")]
     environment = {**os.environ, **tree.settings(PAUSE="0.2")}
     with subprocess.Popen(command, stderr=subprocess.DEVNULL, stdout=subprocess.DEVNULL, env=environment) as started:
@@ -163,7 +162,6 @@ def test_edited_meanwhile(tree: Tree) -> None:
 
 
 def test_kept_anew_meanwhile(tree: Tree) -> None:
-    """Work that is stored meanwhile stays."""
     started = tree.begin_to_prove(PAUSE="5", LONG="low")
     kept = tree.crate("low") / "out/incremental"
     kept.mkdir(parents=True)
@@ -201,7 +199,6 @@ def test_another_rt(tree: Tree, command: str, place: str, begun: list[str]) -> N
 
 
 def test_two_at_once(tree: Tree) -> None:
-    """The second of two waits."""
     started = tree.begin_to_prove(PAUSE="1")
     second = tree.run("prove")
     assert second.returncode == 0 and b"waiting until it has ended" in second.stderr
@@ -229,7 +226,6 @@ def test_other_programs(tree: Tree) -> None:
 
 @pytest.mark.parametrize("word", ["nothing", "mote/", "./mote", "low", "high", "crates/mote", ""])
 def test_no_such_program(tree: Tree, word: str) -> None:
-    """What is neither a program nor a library is refused."""
     tree.run("prove", word)
     assert (tree.ran.returncode, tree.stderr) == (64, f"prove: {word} is no program of this repository, and no library for C\n")
 

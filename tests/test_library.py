@@ -81,7 +81,6 @@ def test_networks_like_the_program(network: Path, sanitized: Callable[[Program],
 
 @pytest.mark.parametrize("compiler", ["gcc -std=c99 -x c", "g++ -std=c++11 -x c++"])
 def test_header(toarmuts_library: Path, compiler: str) -> None:
-    """The header gives no warning, in C and in C++."""
     succeed(*compiler.split(), "-Wall", "-Wextra", "-Wpedantic", "-Wshadow", "-Werror", "-fsyntax-only", toarmuts_library / "toarmuts.h")
 
 

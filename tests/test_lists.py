@@ -70,7 +70,6 @@ def spoilt_list(chance: random.Random) -> str:
 
 
 def test_lists(scenario: Path, tmp_path: Path) -> None:
-    """Each list is taken, and the transcript shows its calls."""
     chance = random.Random(7)
     lists = [list_of(chance) for _ in range(LISTS)]
     (tmp_path / "runs").write_text("".join(f"== {number}\ncalls {text}\n" for number, (text, _) in enumerate(lists)), encoding="utf-8")
@@ -83,7 +82,6 @@ def test_lists(scenario: Path, tmp_path: Path) -> None:
 
 @pytest.mark.parametrize("first", range(0, SPOILT_LISTS, PART))
 def test_spoilt_lists(scenario: Path, tmp_path: Path, first: int) -> None:
-    """A spoilt call is refused, and its line is reported."""
     for seed in range(first, first + PART):
         text = spoilt_list(random.Random(seed))
         (tmp_path / "runs").write_text(f"calls {text}\n", encoding="utf-8")

@@ -90,7 +90,6 @@ def original(shared: Path) -> bytes:
 
 @with_sanitizers
 def test_source(checked: Path, original: bytes, tmp_path: Path) -> None:
-    """The same source writes the same with both sets of headers."""
     succeed("gcc", *SANITIZED, "-std=c11", f"-I{MODULES}/include", SOURCES / "source.c", checked, "-o", tmp_path / "source")
     assert succeed(tmp_path / "source").stdout == original
 
@@ -98,7 +97,6 @@ def test_source(checked: Path, original: bytes, tmp_path: Path) -> None:
 @pytest.mark.parametrize("compiler", ["gcc", "clang"])
 @pytest.mark.parametrize("language", LANGUAGES)
 def test_headers(tmp_path: Path, compiler: str, language: str) -> None:
-    """Each way to read the headers, without a warning."""
     if shutil.which(compiler) is None:
         pytest.skip(f"no {compiler} here")
     succeed(compiler, "-x", *language.split(), *WARNINGS, f"-I{MODULES}/include", "-c", SOURCES / "headers.c", "-o", tmp_path / "none.o")
@@ -173,7 +171,6 @@ def test_program_of_one_module(modules_library: Path, tmp_path: Path) -> None:
 
 @needs("make")
 def test_example(modules_library: Path) -> None:
-    """The example that a user builds by its Makefile."""
     current_library("modules_c")
     succeed("make", "-s", "-C", EXAMPLES / "c", "readings")
     assert succeed(EXAMPLES / "c/readings").stdout.endswith(b"21 degrees\n")

@@ -51,7 +51,6 @@ def test_worked_network(network: Path, script: Path) -> None:
 
 
 def test_each_transcript_has_a_network() -> None:
-    """No file beside the worked networks is forgotten."""
     for folder in {script.parent for script in WORKED}:
         names = {path.stem for path in WORKED if path.parent == folder}
         assert names == {path.stem for path in folder.glob("*.transcript")} == {
@@ -198,19 +197,16 @@ def test_output_that_fails_early(network: Path, tmp_path: Path) -> None:
 
 @pytest.mark.parametrize(("script", "mote"), [(TWO, "3"), ("", "1"), (TWO, "4294967295")], ids=["3 of 2", "1 of none", "the last"])
 def test_only_of_no_mote(network: Path, script: str, mote: str) -> None:
-    """There is no such mote, which is reported before anything is executed."""
     ran = run(network, "--only", mote, stdin=f"{script}tick 1\nwalk\n".encode())
     assert (ran.returncode, ran.stdout, ran.stderr) == (64, b"", f"network: no mote {mote}\n".encode())
 
 
 def test_malformed_before_only(network: Path) -> None:
-    """A malformed line is reported first."""
     ran = run(network, "--only", "3", stdin=b"walk\n")
     assert (ran.returncode, ran.stdout, ran.stderr) == (2, b"bad line 1\n", b"")
 
 
 def test_room_that_memory_lacks(network: Path) -> None:
-    """Room for more frames than there is memory for is refused."""
     ran = run("bash", "-c", 'ulimit -v 1000000 && exec "$@"', "bash", network, stdin=b"room 4294967295\ntick 1\n")
     assert (ran.returncode, ran.stdout, ran.stderr) == (70, b"", b"network: out of memory\n")
 
@@ -224,7 +220,6 @@ def test_invalid_arguments(network: Path, words: tuple[str, ...]) -> None:
 
 
 def test_argument_that_is_no_text(network: Path) -> None:
-    """A word that isn't UTF-8."""
     ran = run(network, b"\xff")
     assert (ran.returncode, ran.stdout, ran.stderr) == (64, b"", b"network: a word is not text\n")
 
@@ -255,6 +250,5 @@ def test_command_takes_a_file(network: Path, words: tuple[str, ...]) -> None:
 
 @pytest.mark.parametrize("word", ["no such file", str(EXAMPLES)], ids=["no file", "a folder"])
 def test_command_without_its_file(word: str) -> None:
-    """A file that can't be read is named."""
     ran = run(ROOT / "network", "--quiet", word)
     assert (ran.returncode, ran.stdout, ran.stderr) == (64, b"", f"network: no file '{word}' that can be read\n".encode())

@@ -20,7 +20,6 @@ QUIET = "4 synch 129 - -> print 61\n"
 
 
 def test_template() -> None:
-    """src/page/template is what scripts/page-template makes of web/."""
     succeed(ROOT / "scripts/page-template", "--check")
 
 
@@ -80,7 +79,6 @@ def test_markup() -> None:
 
 
 def test_two_forms() -> None:
-    """A page and a dump aren't asked for at once."""
     both = picture(["--page", "--vcd"], TICKS)
     assert (both.returncode, both.stdout) == (64, b"")
     assert both.stderr.startswith(b"error: the argument '--page' cannot be used with '--vcd'\n")
@@ -88,18 +86,15 @@ def test_two_forms() -> None:
 
 @pytest.mark.parametrize("form", ["--page", "--vcd"])
 def test_malformed_line(form: str) -> None:
-    """What is no transcript has no page and no dump."""
     told = picture([form], "> tick 1\nnonsense\n")
     assert (told.returncode, told.stdout, told.stderr) == (2, b"", b"mote_picture: line 2 is no line of a transcript\n")
 
 
 def test_part() -> None:
-    """A part of a run, with names and a size."""
     data = data_in(picture(["--page", "--from", "5", "--to", "9", "--heap", "64", "one", "two"], TICKS).stdout.decode())[1]
     assert (data["text"], data["run"]) == ("> tick 5\n", [3, 1, 0, 4096, 64, 16, None, None])
     assert (data["names"], data["title"]) == (["one", "two"], "mote --from 5 --to 9 --heap 64 one two")
 
 
 def test_quiet_page() -> None:
-    """The page of a quiet transcript says that it is one."""
     assert data_in(picture(["--page"], QUIET).stdout.decode())[1]["quiet"] is True

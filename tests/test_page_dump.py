@@ -129,7 +129,6 @@ def test_reader() -> None:
 
 @pytest.mark.parametrize("name", SPOILT)
 def test_no_dump(name: str) -> None:
-    """The reader refuses a text that is no dump."""
     before, after = SPOILT[name]
     with pytest.raises(NoDump):
         read_dump(GOOD.replace(before, after, 1))

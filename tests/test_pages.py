@@ -266,13 +266,11 @@ def test_listings(page: Path) -> None:
 # ---- Layers, licence, libraries, calls, examples ----
 
 def test_map_has_the_layers() -> None:
-    """docs/map.md shows the figure that tests/layers.py makes of crates.txt."""
     shown = f"```drawing\n{layers.figure()}\n```" in (ROOT / "docs/map.md").read_text(encoding="utf-8")
     assert shown, "docs/map.md: its figure isn't what `python3 tests/layers.py` prints"
 
 
 def test_one_licence() -> None:
-    """Each place that states the licence has that of LICENSE."""
     text = (ROOT / "LICENSE").read_text(encoding="utf-8")
     copyright_file = (ROOT / "packaging/copyright").read_text(encoding="utf-8")
     owner, _, terms = text.partition("\n\n")

@@ -76,13 +76,11 @@ def test_sample(mote: Path, script: Path) -> None:
 @pytest.mark.parametrize(("redirection", "word"), [("</dev/null >&-", "hello"), ("</dev/null >/dev/full", "hello"),
                                                    ("</dev/null >/dev/full", "--help")], ids=["closed", "full", "help"])
 def test_output_that_fails(mote: Path, redirection: str, word: str) -> None:
-    """A closed output and a full device are write faults."""
     ran = with_stream(redirection, mote, word)
     assert (ran.returncode, ran.stderr) == (6, b"mote: write failed\n")
 
 
 def test_input_that_fails(mote: Path) -> None:
-    """A closed input is a read fault."""
     ran = with_stream("<&-", mote, "hello")
     assert (ran.returncode, ran.stderr) == (5, b"mote: read failed\n")
     assert ran.stdout.startswith(b"4 synch 129 - -> print 68690a\n")

@@ -129,7 +129,6 @@ def test_docstrings(environments: Environments, tmp_path: Path) -> None:
 
 @lacks("pytest", "hypothesis")
 def test_page(environments: Environments, tmp_path: Path) -> None:
-    """The examples on the page, those of Hypothesis the same each time."""
     pytest_by(environments.python("environment"), "-p", "same_each_time", "--doctest-glob=*.md", ROOT / "docs/python.md", cwd=tmp_path,
               settings={"PYTHONPATH": str(TESTS)})
 

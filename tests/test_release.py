@@ -92,7 +92,6 @@ def there(releases: Path) -> Path:
 
 
 def test_unproved_program_is_refused(proofs: None, tmp_path: Path) -> None:
-    """What isn't proved is refused."""
     tree = copy_tree(tmp_path / "unproved", *(name for name in (*PROGRAMS, *LIBRARIES, *IN_PAGE) if name != "mote"))
     ran = run(tree / "scripts/release", tmp_path / "none")
     assert ran.returncode == 1 and not (tmp_path / "none").exists()
@@ -129,7 +128,6 @@ def test_facts(there: Path) -> None:
 
 
 def test_no_folder_is_named(releases: Path, there: Path, tmp_path: Path) -> None:
-    """No file names a folder that it was made in."""
     for wheel in (there / "share/toarmuts/python").glob("*.whl"):
         zipfile.ZipFile(wheel).extractall(tmp_path)
     ran = run("grep", "-rlF", "-e", ROOT, "-e", releases, there, tmp_path)
@@ -201,7 +199,6 @@ def test_programs(archive: System) -> None:
 
 
 def test_compiler(archive: System) -> None:
-    """The archive's libraries for C."""
     use_compiler(archive)
 
 
@@ -230,7 +227,6 @@ def test_modules_for_cortex_m(archive: System, core: str) -> None:
 @needs("man")
 @pytest.mark.parametrize("command", COMMANDS)
 def test_manual(archive: System, command: str) -> None:
-    """The manual pages, without a warning."""
     ran = archive.run("man", "--warnings", "-l", f"{archive.prefix}/share/man/man1/{command}.1.gz")
     assert ran.stderr == b"" and len(ran.stdout.split(b"\n")) >= 10, told(ran)
 
@@ -256,7 +252,6 @@ def test_completion(archive: System, words: str, wanted: str) -> None:
 
 @needs("lintian")
 def test_lintian(releases: Path) -> None:
-    """Debian's own check has no error."""
     succeed("lintian", "--allow-root", "--fail-on", "error", releases / "first" / PACKAGE)
 
 

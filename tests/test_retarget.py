@@ -57,7 +57,6 @@ def test_other_forms_are_refused(body: str, rest: str, told: str, tmp_path: Path
 
 
 def test_refusal_has_the_line() -> None:
-    """The number of the line that is refused comes first."""
     with pytest.raises(Refused, match="^line 5: an operation of a form that isn't on the list: fence seq_cst$"):
         retargeted(module_of("fence seq_cst"), CORTEX_M3)
 
@@ -207,7 +206,6 @@ def test_shuffle(tmp_path: Path) -> None:
 
 @pytest.mark.parametrize("name", sorted(TARGETS))
 def test_data_layout_is_clangs(name: str, tmp_path: Path) -> None:
-    """The data layout and the triple are those that clang has for the target."""
     source = tmp_path / "empty.c"
     source.touch()
     target = TARGETS[name]

@@ -60,13 +60,11 @@ def test_text() -> None:
 
 @needs("flake8")
 def test_flake8() -> None:
-    """Python is laid out as PEP 8 has it."""
     succeed("flake8", *sources("python"), cwd=ROOT)
 
 
 @needs("mypy")
 def test_mypy(tmp_path: Path) -> None:
-    """The tests and scripts have types."""
     checked = [path for path in sources("python") if path.parent in (ROOT, ROOT / "tests", ROOT / "scripts")]
     succeed("mypy", "--cache-dir", tmp_path, *checked, cwd=ROOT)
 
@@ -74,14 +72,12 @@ def test_mypy(tmp_path: Path) -> None:
 @needs("shellcheck")
 @pytest.mark.parametrize("path", sources("shell"), ids=lambda path: str(path.relative_to(ROOT)))
 def test_shellcheck(path: Path) -> None:
-    """Shell has none of the usual slips."""
     ran = run("shellcheck", "--external-sources", "--severity=warning", path, cwd=ROOT)
     assert ran.returncode == 0, told(ran)
 
 
 @needs("clang-format")
 def test_clang_format() -> None:
-    """C is laid out as Contiki-NG's sources are."""
     checked = sources("C")
     assert checked
     ran = run("clang-format", "--dry-run", *checked, cwd=ROOT)

@@ -202,7 +202,6 @@ return [editors.script.text, transcript()];""")
 
 
 def test_added_applications(mote_page: Opened) -> None:  # noqa: F811
-    """The mote accepts each kind that can be added."""
     set_fields(mote_page, "", "")
     told = mote_page.ask("""
 const found = [];
