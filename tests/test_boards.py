@@ -34,8 +34,8 @@ class Board:
     @property
     def linking(self) -> list[str | Path]:
         sizes = {"flash_size": self.flash, "ram_size": self.ram, "stack_size": self.stack, "ram_start": self.ram_start}
-        script: list[str | Path] = ["-nostartfiles", "-T", BOARD / "board.ld"]
-        return script + ["-Wl,--gc-sections,--no-warn-rwx-segments", *(f"-Wl,--defsym={name}={size}" for name, size in sizes.items())]
+        return ["-nostartfiles", "-T", BOARD / "board.ld", "-Wl,--gc-sections,--no-warn-rwx-segments",
+                *(f"-Wl,--defsym={name}={size}" for name, size in sizes.items())]
 
 
 MICROBIT = Board("microbit", "256K", "16K", "2K")
@@ -55,16 +55,9 @@ PROCESSOR = {
 }
 
 
-def lacking() -> str:
-    found = [package for command, package in (("arm-none-eabi-gcc", "gcc-arm-none-eabi"), ("qemu-system-arm", "qemu-system-arm"),
-                                              ("pkg-config", "pkg-config")) if shutil.which(command) is None]
-    if "gcc-arm-none-eabi" not in found:
-        if b"/" not in tools.run("arm-none-eabi-gcc", "--print-file-name=rdimon.specs").stdout:
-            found.append("libnewlib-arm-none-eabi")
-    return ", ".join(found)
-
-
-pytestmark = pytest.mark.skipif(bool(lacking()), reason=f"these Debian packages aren't here: {lacking()}")
+HAS_NEWLIB = shutil.which("arm-none-eabi-gcc") and b"/" in tools.run("arm-none-eabi-gcc", "--print-file-name=rdimon.specs").stdout
+pytestmark = [tools.needs("arm-none-eabi-gcc", "qemu-system-arm", "pkg-config"),
+              pytest.mark.skipif(not HAS_NEWLIB, reason="not here: libnewlib-arm-none-eabi")]
 
 
 def succeed(*words: tools.Word, cwd: Path | None = None, timeout: float = 600) -> str:
@@ -83,9 +76,8 @@ def room(shared: Path, modules_library: Path) -> Path:
 
 def archive(room: Path, name: str, core: str) -> Path:
     """The library for a core, whose module is stored once."""
-    def make(place: Path) -> None:
-        shutil.copy2(succeed(ROOT / "scripts/for-cortex-m", name, core, timeout=1800).strip(), place)
-    return once(room / f"{name}-{core}.a", make)
+    return once(room / f"{name}-{core}.a",
+                lambda place: shutil.copy2(succeed(ROOT / "scripts/for-cortex-m", name, core, timeout=1800).strip(), place))
 
 
 def installed(room: Path, core: str) -> Path:
@@ -127,10 +119,6 @@ class ModuleTest:
     options: tuple[str, ...] = ()
     words: tuple[str, ...] = ()
 
-    @property
-    def name(self) -> str:
-        return self.source.stem
-
 
 IN_C = HERE / "c/modules"
 CALLS = "-DRANDOM_CALLS=20000"
@@ -152,7 +140,7 @@ def compile_module_test(room: Path, test: ModuleTest, core: str, board: Board | 
     flags, libraries = modules_of(room, core)
     memories = [installed(room, core) / "share/toarmuts-modules" / it for it in MEMORIES]
     sources: list[str | Path] = [*flags, *test.options, test.source, *memories]
-    program = room / f"{test.name}-{core}-{board.machine if board else 'here'}"
+    program = room / f"{test.source.stem}-{core}-{board.machine if board else 'here'}"
     if board is not None:
         compile_for(board, core, program, sources, [*libraries])
     else:
@@ -163,11 +151,11 @@ def compile_module_test(room: Path, test: ModuleTest, core: str, board: Board | 
 def text_here(room: Path, test: ModuleTest) -> str:
     def make(place: Path) -> None:
         place.write_text(succeed(compile_module_test(room, test, "here"), *test.words), encoding="utf-8")
-    return once(room / f"{test.name}.text", make).read_text(encoding="utf-8")
+    return once(room / f"{test.source.stem}.text", make).read_text(encoding="utf-8")
 
 
 @pytest.mark.parametrize("core", PROCESSOR)
-@pytest.mark.parametrize("test", MODULE_TESTS, ids=[it.name for it in MODULE_TESTS])
+@pytest.mark.parametrize("test", MODULE_TESTS, ids=lambda it: it.source.stem if isinstance(it, ModuleTest) else it)
 def test_modules(room: Path, test: ModuleTest, core: str) -> None:
     """Each test of a module holds on each core, and prints what it prints here."""
     program = compile_module_test(room, test, core, LARGE[core])
@@ -241,10 +229,7 @@ def test_linking_before_another_archive(room: Path, tmp_path: Path) -> None:
     assert run_on(STELLARIS, program) == NODE_TEXT
 
 
-HEADERS = ["c -std=c99", "c -std=c11", "c -std=c17", "c++ -std=c++17 -Wold-style-cast"]
-
-
-@pytest.mark.parametrize("language", HEADERS)
+@pytest.mark.parametrize("language", ["c -std=c99", "c -std=c11", "c -std=c17", "c++ -std=c++17 -Wold-style-cast"])
 def test_headers(language: str, tmp_path: Path) -> None:
     """The headers give no warning by arm-none-eabi-gcc, neither the modules' nor the kernel's."""
     warnings = "-Wall -Wextra -Wconversion -Wsign-conversion -Wpedantic -Wundef -Wshadow -Werror".split()
@@ -256,9 +241,7 @@ def test_headers(language: str, tmp_path: Path) -> None:
 @pytest.mark.parametrize("options", ["-mbig-endian -mcpu=cortex-m3", "-march=armv7-a -marm"])
 def test_other_processors_are_refused(options: str, tmp_path: Path) -> None:
     """A compiler for another ARM says that there is no library for it."""
-    words: list[str | Path] = ["arm-none-eabi-gcc", *options.split(), f"-I{MODULES / 'include'}", "-c", IN_C / "headers.c", "-o",
-                               tmp_path / "none.o"]
-    ran = tools.run(*words)
+    ran = tools.run("arm-none-eabi-gcc", *options.split(), f"-I{MODULES / 'include'}", "-c", IN_C / "headers.c", "-o", tmp_path / "none.o")
     assert ran.returncode != 0 and b"toarmuts_modules: built for" in ran.stderr
 
 
@@ -299,10 +282,8 @@ def test_kernel_asks_an_application(room: Path, kernel: Path) -> None:
     assert run_on(KERNEL_BOARD, program) == (EXAMPLES / "c/beat.transcript").read_text(encoding="utf-8")
 
 
-KERNEL_TESTS = [("library_test", ("5000",), True), ("steps_test", ("5000", "100"), True), ("steps_memory_test", (), False)]
-
-
-@pytest.mark.parametrize(("name", "words", "has_memory"), KERNEL_TESTS, ids=[it[0] for it in KERNEL_TESTS])
+@pytest.mark.parametrize(("name", "words", "has_memory"), [("library_test", ("5000",), True), ("steps_test", ("5000", "100"), True),
+                                                           ("steps_memory_test", (), False)])
 def test_kernel_tests(room: Path, kernel: Path, toarmuts_library: Path, name: str, words: tuple[str, ...], has_memory: bool) -> None:
     """The library's tests: worked replies, random calls, random runs step by step beside whole ones, refused memory."""
     source, here = HERE / f"c/{name}.c", room / f"{name}-here"
