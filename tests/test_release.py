@@ -10,7 +10,7 @@ import re
 import shutil
 import zipfile
 from pathlib import Path
-from typing import Callable
+from typing import Callable, NamedTuple
 
 import pytest
 
@@ -28,6 +28,7 @@ IN_PAGE = ("network",)
 COMMANDS = ("mote", "mote-picture", "scenario", "contiki")
 FLAGS = "-std=c11 -Wall -Wextra -Werror"
 PKG_CONFIG = "pkg-config --cflags --libs"
+BLINK = "4 synch 129 - -> timer-set 0 10\n"
 # The root of a system, in which an environment may stand.
 Inside = Callable[..., Completed]
 
@@ -136,18 +137,17 @@ def test_no_folder_is_named(releases: Path, there: Path, tmp_path: Path) -> None
 
 # ---- How it is used ----
 
-class System:
-    def __init__(self, prefix: Path, inside: Inside) -> None:
-        self.prefix = prefix
-        self.run = inside
+class System(NamedTuple):
+    """The folder of a release, and how a command is run there."""
+
+    prefix: Path
+    run: Inside
 
     def shell(self, command: str) -> str:
-        ran = self.run("bash", "-c", f"cd && {command}")
+        """What a line of the shell in the user's folder prints. Its examples are in $examples."""
+        ran = self.run("bash", "-c", f"cd; examples={self.prefix}/share/doc/toarmuts/examples; {command}")
         assert ran.returncode == 0, f"{command}\n{told(ran)}"
         return ran.stdout.decode()
-
-    def examples(self) -> str:
-        return f"{self.prefix}/share/doc/toarmuts/examples"
 
 
 def alone(there: Path, home: Path) -> Inside:
@@ -165,63 +165,56 @@ def archive(there: Path, tmp_path: Path) -> System:
     return System(there, alone(there, tmp_path))
 
 
-def use_programs(system: System) -> None:
-    examples = system.examples()
-    for command in COMMANDS:
-        assert system.shell(f"{command} --version") == f"{command.replace('-', '_')} {VERSION}\n"
-    system.shell(f"mote hello <'{examples}/hello.script' | cmp - '{examples}/hello.transcript'")
-    system.shell(f"mote-picture relay <'{examples}/relay.transcript' | cmp - '{examples}/relay.svg'")
-    system.shell(f"scenario {examples}/linked_blocks.scenario")
+# How a release is used: lines of the shell that succeed, each with what is among what it prints.
+USES: dict[str, list[tuple[str, str]]] = {
+    "programs": [
+        *((f"{command} --version", f"{command.replace('-', '_')} {VERSION}\n") for command in COMMANDS),
+        ("mote hello <$examples/hello.script | cmp - $examples/hello.transcript", ""),
+        ("mote-picture relay <$examples/relay.transcript | cmp - $examples/relay.svg", ""),
+        ("scenario $examples/linked_blocks.scenario", ""),
+    ],
+    "compiler": [
+        (f"gcc {FLAGS} $examples/c/blink.c $({PKG_CONFIG} toarmuts) -o blink && ldd blink", f"{SONAME} =>"),
+        ("./blink", BLINK),
+        (f"gcc {FLAGS} $examples/c/blink.c $(pkg-config --cflags toarmuts) $(pkg-config --variable=libdir toarmuts)/libtoarmuts.a -o whole"
+         " && ./whole", BLINK),
+        (f"gcc {FLAGS} $examples/c/readings.c $({PKG_CONFIG} toarmuts-modules) -o readings && ./readings", "21 degrees\n"),
+        ("cd $examples/contiki && contiki hello-world.c <hello-world.script | cmp - hello-world.transcript", ""),
+    ],
+    "python": [
+        ("/usr/bin/python3 -m venv environment", ""),
+        ("environment/bin/pip install --quiet --no-index $examples/../../../toarmuts/python/*.whl", ""),
+        ("environment/bin/python $examples/python/blink.py", ""),
+        ("environment/bin/python -c 'import toarmuts.picture as it; assert it.program()'", ""),
+    ],
+}
 
 
-def use_compiler(system: System) -> None:
-    c, contiki = f"{system.examples()}/c", f"{system.examples()}/contiki"
-    line = "4 synch 129 - -> timer-set 0 10\n"
-    system.shell(f"gcc {FLAGS} '{c}/blink.c' $({PKG_CONFIG} toarmuts) -o blink")
-    assert f"{SONAME} =>" in system.shell("ldd blink") and line in system.shell("./blink")
-    library = "$(pkg-config --variable=libdir toarmuts)/libtoarmuts.a"
-    system.shell(f"gcc {FLAGS} '{c}/blink.c' $(pkg-config --cflags toarmuts) {library} -o whole")
-    assert line in system.shell("./whole")
-    system.shell(f"gcc {FLAGS} '{c}/readings.c' $({PKG_CONFIG} toarmuts-modules) -o readings")
-    assert "21 degrees\n" in system.shell("./readings")
-    system.shell(f"contiki '{contiki}/hello-world.c' <'{contiki}/hello-world.script' | cmp - '{contiki}/hello-world.transcript'")
+def use(system: System, what: str) -> None:
+    for command, wanted in USES[what]:
+        assert wanted in system.shell(command), command
 
 
-def use_python(system: System) -> None:
-    system.shell("/usr/bin/python3 -m venv environment")
-    system.shell(f"environment/bin/pip install --quiet --no-index '{system.prefix}'/share/toarmuts/python/*.whl")
-    system.shell(f"environment/bin/python '{system.examples()}/python/blink.py'")
-    system.shell("environment/bin/python -c 'import toarmuts.picture as it; assert it.program()'")
-
-
-def test_programs(archive: System) -> None:
-    use_programs(archive)
-
-
-def test_compiler(archive: System) -> None:
-    use_compiler(archive)
-
-
-@pytest.mark.skipif(run("/usr/bin/python3", "-c", "import venv, ensurepip").returncode != 0, reason="not here: python3-venv")
-def test_python(archive: System) -> None:
-    use_python(archive)
+@pytest.mark.parametrize("what", ["programs", "compiler", pytest.param("python", marks=pytest.mark.skipif(
+    run("/usr/bin/python3", "-c", "import venv, ensurepip").returncode != 0, reason="not here: python3-venv"))])
+def test_use(archive: System, what: str) -> None:
+    """The archive's programs, libraries for C, and wheel."""
+    use(archive, what)
 
 
 @needs("qemu-aarch64")
 def test_modules_for_aarch64(archive: System) -> None:
     folder = f"{archive.prefix}/lib/toarmuts/aarch64/pkgconfig"
-    archive.shell(f"aarch64-linux-gnu-gcc -std=c11 -static '{archive.examples()}/c/readings.c' "
-                  f"$(PKG_CONFIG_PATH={folder} {PKG_CONFIG} toarmuts-modules) -o there")
-    assert "21 degrees\n" in archive.shell("qemu-aarch64 ./there")
+    compiled = f"aarch64-linux-gnu-gcc -std=c11 -static $examples/c/readings.c $(PKG_CONFIG_PATH={folder} {PKG_CONFIG} toarmuts-modules)"
+    assert "21 degrees\n" in archive.shell(f"{compiled} -o there && qemu-aarch64 ./there")
 
 
 @needs("qemu-system-arm")
 @pytest.mark.parametrize("core", ["cortex-m0", "cortex-m3", "cortex-m4", "cortex-m4f"])
 def test_modules_for_cortex_m(archive: System, core: str) -> None:
     """The example for Cortex-M by its Makefile, over what the release has for the core."""
-    folder = f"example-{core}"
-    archive.shell(f"cp -R '{archive.examples()}/cortex_m' {folder}")
-    assert archive.shell(f"make -s -C {folder} run CORE={core} modules=none").splitlines()[-1] == "21 degrees, 480 bytes lower"
+    made = archive.shell(f"cp -R $examples/cortex_m {core} && make -s -C {core} run CORE={core} modules=none")
+    assert made.splitlines()[-1] == "21 degrees, 480 bytes lower"
 
 
 @needs("man")
@@ -293,7 +286,7 @@ def test_clean_debian(releases: Path, tmp_path: Path) -> None:
     before = files()
     shutil.copy(releases / "first" / PACKAGE, clean / "tmp")
     install(f"/tmp/{PACKAGE}")
-    for use in (use_programs, use_compiler, use_python):
-        use(System(Path("/usr"), inside))
+    for what in USES:
+        use(System(Path("/usr"), inside), what)
     assert inside("apt-get", "purge", "-y", "toarmuts").returncode == 0
     assert files() == before
