@@ -7,12 +7,12 @@ with the run that toarmuts_run makes.
 import random
 import re
 from pathlib import Path
-from typing import Callable
 
 import pytest
 
 from call_rules import OF_MOTE
 from contiki_programs import SOURCES, STRICT, Contiki, script_of, transcript_of
+from random_calls import random_lists
 from tools import EXAMPLES, ROOT, once, run, succeed, told
 
 EXAMPLE_SOURCES = sorted((EXAMPLES / "contiki").glob("*.c"))
@@ -69,47 +69,6 @@ def words_of(sizes: dict[str, int]) -> list[str]:
     words = [word for name in ("mmem", "heap", "header") for word in ("--" + name, str(sizes[name]))]
     words += ["--quota", str(sizes["quota"])] if sizes["has_quota"] else []
     return words + (["--quiet"] if sizes["quiet"] else [])
-
-
-# How the numbers of a call are drawn: names mostly within bounds, sizes and places small.
-NUMBERS: dict[str, Callable[[random.Random], int]] = {
-    "q": lambda chance: chance.randrange(3, 13), "e": lambda chance: chance.choice([140, 141, 142, 133, 5, 128, 136, 255]),
-    "t": lambda chance: chance.randrange(9), "c": lambda chance: chance.randrange(5), "h": lambda chance: chance.randrange(4),
-    "k": lambda chance: chance.choice([0, 0, 1, 3, 4]), "b": lambda chance: chance.randrange(5),
-    "l": lambda chance: chance.choice([0, 0, 1, 2, 8]), "n": lambda chance: chance.choice([0, 1, 5, 20, 100, 4000]),
-    "i": lambda chance: chance.choice([0, 1, 5, 30, 4294967295]), "a": lambda chance: chance.choice([0, 0, 1, 5, 70]),
-}
-CALLS = """
-post q e p|broadcast e p|post-synch q e p|poll q|start q|kill q|is-running q|alloc-event|timer-set t i|timer-stop t|timer-reset t
-timer-restart t|timer-expired t|callback-set c i|callback-stop c|clock|print x|wait|wait|wait|wait|exit|mmem-alloc h n|mmem-free h
-mmem-write h a x|mmem-read h a a|mmem-copy h h|mmem-avail|heap-alloc h n|heap-realloc h n|heap-free h|heap-write h a x|heap-read h a a
-heap-stats|memb-alloc k|memb-free k b|memb-write k b a x|memb-read k b a a|memb-num-free k|list-add l b|list-push l b|list-insert l b b
-list-pop l|list-chop l|list-remove l b|list-head l|list-next l b|list-length l|packet-open|packet-read a a|packet-done|packet-count
-packet-send h
-""".strip().replace("\n", "|").split("|")
-
-
-def random_bytes(chance: random.Random, most: int) -> str:
-    return "".join(f"{chance.randrange(256):02x}" for _ in range(chance.choice([0, 1, 5, most])))
-
-
-def random_call(chance: random.Random) -> str:
-    word, *kinds = chance.choice(CALLS).split()
-    drawn = [word]
-    for kind in kinds:
-        if kind == "x":
-            drawn.append(random_bytes(chance, 64) or "-")
-        elif kind == "p":
-            drawn.append(chance.choice(["-", str(chance.randrange(1 << 32)), "x" + random_bytes(chance, 127)]))
-        else:
-            drawn.append(str(NUMBERS[kind](chance)))
-    return " ".join(drawn)
-
-
-def random_lists(chance: random.Random) -> str:
-    """Eight lists of calls, of which some are empty."""
-    lists = [", ".join(random_call(chance) for _ in range(chance.choice([0, 5, 40, 128]))) for _ in range(8)]
-    return "".join(f"calls {calls}".rstrip() + "\n" for calls in lists)
 
 
 @pytest.fixture(scope="module")

@@ -14,7 +14,7 @@ from typing import Mapping
 import pytest
 
 from contiki_programs import SOURCES, STRICT, Contiki, outcome, program_of
-from test_contiki import random_lists
+from random_calls import random_lists
 from test_network_random import APPLICATIONS, drawn_input, drawn_loss
 from tools import EXAMPLES, Completed, Word, run, table, told
 

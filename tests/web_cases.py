@@ -6,9 +6,10 @@ import random
 import subprocess
 from dataclasses import asdict, dataclass
 from pathlib import Path
-from typing import Any, Callable
+from typing import Any
 
 from call_rules import RULES
+from random_calls import random_call
 from tools import program, succeed
 
 LAST_OF_A_RUN = 4
@@ -57,16 +58,6 @@ class Maker:
 
     def __init__(self, seed: int) -> None:
         self.random = random.Random(seed)
-        self.makers: dict[str, Callable[[], str]] = {
-            "process": lambda: self.number(3, 8), "code": lambda: self.one_of("133", "134", "140", "141", "129", "255"),
-            "payload": self.payload, "data": lambda: self.hex(0, 12), "timer": lambda: self.number(0, 8),
-            "callback": lambda: self.number(0, 4),
-            "interval": lambda: self.one_of("0", "1", "5", "10", "4294967295"), "handle": lambda: self.number(0, 4),
-            "heap_block": lambda: self.number(0, 4), "size": lambda: self.one_of("0", "1", "8", "13", "40", "100", "5000"),
-            "at": lambda: self.number(0, 12), "length": lambda: self.number(0, 20), "pool": lambda: self.number(0, 4),
-            "block": lambda: self.number(0, 3), "chain": lambda: self.number(0, 3), "previous": lambda: self.number(0, 3),
-            "source": lambda: self.number(0, 4), "target": lambda: self.number(0, 4),
-        }
 
     def one_of(self, *values: str) -> str:
         return self.random.choice(values)
@@ -77,13 +68,6 @@ class Maker:
     def hex(self, least: int, most: int) -> str:
         return self.random.randbytes(self.random.randint(least, most)).hex() or "-"
 
-    def payload(self) -> str:
-        return self.one_of("-", self.number(0, 2**32 - 1), f"x{self.hex(1, 9)}", "x")
-
-    def call(self) -> str:
-        rule = self.random.choice(RULES["calls"])
-        return " ".join([rule["name"], *(self.makers[name]() for name in rule["arguments"])])
-
     def application(self) -> str:
         """A name, or a list of calls; one in thirty is malformed."""
         if self.random.random() < 1 / 30:
@@ -91,7 +75,7 @@ class Maker:
                                "calls wait,clock", "")
         if self.random.random() < 0.4:
             return str(self.random.choice(RULES["applications"]))
-        waits = [self.one_of("wait", self.call()) for _ in range(self.random.randint(1, 12))]
+        waits = [self.one_of("wait", random_call(self.random)) for _ in range(self.random.randint(1, 12))]
         return f"calls {', '.join(waits)}"
 
     def input(self) -> str:
@@ -121,7 +105,7 @@ class Maker:
         stimulus = self.one_of("INIT", "TIMER", "TIMER 0", "line", "frame", "refused", "any", "140", "callback")
         if self.random.random() < 1 / 50:
             stimulus = "tock"
-        calls = [self.one_of("print told", "timer-set 0 5", "packet-open", "wait", self.call(), 'print "hi\\n"')
+        calls = [self.one_of("print told", "timer-set 0 5", "packet-open", "wait", random_call(self.random), 'print "hi\\n"')
                  for _ in range(self.random.randint(1, 4))]
         return f"on {stimulus}: {', '.join(calls)}{self.one_of('', ', repeat')}"
 
@@ -137,7 +121,7 @@ class Maker:
         applications = []
         for _ in range(self.random.randint(1, 3)):
             rows = ["rows", *(self.row() for _ in range(self.random.randint(1, 4)))]
-            applications += rows if self.random.random() < 0.7 else [f"calls {self.call()}, wait"]
+            applications += rows if self.random.random() < 0.7 else [f"calls {random_call(self.random)}, wait"]
         inputs = [self.one_of(f"tick {self.number(0, 9)}", "text hello", f"frame {self.hex(1, 5)}", f"at {self.number(20, 60)}")
                   for _ in range(self.random.randint(0, 8))]
         return "".join(f"{line}\n" for line in [*applications, "mmem 256", *inputs])
