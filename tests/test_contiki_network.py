@@ -126,43 +126,15 @@ def test_numbers_and_addresses(runner: Runner, words: list[str]) -> None:
 
 # ---- Frames ----
 
-ONE, TWO, THREE = ("0100" * 4, "0200" * 4, "0300" * 4)
+ONE, TWO = "0100" * 4, "0200" * 4
 SELF, OTHER, NOBODY = ("0001" * 4, "0002" * 4, "0000" * 4)
-
-
-def heard(length: int, source: str, dest: str, first: int) -> list[str]:
-    return [f"1 {length} {source} {dest} 1 1", f"1 -60 105 {first}"]
-
-
-# A frame from outside, in parts, and what mote 1 prints of it: with a header without that, with another beginning whole.
-FRAMES: dict[str, tuple[str, list[str]]] = {
-    "to mote 1": ("61dc 07 cdab " + ONE + TWO + "6162", heard(2, OTHER, SELF, 0x61)),
-    "to mote 1, nothing asked": ("41dc 07 cdab " + ONE + TWO + "61", heard(1, OTHER, SELF, 0x61)),
-    "to mote 1, of the version of 2003, with more to come": ("71cc 07 cdab " + ONE + TWO + "61", heard(1, OTHER, SELF, 0x61)),
-    "to mote 1, in all PANs": ("61dc 07 ffff " + ONE + TWO + "61", heard(1, OTHER, SELF, 0x61)),
-    "to mote 1, without bytes of its own": ("61dc 07 cdab " + ONE + TWO, heard(0, OTHER, SELF, 0)),
-    "to all": ("41d8 00 cdab ffff " + TWO + "63", heard(1, OTHER, NOBODY, 0x63)),
-    "to all, without bytes of its own": ("41d8 00 cdab ffff " + TWO, heard(0, OTHER, NOBODY, 0)),
-    "to mote 2": ("61dc 07 cdab " + TWO + ONE + "61", []),
-    "in another PAN": ("61dc 07 cdac " + ONE + TWO + "61", []),
-    "to all of another PAN": ("41d8 07 cdac ffff " + TWO + "61", []),
-    "to another short address": ("41d8 07 cdab feff " + TWO + "61", []),
-    "no header": ("616263", heard(3, NOBODY, NOBODY, 0x61)),
-    "a header that is cut off": ("61dc 07 cdab " + ONE + TWO[:-2], heard(20, NOBODY, NOBODY, 0x61)),
-    "a header to all that is cut off": ("41d8 07 cdab ffff " + TWO[:-2], heard(14, NOBODY, NOBODY, 0x41)),
-    "an acknowledgement": ("0200 07", heard(3, NOBODY, NOBODY, 2)),
-    "a secured frame": ("69dc 07 cdab " + ONE + TWO + "61", heard(22, NOBODY, NOBODY, 0x69)),
-    "two PANs": ("21dc 07 cdab " + ONE + "cdab" + TWO + "61", heard(24, NOBODY, NOBODY, 0x21)),
-    "a beacon": ("40dc 07 cdab " + ONE + TWO + "61", heard(22, NOBODY, NOBODY, 0x40)),
-    "the version of 2015": ("61ec 07 cdab " + ONE + TWO + "61", heard(22, NOBODY, NOBODY, 0x61)),
-}
 
 
 def test_frames_from_outside(runner: Runner) -> None:
     """A frame for a mote is delivered without its header, one for another mote is dropped, and one without a header is delivered whole."""
-    script = "".join(f"1 frame {frame.replace(' ', '')}\n" for frame, _ in FRAMES.values())
-    lines = runner.text("mote 1 node.c\n", [OWN / "node.c"], script)
-    assert lines[1:] == [line for _, wanted in FRAMES.values() for line in wanted]
+    frames = table("contiki_frames")
+    lines = runner.text("mote 1 node.c\n", [OWN / "node.c"], "".join(f"1 frame {frame}\n" for _, frame, _ in frames))
+    assert lines[1:] == [line for _, _, wanted in frames for line in wanted]
 
 
 def test_frames_that_are_sent(runner: Runner) -> None:

@@ -17,10 +17,9 @@ from test_modules import MODULES, PLAIN_MODULES, WARNINGS, build_modules
 from tools import ROOT, SANITIZERS, needs, run, sanitizes, succeed, told
 
 FOLDER = SOURCES / "programs"
-PLAIN_PROGRAMS = ("broadcast", "event_post", "hello", "leds", "locks", "logging/logging", "managed", "semaphores", "serial_lines", "timers",
-                  "two_processes", "unicast_receiver")
-# Those that take modules in C alone.
+# Programs that take modules in C alone.
 WITH_MODULES = ("checked/checked", "cipher", "energest/energest", "trickle", "unit_double_lists", "unit_lists", "unit_memory", "unit_rings")
+PROGRAMS = [str(path.relative_to(FOLDER).with_suffix("")) for path in sorted(FOLDER.glob("**/*.c"))]
 UNIT_TESTS = FOLDER / "unit_rings.c"
 # What is told at the build of a program that takes a real-time timer.
 RTIMER_NOTE = (b"contiki: note: rtimer_set calls back between activations, at a tick of the clock: nothing is interrupted "
@@ -31,13 +30,7 @@ def has_crypto(compiler: str) -> bool:
     return run(compiler, "-E", "-x", "c", "-", stdin=b"#include <openssl/evp.h>\n").returncode == 0
 
 
-def test_each_program_is_tried() -> None:
-    there = [str(path.relative_to(FOLDER).with_suffix("")) for path in FOLDER.glob("**/*.c")]
-    assert sorted((*PLAIN_PROGRAMS, *WITH_MODULES)) == sorted(there)
-
-
-@pytest.mark.parametrize(("compiler", "name"), [*(("gcc", name) for name in (*PLAIN_PROGRAMS, *WITH_MODULES)),
-                                                *(("clang", name) for name in WITH_MODULES)])
+@pytest.mark.parametrize(("compiler", "name"), [*(("gcc", name) for name in PROGRAMS), *(("clang", name) for name in WITH_MODULES)])
 def test_program(contiki: Contiki, compiler: str, name: str) -> None:
     """A program runs unchanged and prints what it should, without a warning: by gcc with the sanitizers, and with modules by clang."""
     if not sanitizes(compiler) or name == "cipher" and not has_crypto(compiler):

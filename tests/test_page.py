@@ -4,7 +4,7 @@ The source of the page is what its files in web/ make. Markup that is printed, a
 nor begins anything in it.
 """
 
-from html.parser import HTMLParser
+import re
 
 import pytest
 
@@ -43,35 +43,16 @@ def test_page(name: str) -> None:
         assert not first_difference(shown, [marks_wanted(state, run.lines) for state in states])
 
 
-class Scripts(HTMLParser):
-    def __init__(self) -> None:
-        super().__init__()
-        self.found: list[list[str | None]] = []
-        self.is_within = False
-
-    def handle_starttag(self, tag: str, attrs: list[tuple[str, str | None]]) -> None:
-        self.is_within = tag == "script"
-        if self.is_within:
-            self.found.append([dict(attrs).get("id"), ""])
-
-    def handle_endtag(self, tag: str) -> None:
-        self.is_within = False
-
-    def handle_data(self, data: str) -> None:
-        if self.is_within:
-            self.found[-1][1] = (self.found[-1][1] or "") + data
-
-
 def test_markup() -> None:
     """Markup that is printed, and in names, stands in the data as text, and the element that holds them ends where the template ends it."""
     told = [f"4 {'answer done' if place else 'synch 129 -'} -> print {text.encode().hex()}\n" for place, text in enumerate(MARKUP)]
     transcript = "".join(told) + "4 answer done -> wait\n"
     page = picture(["--page", "--", *MARKUP], transcript).stdout.decode()
     text, data = data_in(page)
-    scripts = Scripts()
-    scripts.feed(page)
-    assert [script[0] for script in scripts.found] == ["data", None]
-    assert text != "" and scripts.found[0] == ["data", text] and "<" not in text
+    # As HTML has it, a script ends at the first such tag, in letters of either case.
+    scripts = re.findall(r"<script\b([^>]*)>(.*?)</script\b", page, re.S | re.I)
+    assert ['id="data"' in attributes for attributes, _ in scripts] == [True, False]
+    assert text != "" and scripts[0][1] == text and "<" not in text
     assert (data["text"], data["names"]) == (transcript, MARKUP)
     shown = ["“" + text.replace("\n", "⏎") + "”" for text in MARKUP]
     words = data["words"].splitlines()

@@ -23,12 +23,15 @@ def files() -> list[Path]:
     return [path for path in ROOT.rglob("*") if path.is_file() and not path.is_symlink() and "out" not in path.relative_to(ROOT).parts]
 
 
+def first_line(path: Path) -> str:
+    with path.open("rb") as opened:
+        return opened.readline(200).decode(errors="replace").rstrip("\n")
+
+
 def kind(path: Path) -> str:
     """What kind of source a file is: by its first line, or by its ending."""
-    with path.open("rb") as opened:
-        first = opened.readline(200).decode(errors="replace").rstrip("\n")
     by_ending = {".py": "python", ".sh": "shell", ".c": "C", ".h": "C"}.get(path.suffix, "")
-    return SHEBANGS.get(first, by_ending) if first.startswith("#!") else by_ending
+    return SHEBANGS.get(first_line(path), by_ending)
 
 
 def sources(*kinds: str) -> list[Path]:
@@ -39,9 +42,7 @@ def test_first_lines() -> None:
     """A command begins with one of the first lines above, and is executable; other files have an ending, and aren't."""
     faults = []
     for path in files():
-        with path.open("rb") as opened:
-            first = opened.readline(200).decode(errors="replace").rstrip("\n")
-        is_command = bool(path.stat().st_mode & 0o100)
+        first, is_command = first_line(path), bool(path.stat().st_mode & 0o100)
         if first.startswith("#!") and first not in SHEBANGS:
             faults.append(f"{path}: {first}")
         if first.startswith("#!") and path.suffix not in (".py", ".sh") and not is_command:
