@@ -1,7 +1,4 @@
-"""The transcripts that the repository has: of the worked runs, of the scenarios in examples/, and of the samples there.
-
-The names stand in the files; what runs them tells the transcripts is the built program `scenario`, which is asked once a process.
-"""
+"""The transcripts that the repository has: of the worked runs, of the scenarios in examples/, and of the samples there."""
 
 import functools
 import json

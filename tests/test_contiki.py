@@ -1,8 +1,4 @@
-"""Programs in C for Contiki-NG, on the proved mote: examples and applications, with all warnings and the sanitizers.
-
-The expected transcripts and texts are written out from the rules. The applications of mote in C, and random lists of calls, are compared
-with the run that toarmuts_run makes.
-"""
+"""Programs in C for Contiki-NG, on the proved mote: examples and applications, with all warnings and the sanitizers."""
 
 import random
 import re

@@ -1,7 +1,6 @@
 """The built programs with each growth of memory refused in turn, with each read and write failing, and with each one cut to a single byte.
 
-tests/c/faults.c does so. `rt try --fail-alloc N` refuses one growth a call, in a build of its own, and only later kits have the like for
-reads and writes.
+tests/c/faults.c does so: `rt try --fail-alloc N` refuses one growth a call, in a build of its own.
 """
 
 import shutil

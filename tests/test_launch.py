@@ -1,7 +1,4 @@
-"""The scripts at the top, on a small tree of crates with stand-ins: what they pass on, and when a program counts as proved.
-
-Nothing is lost or left by interrupts, by a missing rt, a full disk or a tree that can't be written.
-"""
+"""The scripts at the top, on a small tree of crates with stand-ins: what they pass on, and when a program counts as proved."""
 
 import os
 import random

@@ -1,7 +1,4 @@
-"""Random lists of calls, carried out by the program scenario: each of the right form is taken, and made as its words say.
-
-The transcript shows the words in lower case. The same with one word spoilt is refused.
-"""
+"""Random lists of calls, carried out by the program scenario: each of the right form is taken, and made as its words say."""
 
 import random
 from pathlib import Path

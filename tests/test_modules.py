@@ -1,8 +1,4 @@
-"""The memory modules for C, by the names that Contiki-NG gives them: each beside a plain model, with all warnings and the sanitizers.
-
-A source in Contiki-NG's own form is compiled with these headers and with plain stand-ins for the original's. The headers are read as C99,
-C11, C17 and C++17, the library is installed, and the same is tried for aarch64.
-"""
+"""The memory modules for C, by the names that Contiki-NG gives them: each beside a plain model, with all warnings and the sanitizers."""
 
 import re
 import shutil

@@ -1,8 +1,4 @@
-"""The page of `mote_picture --page`: for every stored transcript its data have the text, and tell at each line what a replay tells.
-
-The source of the page is what its files in web/ make. Markup that is printed, and markup in names, neither ends the element of the data
-nor begins anything in it.
-"""
+"""The page of `mote_picture --page`: for every stored transcript its data have the text, and tell at each line what a replay tells."""
 
 import re
 

@@ -1,9 +1,4 @@
-"""The pages against the sources: what `run` reaches, names and files, listings, trusted libraries; cases for all other calls.
-
-docs/reading-order.md is compared with what the contract of `run` reaches, the names and files that pages and comments cite with those that
-are there, listings with their files, and the libraries that are trusted with those that are used. There is no case for all other calls, and
-no example that nothing calls.
-"""
+"""The pages against the sources: what `run` reaches, names and files, listings, trusted libraries; cases for all other calls."""
 
 import functools
 import re

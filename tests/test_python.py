@@ -1,7 +1,4 @@
-"""The package for Python: installed without a network into fresh environments, with its tests, pages and types.
-
-One environment sees Debian's packages, another one sees none. What is written in C for it is tried with the sanitizers, too.
-"""
+"""The package for Python: installed without a network into fresh environments, with its tests, pages and types."""
 
 import functools
 import os
