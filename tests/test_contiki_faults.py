@@ -21,28 +21,6 @@ def only(stimulus: str, line: int, calls: int, what: str) -> str:
 
 # Programs of tests/c/contiki/faults that are no matter for the sanitizers.
 PLAIN = ("null_pointer", "recursion", "stack_etimer", "stack_ctimer", "stack_mmem")
-OWN_EVENT = "event 255 belongs to the driver, and can't be posted"
-NO_FRAME = "a frame of 0 bytes can't be sent: frames have 1 to 127"
-# A statement at which a program is stopped or crashes, or loses something, its status, and what is told. What it printed with no line
-# end is kept, as the last call.
-STOPPED = {
-    "process_post(&only, 255, NULL);": (1, only("INIT (129)", 1, 1, OWN_EVENT)),
-    "process_post_synch(&only, PROCESS_EVENT_TIMER, NULL);":
-        (1, only("INIT (129)", 1, 2, "event 136 belongs to the kernel, and can't be posted")),
-    "nullnet_len = 5; NETSTACK_NETWORK.output(NULL);": (1, only("INIT (129)", 1, 1, NO_FRAME)),
-    "static uint8_t byte; nullnet_buf = &byte; NETSTACK_NETWORK.output(NULL);": (1, only("INIT (129)", 1, 1, NO_FRAME)),
-    "process_poll(&only); PROCESS_WAIT_EVENT(); process_post(&only, 255, NULL);": (1, only("POLL (130)", 4, 0, OWN_EVENT)),
-    "static struct ctimer far, near; static struct mmem none; ctimer_set(&far, 9, NULL, NULL);"
-    "ctimer_set(&near, 0, (void (*)(void *))mmem_free, &none); PROCESS_WAIT_EVENT();":
-        (1, only("callback 1", 5, 0, "mmem_free of a struct mmem that has no block")),
-    "static struct ctimer late; ctimer_set(&late, 5, NULL, NULL); PROCESS_EXIT();":
-        (0, only("INIT (129)", 1, 3, "it ends with callback timers set, whose callbacks never run")),
-    "__builtin_abort();": (134, only("INIT (129)", 1, 1, "the program was aborted (SIGABRT)")),
-    "static volatile int none; none = 7 / none;": (136, only("INIT (129)", 1, 1, "a crash: a division by 0 (SIGFPE)")),
-    "static int *volatile none; *none = 1;": (139, only("INIT (129)", 1, 1, "a crash: an invalid address (SIGSEGV)")),
-    "exit(3);": (1, only("INIT (129)", 1, 1, "the program called exit")),
-    "raise(SIGTERM);": (143, only("INIT (129)", 1, 1, "ended (SIGTERM)")),
-}
 
 
 def test_each_fault_is_tried() -> None:
@@ -70,11 +48,13 @@ def test_late_block(contiki: Contiki, asks: str) -> None:
     assert ran.returncode == 1 and b"after 1 calls: a block was freed during an activation of its owner" in ran.stderr, told(ran)
 
 
-@pytest.mark.parametrize("statement", STOPPED)
-def test_statement(contiki: Contiki, tmp_path: Path, statement: str) -> None:
+# A statement at which a program is stopped or crashes, or loses something, its status, where that is, and what is told. What it printed with
+# no line end is kept, as the last call.
+@pytest.mark.parametrize(("statement", "status", "stimulus", "line", "calls", "what"), [
+    pytest.param(*row, id=row[0]) for row in table("contiki_stopped")])
+def test_statement(contiki: Contiki, tmp_path: Path, statement: str, status: int, stimulus: str, line: int, calls: int, what: str) -> None:
     source = write_source(tmp_path, program_of(f'printf("begun"); {statement} printf("never");', "#include <signal.h>"))
-    status, reason = STOPPED[statement]
-    assert outcome(contiki("--text", source, stdin=b"tick 1\n")) == (status, "begun", reason)
+    assert outcome(contiki("--text", source, stdin=b"tick 1\n")) == (status, "begun", only(stimulus, line, calls, what))
 
 
 def test_print_before_a_crash(contiki: Contiki, tmp_path: Path) -> None:

@@ -24,19 +24,7 @@ MOST_COMPARED = 2_000
 PARTS = 4
 MARKUP_NAME = "</script><script>document.title='broken'</script><!--&\"'"
 HANDS = script("explorer_hands")
-HANDS_RUN = """\
-4 synch 129 - -> timer-set 0 10
-4 answer done -> wait
-5 synch 129 - -> mmem-alloc 0 10
-5 answer done -> wait
-> tick 10
-4 event 136 0 -> post 5 140 7
-4 answer done -> wait
-5 event 140 7 -> mmem-free 3
-5 answer refused 9 -> wait
-> tick 2
-> serial 0a
-"""
+HANDS_RUN = (ROOT / "tests/web/explorer_steps.transcript").read_text(encoding="utf-8")
 # Expressions over that run's page, each with its value by the rules. Some press a key or a button, so their order counts.
 STEPS: list[tuple[str, Any]] = json.loads((ROOT / "tests/web/explorer_steps.json").read_text(encoding="utf-8"))
 Ask = Callable[..., Any]
