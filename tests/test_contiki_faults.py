@@ -9,7 +9,7 @@ from typing import Any
 import pytest
 
 from contiki_programs import SOURCES, Contiki, outcome, place, program_of, write_source
-from tools import ROOT, needs, run, table, told
+from tools import ROOT, cases, needs, run, table, told
 
 SCRIPT = b"tick 1\nserial 0a\n"
 
@@ -28,7 +28,7 @@ def test_each_fault_is_tried() -> None:
 
 
 # A program of tests/c/contiki/faults, its status, what of the sanitizer's report stands first, as a pattern, where it is stopped, and why.
-@pytest.mark.parametrize(("name", "status", "report", "at", "why"), [pytest.param(*row, id=row[0]) for row in table("contiki_faults")])
+@pytest.mark.parametrize(("name", "status", "report", "at", "why"), cases("contiki_faults", takes_name=True))
 def test_fault(contiki: Contiki, name: str, status: int, report: str, at: list[Any], why: str) -> None:
     """A program that is stopped says why, and its transcript up to there is written."""
     what = (place(*at) if at else "") + why
@@ -48,10 +48,9 @@ def test_late_block(contiki: Contiki, asks: str) -> None:
     assert ran.returncode == 1 and b"after 1 calls: a block was freed during an activation of its owner" in ran.stderr, told(ran)
 
 
-# A statement at which a program is stopped or crashes, or loses something, its status, where that is, and what is told. What it printed with
-# no line end is kept, as the last call.
-@pytest.mark.parametrize(("statement", "status", "stimulus", "line", "calls", "what"), [
-    pytest.param(*row, id=row[0]) for row in table("contiki_stopped")])
+# A statement at which a program is stopped or crashes, or loses something, its status, where that is, and what is told. What it printed
+# with no line end is kept, as the last call.
+@pytest.mark.parametrize(("statement", "status", "stimulus", "line", "calls", "what"), cases("contiki_stopped", takes_name=True))
 def test_statement(contiki: Contiki, tmp_path: Path, statement: str, status: int, stimulus: str, line: int, calls: int, what: str) -> None:
     source = write_source(tmp_path, program_of(f'printf("begun"); {statement} printf("never");', "#include <signal.h>"))
     assert outcome(contiki("--text", source, stdin=b"tick 1\n")) == (status, "begun", only(stimulus, line, calls, what))

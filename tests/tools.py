@@ -66,9 +66,9 @@ def table(name: str) -> Any:
     return json.loads((ROOT / f"tests/tables/{name}.json").read_text(encoding="utf-8"))
 
 
-def cases(name: str) -> list[Any]:
-    """The rows of that file, for pytest.mark.parametrize. A row begins with the name of its case."""
-    return [pytest.param(*row[1:], id=row[0]) for row in table(name)]
+def cases(name: str, takes_name: bool = False) -> list[Any]:
+    """The rows of that file, for pytest.mark.parametrize. A row begins with the name of its case, which a test may take, too."""
+    return [pytest.param(*row[not takes_name:], id=row[0]) for row in table(name)]
 
 
 def program(name: str) -> Path:
