@@ -4,11 +4,11 @@ import os
 import re
 import shutil
 import subprocess
-import time
 from pathlib import Path
 
 import pytest
 
+from small_tree import wait_until
 from tools import AS_NOBODY, ROOT, can_be_nobody, needs, run, succeed, write_program
 
 LIBRARIES = "modules_c toarmuts"
@@ -196,15 +196,11 @@ def test_gate_that_is_ended(gate: Gate, words: list[str]) -> None:
     wanted = {"third"} if words else {"third", f"prove {LIBRARIES}"}
     with subprocess.Popen([gate.tree / "tests/all", *words], stdout=subprocess.PIPE, start_new_session=True,
                           env={**os.environ, **gate.settings, "WHILE_PROVING": "sleep 600"}) as ran:
-        while not wanted <= set(gate.begun()):
-            time.sleep(0.05)
+        wait_until(lambda: wanted <= set(gate.begun()), 600)
         ran.terminate()
         assert b"passed" not in ran.communicate()[0].replace(b"7 passed, 0 failed\n", b"")
     assert ran.returncode == 143
-    deadline = time.monotonic() + 120
-    while run("pgrep", "--session", ran.pid).returncode == 0:
-        assert time.monotonic() < deadline, "something goes on"
-        time.sleep(0.1)
+    wait_until(lambda: run("pgrep", "--session", ran.pid).returncode != 0)
 
 
 def test_ci_runs_the_gate() -> None:

@@ -7,7 +7,6 @@ the text is that of the parser of the command line.
 
 import fnmatch
 import re
-import subprocess
 from pathlib import Path
 
 import pytest
@@ -50,18 +49,8 @@ def test_case(mote: Path, case: Path) -> None:
 @of_each_case
 def test_case_through_a_pipe(mote: Path, case: Path) -> None:
     """A stored run, its script through a pipe in small pieces."""
-    with subprocess.Popen(["dd", "bs=3", "status=none"], stdin=subprocess.PIPE, stdout=subprocess.PIPE) as pieces:
-        assert pieces.stdin is not None
-        with subprocess.Popen([mote, *words_of(case)], stdin=pieces.stdout, stdout=subprocess.PIPE, stderr=subprocess.PIPE) as running:
-            assert pieces.stdout is not None
-            pieces.stdout.close()
-            try:
-                pieces.stdin.write(file_of(case, "stdin"))
-                pieces.stdin.close()
-            except BrokenPipeError:
-                pass
-            stdout, stderr = running.communicate(timeout=60)
-    judge(case, subprocess.CompletedProcess([], running.returncode, stdout, stderr))
+    ran = run("bash", "-c", 'dd bs=3 status=none | "$@"', "bash", mote, *words_of(case), stdin=file_of(case, "stdin"))
+    judge(case, ran)
 
 
 @pytest.mark.parametrize("script", SCRIPTS, ids=[script.name for script in SCRIPTS])
