@@ -154,6 +154,15 @@ def test_sizes_of_its_own(prefix: Path, tmp_path: Path) -> None:
     succeed(tmp_path / "sizes")
 
 
+@pytest.mark.parametrize("size, is_built", [("0xfffffff0", True), ("0xfffffff1", False), ("0x100000000", False), ("0", False)])
+def test_size_of_a_heap(tmp_path: Path, size: str, is_built: bool) -> None:
+    """A heap has at least 1 byte, and less than 4 GB, rounded up: its rows have numbers of 32 bits."""
+    words = (f"-DHEAPMEM_CONF_ARENA_SIZE={size}", "-DHEAPMEM_CONF_MAX_BLOCKS=1", "-c", MODULES / "src/heapmem-memory.c")
+    made = run("gcc", "-std=c11", f"-I{MODULES}/include", *words, "-o", tmp_path / "none.o")
+    assert (made.returncode == 0) == is_built, told(made)
+    assert is_built or b"static assertion failed" in made.stderr, told(made)
+
+
 def test_program_of_one_module(modules_library: Path, tmp_path: Path) -> None:
     """A program links only the proved calls of its module. The folder of the archive may have a blank in its path."""
     (tmp_path / "a blank").symlink_to(modules_library)

@@ -1,6 +1,6 @@
 /*
- * The proved calls on random tables, sound and spoilt ones, with numbers of 64 bits: all that each returns and leaves goes into a
- * hash, which is printed ten times. On every processor the same text comes out.
+ * The proved calls on random tables, sound and spoilt ones, with any numbers: all that each returns and leaves goes into a hash,
+ * which is printed ten times. On every processor the same text comes out.
  */
 #include "toarmuts/calls.h"
 
@@ -93,13 +93,13 @@ make_heap(uint64_t size, bool is_spoilt)
   uint64_t from = 0;
   for(size_t i = 0; i < ROWS; i++) {
     struct toarmuts_heap_row *row = &heap_rows[i];
-    row->place = from + below(8);
-    row->room = 1 + below(24);
-    row->size = 1 + below(row->room);
+    row->place = (uint32_t)(from + below(8));
+    row->room = 1 + (uint32_t)below(24);
+    row->size = 1 + (uint32_t)below(row->room);
     if(is_spoilt && one_in(8)) {
-      *row = (struct toarmuts_heap_row){odd_number(size), odd_number(size), odd_number(size)};
+      *row = (struct toarmuts_heap_row){(uint32_t)odd_number(size), (uint32_t)odd_number(size), (uint32_t)odd_number(size)};
     }
-    from = row->place + row->room;
+    from = (uint64_t)row->place + row->room;
   }
 }
 

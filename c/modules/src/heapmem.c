@@ -62,7 +62,7 @@ size_at(size_t place)
       high = middle;
     }
   }
-  return low < used && rows[low].place == place ? (size_t)rows[low].size : 0;
+  return low < used && rows[low].place == place ? rows[low].size : 0;
 }
 
 /* A block of a zone has another size now. */
@@ -79,8 +79,9 @@ static void
 note_footprint(void)
 {
   const struct toarmuts_heap_row *last = &toarmuts_heap_memory.rows[used - 1];
-  if(last->place + last->room > max_footprint) {
-    max_footprint = (size_t)(last->place + last->room);
+  size_t end = (size_t)last->place + last->room;
+  if(end > max_footprint) {
+    max_footprint = end;
   }
 }
 
@@ -95,8 +96,8 @@ mark_gaps(void (*mark)(const void *place, size_t size))
       /* Somebody wrote to the rows, and the calls refuse them. */
       return;
     }
-    mark(toarmuts_heap_memory.bytes + end, (size_t)(row->place - end));
-    end = (size_t)(row->place + row->size);
+    mark(toarmuts_heap_memory.bytes + end, row->place - end);
+    end = (size_t)row->place + row->size;
   }
   mark(toarmuts_heap_memory.bytes + end, toarmuts_heap_memory.size - end);
 }

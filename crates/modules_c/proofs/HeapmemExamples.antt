@@ -1,11 +1,11 @@
 -- Rows and what they stand for, rows that are no table, positions, and outcomes.
-use Rattle.std.proofs.Common.{◌≡◌, ℕ, inl, inr, List, [], ◌∷◌, refl, arith}
+use Rattle.std.proofs.Common.{◌≡◌, ℕ, ◌≤◌, inl, inr, List, [], ◌∷◌, length, refl, arith}
 use Rattle.std.specs.Prelude.{Some, None, map}
 use Rattle.mote_types.specs.Bytes.{zeros}
 use Rattle.heap_core.specs.HeapStore.{HeapStore, place, new_place}
 use Rattle.modules_c.specs.declared.heapmem.row.Row.{Row}
 use Rattle.modules_c.specs.declared.heapmem.outcome.Outcome.{Outcome}
-use Rattle.modules_c.specs.Heapmem.Heaps.{heap_of, IsTable, front, with_new, with_resized}
+use Rattle.modules_c.specs.Heapmem.Heaps.{heap_of, row_limit, IsTable, front, with_new, with_resized}
 use Rattle.modules_c.specs.Heapmem.Answers.{outcome_numbered, AllocTold, FreeTold, ReallocTold, StatsTold}
 use Rattle.modules_c.specs.Code.HeapmemRows.{with_row, without_row, next_place, IsFree, HasNoPlace, BeginsAt, BeginBelow}
 
@@ -109,7 +109,11 @@ a_row_is_there told = omega (arith, told)
 
 -- the spare row need not be one
 no_rows_but_the_spare_one : AllocTold Outcome.NoTable 1 spoilt (zeros 4) → ⊥
-no_rows_but_the_spare_one told = told.1 (omega arith)
+no_rows_but_the_spare_one told = omega (arith, told.1 (omega arith))
+
+-- a heap that is too large for numbers of 32 bits is refused, whatever its rows
+too_large_for_rows : (bytes : List ℕ) → row_limit ≤ length bytes → AllocTold Outcome.NoTable 1 spoilt bytes
+too_large_for_rows bytes large = (omega arith, λ table. large)
 
 refused_where_there_is_room : AllocTold Outcome.NoRoom 4 (block_row 0 0 0 ∷ []) (zeros 16) → ⊥
 refused_where_there_is_room told = grind arith

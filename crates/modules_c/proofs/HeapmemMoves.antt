@@ -35,7 +35,7 @@ pub resize_refused : (outcome : Outcome) (rows : List Row) (bytes : List ℕ) (a
     → find_block at (heap_of rows bytes) ≡ Some block
     → None ≡ room_in_place (place_of block) n (heap_of rows bytes) → HasNoPlace outcome n rows (length bytes)
     → ReallocTold outcome at n rows bytes
-resize_refused Outcome.NoTable rows bytes at n block found room why = why
+resize_refused Outcome.NoTable rows bytes at n block found room why = λ table. absurd (why table)
 resize_refused Outcome.NoRoom rows bytes at n block found room why =
     let found' = new_elsewhere block n (heap_of rows bytes) None room (why.1 bytes refl) in grind arith
 resize_refused Outcome.Done rows bytes at n block found room why = absurd why

@@ -63,7 +63,7 @@ check_wrong_arguments(void)
   toarmuts_heap_memory.rows[0].room = SIZE + 1;
   heapmem_stats(&stats);
   check("spoilt rows", heapmem_alloc(1) == NULL && !heapmem_free(a) && heapmem_realloc(a, 1) == NULL && stats.chunks == 0);
-  toarmuts_heap_memory.rows[0].place = SIZE_MAX;
+  toarmuts_heap_memory.rows[0].place = UINT32_MAX;
   check("spoilt places", heapmem_alloc(1) == NULL && !heapmem_free(a) && heapmem_realloc(a, 1) == NULL);
   toarmuts_heap_memory.rows[0] = row;
   check("freed, and not twice", heapmem_free(a) && !heapmem_free(a));
@@ -403,10 +403,10 @@ check_any_table(void)
       abort();
     }
     for(size_t k = 0; k < num; k++) {
-      rows[k].place = next_random() % 4 == 0 ? any_number(size) : from + next_random() % 8;
-      rows[k].room = any_number(16);
-      rows[k].size = next_random() % 4 == 0 ? any_number(16) : rows[k].room - rows[k].room / 2;
-      from = rows[k].place + rows[k].room;
+      rows[k].place = (uint32_t)(next_random() % 4 == 0 ? any_number(size) : from + next_random() % 8);
+      rows[k].room = (uint32_t)any_number(16);
+      rows[k].size = next_random() % 4 == 0 ? (uint32_t)any_number(16) : rows[k].room - rows[k].room / 2;
+      from = (uint64_t)rows[k].place + rows[k].room;
     }
     tables += is_table(rows, num, size);
     holds = is_sound_on(rows, num, bytes, size);
@@ -415,6 +415,17 @@ check_any_table(void)
   }
   check("any table", holds);
   check("some tables, and many that are none", tables > RANDOM_CALLS / 100 && tables < RANDOM_CALLS / 3 - RANDOM_CALLS / 100);
+}
+
+/* Numbers of 32 bits can't describe all blocks of a larger heap. No byte of it is read. */
+static void
+check_large_heap(void)
+{
+  struct toarmuts_heap_row rows[2] = {{0, 16, 16}, {0, 0, 0}};
+  uint64_t at = 0, large = 0x100000000;
+  check("no block of 4 GB", toarmuts_heapmem_alloc(rows, 2, heap(), large, 16, &at) == TOARMUTS_HEAP_NO_TABLE &&
+                              toarmuts_heapmem_realloc(rows, 1, heap(), large, &at, 32) == TOARMUTS_HEAP_NO_TABLE && at == 0 &&
+                              rows[0].room == 16 && rows[1].room == 0);
 }
 
 int
@@ -427,5 +438,6 @@ main(void)
   check_random_calls();
   check_zones();
   check_any_table();
+  check_large_heap();
   return conclude();
 }

@@ -28,17 +28,17 @@ uint64_t toarmuts_mmem_place(const struct toarmuts_managed_row *rows, uint64_t n
 uint64_t toarmuts_mmem_avail(const struct toarmuts_managed_row *rows, uint64_t num, uint64_t size);
 
 /* A row of the heap: the offset of a block, the number of bytes reserved for it, and the number that it has. The rows are sorted by
-   offset. */
+   offset. A heap has fewer than 2^32 bytes, so 32 bits are enough. */
 struct toarmuts_heap_row {
-  uint64_t place;
-  uint64_t room;
-  uint64_t size;
+  uint32_t place;
+  uint32_t room;
+  uint32_t size;
 };
 
 /* The result of a call on the heap. */
 enum toarmuts_heap_status {
   TOARMUTS_HEAP_DONE = 0,     /* as it was asked for */
-  TOARMUTS_HEAP_NO_TABLE = 1, /* the rows are invalid: somebody else wrote to them */
+  TOARMUTS_HEAP_NO_TABLE = 1, /* the rows are invalid: somebody else wrote to them; or the heap has 2^32 bytes or more */
   TOARMUTS_HEAP_NO_BLOCK = 2, /* no block begins there */
   TOARMUTS_HEAP_NO_ROOM = 3,  /* no gap is large enough */
   TOARMUTS_HEAP_NO_ROW = 4    /* there is no row for another block */

@@ -3,7 +3,7 @@ use Rattle.std.specs.Prelude.{◌≡◌, ℕ, ◌≤◌, List, length, IsSome, I
 use Rattle.heap_core.specs.HeapStore.{find_block, place, place_of, new_place}
 use Rattle.modules_c.specs.declared.heapmem.row.Row.{Row}
 use Rattle.modules_c.specs.declared.heapmem.outcome.Outcome.{Outcome}
-use Rattle.modules_c.specs.Heapmem.Heaps.{heap_of, IsTable, front}
+use Rattle.modules_c.specs.Heapmem.Heaps.{heap_of, row_limit, IsTable, front}
 
 abbrev pub outcome_numbered : ℕ → Option Outcome
 outcome_numbered number =
@@ -16,7 +16,7 @@ outcome_numbered number =
 -- a call for a new block of n bytes
 abbrev pub AllocTold : Outcome → ℕ → List Row → List ℕ → Type 0
 AllocTold Outcome.NoRow n rows bytes = length rows ≡ 0
-AllocTold Outcome.NoTable n rows bytes = (1 ≤ length rows) × ¬ IsTable (front rows) (length bytes)
+AllocTold Outcome.NoTable n rows bytes = (1 ≤ length rows) × (IsTable (front rows) (length bytes) → row_limit ≤ length bytes)
 AllocTold Outcome.NoRoom n rows bytes =
     (1 ≤ length rows) × IsTable (front rows) (length bytes) × IsNone (place n (heap_of (front rows) bytes))
 AllocTold Outcome.Done n rows bytes =
@@ -33,7 +33,7 @@ FreeTold Outcome.NoRow at rows bytes = ⊥
 
 -- a call that resizes the block that begins at a position to n bytes
 abbrev pub ReallocTold : Outcome → ℕ → ℕ → List Row → List ℕ → Type 0
-ReallocTold Outcome.NoTable at n rows bytes = ¬ IsTable rows (length bytes)
+ReallocTold Outcome.NoTable at n rows bytes = IsTable rows (length bytes) → row_limit ≤ length bytes
 ReallocTold Outcome.NoBlock at n rows bytes = IsTable rows (length bytes) × IsNone (find_block at (heap_of rows bytes))
 ReallocTold Outcome.NoRoom at n rows bytes = IsTable rows (length bytes)
     × IsSomeAnd (find_block at (heap_of rows bytes)) (λ block. IsNone (new_place (place_of block) n (heap_of rows bytes)))

@@ -5,6 +5,10 @@ use Rattle.heap_core.specs.declared.chunk.Place.{Place}
 use Rattle.heap_core.specs.HeapStore.{Block, HeapStore, block_at, with_block, without_block}
 use Rattle.modules_c.specs.declared.heapmem.row.Row.{Row}
 
+-- rows have numbers of 32 bits: those of a heap with as many bytes as this might not fit
+abbrev pub row_limit : ℕ
+row_limit = 4294967296
+
 -- a block is named by the position where it begins
 abbrev pub block_told : List ℕ → Row → Block
 block_told bytes row = record { name = row.place; at = row.place; room = row.room; bytes = range_of row.place row.size bytes }

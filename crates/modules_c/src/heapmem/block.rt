@@ -4,7 +4,7 @@ ghost use Rattle.std.specs.Prelude.{◌≡◌, ◌≢◌, ◌+◌, ◌≤◌, �
 ghost use Rattle.mote_types.specs.Bytes.{range_of, resized};
 ghost use Rattle.arena_core.specs.Written.{written};
 ghost use Rattle.heap_core.specs.HeapStore.{place, place_of, new_place, room_in_place, find_block, without_block};
-ghost use Rattle.modules_c.specs.Heapmem.Heaps.{block_told, heap_of, IsTable, front, with_new, with_resized};
+ghost use Rattle.modules_c.specs.Heapmem.Heaps.{block_told, heap_of, row_limit, IsTable, front, with_new, with_resized};
 ghost use Rattle.modules_c.specs.Heapmem.Answers.{AllocTold, FreeTold, ReallocTold};
 ghost use Rattle.modules_c.specs.Code.HeapmemRows.{place_told, row_of, next_place, IsFree};
 
@@ -14,6 +14,9 @@ use crate::heapmem::row::{Row, Spot};
 use crate::heapmem::survey::{find_place, is_table, room_in_place};
 use crate::heapmem::table::{insert, remove, row_at};
 
+/// A row has numbers of 32 bits, so it can't describe all blocks of a larger heap.
+const MOST_BYTES: usize = u32::MAX as usize;
+
 /// Puts a block of zeros where nothing is.
 fn put(rows: &mut [Row], bytes: &mut [u8], spot: Spot, size: usize)
     requires spare { 1 ≤ length rows.old }
@@ -21,6 +24,7 @@ fn put(rows: &mut [Row], bytes: &mut [u8], spot: Spot, size: usize)
     requires some { 1 ≤ spot.room }
     requires room { size ≤ spot.room }
     requires free { IsFree 0 (front rows.old) (length bytes.old) spot.at spot.room }
+    requires small { spot.at + spot.room < row_limit }
     ensures heap { heap_of rows.new bytes.new ≡ with_new (place_told spot) size (heap_of (front rows.old) bytes.old) }
     ensures table { IsTable rows.new (length bytes.new) }
 {
@@ -28,9 +32,9 @@ fn put(rows: &mut [Row], bytes: &mut [u8], spot: Spot, size: usize)
     insert(
         rows,
         Row {
-            place: spot.at,
-            room: spot.room,
-            size,
+            place: spot.at as u32,
+            room: spot.room as u32,
+            size: size as u32,
         },
     );
 }
@@ -45,6 +49,9 @@ pub fn alloc(rows: &mut [Row], bytes: &mut [u8], size: usize, at: &mut usize) ->
 {
     if rows.is_empty() {
         return Outcome::NoRow;
+    }
+    if bytes.len() > MOST_BYTES {
+        return Outcome::NoTable;
     }
     let taken = &rows[..rows.len() - 1];
     let spot = match find_place(taken, bytes.len(), size) {
@@ -79,8 +86,8 @@ fn carry(bytes: &mut [u8], row: Row, to: usize, n: usize)
     requires target { to + n ≤ length bytes.old }
     ensures { bytes.new ≡ written bytes.old to (resized n (range_of row.place row.size bytes.old)) }
 {
-    let kept = row.size.min(n);
-    copy(bytes, row.place, kept, to);
+    let kept = (row.size as usize).min(n);
+    copy(bytes, row.place as usize, kept, to);
     clear(bytes, to + kept, n - kept);
 }
 
@@ -91,16 +98,17 @@ fn resize(rows: &mut [Row], bytes: &mut [u8], number: usize, room: usize, n: usi
     requires some { 1 ≤ room }
     requires fits { n ≤ room }
     requires room { (row_of rows.old number).place + room ≤ next_place number rows.old (length bytes.old) }
+    requires small { (row_of rows.old number).place + room < row_limit }
     ensures heap { heap_of rows.new bytes.new ≡ with_resized (record { at = (row_of rows.old number).place; room = room }) n
         (block_told bytes.old (row_of rows.old number)) (heap_of rows.old bytes.old) }
     ensures table { IsTable rows.new (length bytes.new) }
 {
     let row = rows[number];
-    carry(bytes, row, row.place, n);
+    carry(bytes, row, row.place as usize, n);
     rows[number] = Row {
         place: row.place,
-        room,
-        size: n,
+        room: room as u32,
+        size: n as u32,
     };
 }
 
@@ -111,6 +119,7 @@ fn relocate(rows: &mut [Row], bytes: &mut [u8], number: usize, spot: Spot, n: us
     requires some { 1 ≤ spot.room }
     requires fits { n ≤ spot.room }
     requires free { IsFree 0 rows.old (length bytes.old) spot.at spot.room }
+    requires small { spot.at + spot.room < row_limit }
     ensures heap { heap_of rows.new bytes.new ≡ with_resized (place_told spot) n (block_told bytes.old (row_of rows.old number))
         (heap_of rows.old bytes.old) }
     ensures table { IsTable rows.new (length bytes.new) }
@@ -120,9 +129,9 @@ fn relocate(rows: &mut [Row], bytes: &mut [u8], number: usize, spot: Spot, n: us
     insert(
         rows,
         Row {
-            place: spot.at,
-            room: spot.room,
-            size: n,
+            place: spot.at as u32,
+            room: spot.room as u32,
+            size: n as u32,
         },
     );
 }
@@ -136,6 +145,9 @@ pub fn realloc(rows: &mut [Row], bytes: &mut [u8], at: &mut usize, n: usize) -> 
     ensures sound { result ≡ Outcome.Done → IsTable rows.new (length bytes.new) }
     ensures unchanged { result ≢ Outcome.Done → (rows.new ≡ rows.old) × (bytes.new ≡ bytes.old) × (at.new ≡ at.old) }
 {
+    if bytes.len() > MOST_BYTES {
+        return Outcome::NoTable;
+    }
     if !is_table(rows, bytes.len()) {
         return Outcome::NoTable;
     }

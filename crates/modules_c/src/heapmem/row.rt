@@ -3,16 +3,16 @@
 ghost use Rattle.std.specs.Prelude.{◌≡◌, ◌+◌, ◌≤◌};
 ghost use Rattle.heap_core.specs.HeapStore.{least_room, room_taken};
 
-/// A row of the table: one block.
+/// A row of the table: one block. Its numbers have 32 bits, so that a table takes half the memory.
 #[repr(C)]
 #[derive(Clone, Copy, Drop)]
 pub struct Row {
     /// Where the block begins: its offset from the heap's start.
-    pub place: usize,
+    pub place: u32,
     /// The number of bytes reserved for it.
-    pub room: usize,
+    pub room: u32,
     /// The number of its bytes.
-    pub size: usize,
+    pub size: u32,
 }
 
 /// The figures of a heap.

@@ -1,6 +1,6 @@
 //! What rows leave free: whether they are a table, which gap a block takes, and where the last one ends.
 
-ghost use Rattle.std.specs.Prelude.{◌≡◌, ℕ, List, ◌+◌, ◌^◌, ◌≤◌, ◌<◌, ◌↔◌, ◌⊎◌, IsTrue, length, IfSome, IfNone, IfOk, IfErr, Some};
+ghost use Rattle.std.specs.Prelude.{◌≡◌, ℕ, List, ◌+◌, ◌≤◌, ◌<◌, ◌↔◌, ◌⊎◌, IsTrue, length, IfSome, IfNone, IfOk, IfErr, Some};
 ghost use Rattle.std.specs.Option.{option_map};
 ghost use Rattle.heap_core.specs.HeapStore.{best_gap, better, gaps, footprint, place, place_of, room_in_place, stats_of};
 ghost use Rattle.modules_c.specs.Heapmem.Heaps.{block_told, heap_of, IsTable};
@@ -12,12 +12,11 @@ use crate::heapmem::row::{Hole, Row, Spot, Stats, least_room, room_taken};
 /// Where a row's block ends, if it is at a position or after it, and has room for its size.
 fn end_behind(row: Row, from: usize) -> Option<usize>
     ensures some { IfSome result (λ end. (from ≤ row.place) × (1 ≤ row.room) × (row.size ≤ row.room) × (end ≡ row.place + row.room)) }
-    ensures none { IfNone result (from ≤ row.place → 1 ≤ row.room → row.size ≤ row.room → 2 ^ 64 ≤ row.place + row.room) }
+    ensures none { IfNone result (from ≤ row.place → 1 ≤ row.room → ¬ (row.size ≤ row.room)) }
 {
-    // That is no higher than the position where the room is 0, or where the end exceeds all numbers.
-    let end = row.place.wrapping_add(row.room);
-    if from <= row.place && row.place < end && row.size <= row.room {
-        Some(end)
+    let place = row.place as usize;
+    if from <= place && row.room != 0 && row.size <= row.room {
+        Some(place + row.room as usize)
     } else {
         None
     }
@@ -77,13 +76,13 @@ fn look_over(rows: &[Row], capacity: usize, need: u128) -> Option<Survey>
         let Some(next) = end_behind(*row, end) else {
             return None;
         };
-        if end < row.place {
+        if end < row.place as usize {
             best = better(
                 need,
                 best,
                 Hole {
                     at: end,
-                    len: row.place - end,
+                    len: row.place as usize - end,
                 },
             );
         }
@@ -126,7 +125,7 @@ fn next_place(rows: &[Row], number: usize, capacity: usize) -> usize
     ensures { result ≡ next_place number rows.now capacity }
 {
     if number + 1 < rows.len() {
-        rows[number + 1].place
+        rows[number + 1].place as usize
     } else {
         capacity
     }
@@ -143,9 +142,9 @@ pub fn room_in_place(rows: &[Row], capacity: usize, number: usize, n: usize) -> 
 {
     let row = rows[number];
     let least = least_room(n);
-    let most = next_place(rows, number, capacity) - row.place;
+    let most = next_place(rows, number, capacity) - row.place as usize;
     if least <= row.room as u128 {
-        return Some(room_taken(least as usize, row.room));
+        return Some(room_taken(least as usize, row.room as usize));
     }
     if least > most as u128 {
         return None;
@@ -166,8 +165,8 @@ fn left_over(rows: &[Row], capacity: usize) -> usize
     let mut free = 0;
     let mut end = 0;
     for row in rows {
-        free += row.place - end;
-        end = row.place + row.room;
+        free += row.place as usize - end;
+        end = row.place as usize + row.room as usize;
     }
     free + (capacity - end)
 }

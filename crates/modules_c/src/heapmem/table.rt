@@ -14,7 +14,7 @@ fn first_behind(rows: &[Row], place: usize) -> usize
     ensures below { BeginBelow rows.now place result }
     ensures above { result < length rows.now → place < (row_of rows.now result).place }
 {
-    rows.partition_point(|row| row.place <= place)
+    rows.partition_point(|row| row.place as usize <= place)
 }
 
 /// The number of the row that begins at a position.
@@ -23,7 +23,7 @@ pub fn row_at(rows: &[Row], place: usize) -> Option<usize>
     ensures { BeginsAt rows.now place (length rows.now) result }
 {
     let behind = first_behind(rows, place);
-    if behind != 0 && rows[behind - 1].place == place {
+    if behind != 0 && rows[behind - 1].place as usize == place {
         Some(behind - 1)
     } else {
         None
@@ -37,7 +37,7 @@ pub fn insert(rows: &mut [Row], row: Row)
     ensures { rows.new ≡ with_row row (front rows.old) }
 {
     let last = rows.len() - 1;
-    let number = first_behind(&rows[..last], row.place);
+    let number = first_behind(&rows[..last], row.place as usize);
     rows.copy_within(number..last, number + 1);
     rows[number] = row;
 }

@@ -1,8 +1,8 @@
 use Rattle.std.proofs.Common.{length, arith}
 use Rattle.std.specs.Option.{is_some}
-use Rattle.modules_c.proofs.HeapmemEdits.{no_block}
+use Rattle.modules_c.proofs.HeapmemEdits.{no_block, free_inside}
 use Rattle.modules_c.proofs.HeapmemMoves.{some_and, found_at, new_in_place, new_elsewhere, resize_refused}
-use Rattle.modules_c.proofs.HeapmemTables.{places_rise}
+use Rattle.modules_c.proofs.HeapmemTables.{places_rise, row_lies}
 use Rattle.modules_c.proofs.heapmem.block.realloc.Goals as goal
 
 pub returns-in_default-clause-answer : goal.returns-in_default-clause-answer
@@ -22,6 +22,12 @@ returns-clause-answer c = grind (arith, new_elsewhere, some_and, found_at, is_so
 
 pub returns-clause-block : goal.returns-clause-block
 returns-clause-block c done = grind (arith, new_elsewhere, some_and, found_at)
+
+pub resize-requires-clause-small : goal.resize-requires-clause-small
+resize-requires-clause-small c = grind (arith, row_lies)
+
+pub relocate-requires-clause-small : goal.relocate-requires-clause-small
+relocate-requires-clause-small c = grind (arith, free_inside)
 
 pub row_at-requires : goal.row_at-requires
 row_at-requires c = places_rise 0 c.args.rows.now (length c.args.bytes.now) (c.is_table.ensures.0 c.if-not-is_table.false)
