@@ -238,7 +238,7 @@ NAMES: dict[str, tuple[str, str, str, list[str]]] = {
     "crates/mote/src/main.rt": ("after_help: after_help!(", '",', r'^ *"?  ([a-z]+)  +\w', OF_MOTE),
     "crates/mote_apps/src/bundled.rt": ("match word {", "_ =>", r'"([a-z-]+)" =>', OF_MOTE),
     "crates/mote_apps/specs/Bundled.antt": ("\nnamed word =", "\n\n", r'codes "([a-z-]+)"', OF_MOTE),
-    "crates/network/src/options.rt": ("Applications:\n", " which asks", r"(?:^  |, )([a-z-]+)(?=,)", RULES["applications"]),
+    "crates/network/src/options.rt": ("Applications:\n", " which calls", r"(?:^  |, )([a-z-]+)(?=,)", RULES["applications"]),
     "crates/scenario/src/command_line.rt": ("one more application:", ", which asks", r"([a-z-]+)(?:,|$)", RULES["applications"]),
     "crates/toarmuts/include/toarmuts.h": ("a name\n * (", ")", r"([a-z-]+)", RULES["applications"]),
     "docs/scenarios.md": ("| `app NAME` | an application:", ", which calls", QUOTED, RULES["applications"]),
