@@ -578,10 +578,11 @@ def started():
 WRONG = [
     (lambda: Network("hello"), WrongType, "motes must be a list, not str"),
     (lambda: Network(5), WrongType, "motes must be a list, not int"),
-    (lambda: Network(["frob"]), NoApplication, "application 1 (process 4): no application 'frob'"),
+    (lambda: Network(["frob"]), NoApplication, "mote 1: application 1 (process 4): no application 'frob'"),
+    (lambda: Network(["hello", "hello"]).add("echo", "frob"), NoApplication, "mote 3: application 2 (process 5): no application 'frob'"),
     (lambda: Network([["hello"] * 17]), toarmuts.TooManyApplications, "17 applications; a mote has at most 16"),
     (lambda: Network([[Wait()]]), WrongType, "application 1 is the call Wait(): write a list of calls, [Wait()]"),
-    (lambda: Network(["hello"], mmem=5), BadSizes, "mmem is 5; a multiple of 4 from 4 to 65,536 is allowed"),
+    (lambda: Network(["hello"], mmem=5), BadSizes, "mote 1: mmem is 5; a multiple of 4 from 4 to 65,536 is allowed"),
     (lambda: Network().add("hello", mmem=8, quota=8), BadSizes, "quota is 8; 2 of them (1 application and the frames) exceed mmem"),
     (lambda: Network(options=toarmuts.Options(quiet=True)).add("hello", options=toarmuts.Options(quiet=True)), MoteError, "never quiet"),
     (lambda: Network(room=-1), BadNetwork, "room is -1; 0 to 4,294,967,295 is allowed"),

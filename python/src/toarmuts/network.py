@@ -54,7 +54,7 @@ class Network:
             raise WrongType(f"motes must be a list, not {type(motes).__name__}")
         sizes = one_of(Options(mmem=mmem, heap=heap, header=header, quota=quota), options)
         limits = check_number("room", room, 0, MOST_NUMBER), check_number("rounds", rounds, 0, MOST_NUMBER)
-        self._begin(NetworkSetup(tuple(read_mote(mote, sizes) for mote in motes), (), *limits))
+        self._begin(NetworkSetup(tuple(read_mote(mote, sizes, number) for number, mote in enumerate(motes, 1)), (), *limits))
 
     def _begin(self, setup: NetworkSetup) -> None:
         self.setup = setup
@@ -90,7 +90,7 @@ class Network:
             quota: int | None = None, options: Options | None = None) -> "Network":
         """Adds ``count`` motes with these applications and sizes."""
         sizes = one_of(Options(mmem=mmem, heap=heap, header=header, quota=quota), options)
-        mote = read_mote(list(applications), sizes)
+        mote = read_mote(list(applications), sizes, len(self.setup.motes) + 1)
         return self._change(replace(self.setup, motes=self.setup.motes + (mote,) * check_number("count", count, 0, MOST_NUMBER)))
 
     def _with(self, links: Iterable[Link]) -> "Network":

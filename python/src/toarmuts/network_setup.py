@@ -9,7 +9,7 @@ from dataclasses import dataclass, replace
 from typing import NamedTuple, Union
 
 from .applications import ApplicationLike, Made, Named, read_applications
-from .errors import BadInput, MoteError, WrongType
+from .errors import BadInput, MoteError, ToarmutsError, WrongType
 from .library import BAD_SIZES, HeldNetwork, library
 from .links import Link
 from .options import Options
@@ -55,8 +55,16 @@ def _boots(options: Options, applications: int) -> bool:
     return library().run(options.configuration(), b"calls\n" * applications, b"").status != BAD_SIZES
 
 
-def read_mote(applications: object, options: Options) -> MoteSetup:
-    """A mote of a network; raises where one of its applications is none, or where it can't boot."""
+def read_mote(applications: object, options: Options, number: int) -> MoteSetup:
+    """The mote of this number; raises where one of its applications is none, or where it can't boot, and says which mote it is."""
+    try:
+        return _read_mote(applications, options)
+    except ToarmutsError as error:
+        error.args = (f"mote {number}: {error}",)
+        raise
+
+
+def _read_mote(applications: object, options: Options) -> MoteSetup:
     is_list = isinstance(applications, (list, tuple))
     named = read_applications(applications if is_list else [applications])
     if options.quiet:
