@@ -13,31 +13,27 @@ USE = re.compile(r"^\s*(?:ghost )?use Rattle\.(\w+)\.specs\.([\w.]+?)(?:\.\{([^}
 CODE_USE = re.compile(r"^use (\w+)::([\w:]+?)::(?:\{([^}]*)\}|(\w+));$", re.M)
 
 
-def definition_file(crate: str, path: str) -> tuple[str, str | None]:
+def definition_file(crate: str, path: str) -> Place:
     """The file of definitions that a `use` line names, or the file of code and its type."""
     parts = path.split(".")
     if parts[0] != "declared":
-        return f"crates/{crate}/specs/{'/'.join(parts)}.antt", None
+        return f"crates/{crate}/specs/{'/'.join(parts)}.antt", ""
     modules = [part for part in parts[1:] if part[0].islower()]
     types = [part for part in parts[1:] if part[0].isupper()]
-    return f"crates/{crate}/src/{'/'.join(modules)}.rt", types[0] if types else None
+    return f"crates/{crate}/src/{'/'.join(modules)}.rt", "".join(types[:1])
 
 
-def names_used(text: str) -> dict[str, tuple[str, str | None]]:
+def names_used(text: str) -> dict[str, Place]:
     """Where each name comes from that the `use` lines of a text name in the crates here: its file, and the name there. A file
     that is named as a whole stands under its short name, with no name there."""
-    homes: dict[str, tuple[str, str | None]] = {}
+    homes: dict[str, Place] = {}
     for crate, path, names, short in USE.findall(text):
         if (CRATES / crate).is_dir():
             file, name = definition_file(crate, path)
             homes.update({word: (file, name or word) for word in re.findall(r"\w+", names)})
             if short:
-                homes[short] = (file, None)
+                homes[short] = (file, "")
     return homes
-
-
-def whole(home: tuple[str, str | None] | None) -> Place | None:
-    return (home[0], home[1]) if home and home[1] else None
 
 
 @functools.lru_cache(maxsize=None)
@@ -97,8 +93,8 @@ def spoken_of(file: str, name: str) -> Iterator[Place]:
     for word in set(re.findall(r"\w+", text)):
         if word in definitions(file):
             yield file, word
-        elif place := whole(homes.get(word)):
-            yield place
+        elif word in homes and homes[word][1]:
+            yield homes[word]
     for short, word in re.findall(r"\b(\w+)\.(\w+)", text):
         if short in homes and not homes[short][1] and word in definitions(homes[short][0]):
             yield homes[short][0], word
@@ -119,7 +115,7 @@ def promised() -> tuple[set[Place], set[Place]]:
     text = (CRATES / "mote_run/src/run.rt").read_text(encoding="utf-8")
     clauses = text[text.index("pub fn run<") :]
     words = set(re.findall(r"\w+", clauses[: clauses.index("\n{\n")]))
-    start = {place for word, home in names_used(text).items() if word in words and (place := whole(home))}
+    start = {home for word, home in names_used(text).items() if word in words and home[1]}
     promise = next(place for place in start if place[1] == "RunPromise")
     of_text = reached([*(start - {promise}), ("crates/mote_run/specs/RunText.antt", "HasRunTo")])
     return of_text, reached([*start]) - of_text

@@ -123,8 +123,8 @@ def crate_words(crate: str) -> set[str]:
 def other_words() -> set[str]:
     c = read_all("c/*/**/*", "tests/*", "tests/c/*", "bench/*", "examples/contiki/**/*.c")
     python = read_all("python/*.py", "python/src/**/*.py", "python/native/*", "examples/python/*.py")
-    programs = {file.stem for file in ROOT.glob("tests/c/contiki/programs/*.c")}
-    return programs | words_in(c + python + read_all("mote", "prove", "scenario", "contiki", "scripts/*", "crates.txt"))
+    words = words_in(c + python + read_all("mote", "prove", "scenario", "contiki", "scripts/*", "crates.txt"))
+    return words | {file.stem for file in (ROOT / "tests/c").rglob("*.c")}
 
 
 @functools.lru_cache(maxsize=None)
