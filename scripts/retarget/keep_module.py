@@ -51,32 +51,26 @@ def keep_module(root: Path, name: str, anew: bool = True) -> Path:
     with open(module.with_suffix(".lock"), "ab") as lock:
         # Another one may be keeping it.
         fcntl.flock(lock, fcntl.LOCK_EX)
-        if not (is_kept(tree, name, module) or is_noted(tree, name) and is_kept_by_note(tree, name, module)):
-            if not (anew or kept_work(tree, name).exists()):
+        if not is_kept(tree, name, module) and not is_kept_by_note(tree, name, module):
+            # `rt ci` leaves none, ./prove does.
+            work = tree.product(name).parent / "incremental"
+            if not anew and not work.exists():
                 raise Refused(f"no work is kept of {name}, and to prove it once more takes minutes: --anew")
-            keep(tree, name, module, kept_work(tree, name), run_rt)
+            keep(tree, name, module, work, run_rt)
     return module
 
 
 def is_kept_by_note(tree: Sources, name: str, module: Path) -> bool:
-    """Keeps a module by what `rt ci` noted. That isn't of use where the libraries below aren't those that `rt ci` built."""
+    """Keeps a module by what `rt ci` noted, if it noted that of the proved sources, and the libraries below are those that it built."""
+    sources = tree.note(name).with_suffix(".sources")
+    if not sources.exists() or [sources.read_text(encoding="utf-8")] != proved(tree, name)[:1]:
+        return False
     try:
         keep(tree, name, module, tree.note(name), build_noted)
     except Refused as why:
         print(f"{name} isn't built of what rt ci noted: {why}", file=sys.stderr)
         return False
     return True
-
-
-def kept_work(tree: Sources, name: str) -> Path:
-    """Where rt keeps what it has proved of a crate. `rt ci` leaves none, ./prove does."""
-    return tree.product(name).parent / "incremental"
-
-
-def is_noted(tree: Sources, name: str) -> bool:
-    """Whether there is what `rt ci` noted of this program, of the sources that it is proved of."""
-    sources = tree.note(name).with_suffix(".sources")
-    return sources.exists() and [sources.read_text(encoding="utf-8")] == proved(tree, name)[:1]
 
 
 def proved(tree: Sources, name: str) -> list[str]:
