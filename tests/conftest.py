@@ -52,23 +52,25 @@ mote, scenario, network = built("mote"), built("scenario"), built("network")
 mote_picture, network_picture = built("mote_picture"), built("network_picture")
 
 
+def gathered(place: Path, name: str, *headers: str) -> Path:
+    """A folder with a library for C, and files beside it."""
+    def gather(folder: Path) -> None:
+        folder.mkdir(exist_ok=True)
+        for file in (library(name), *(CRATES / name / "include" / header for header in headers)):
+            shutil.copy2(file, folder)
+    return once(place, gather)
+
+
 @pytest.fixture(scope="session")
 def toarmuts_library(shared: Path) -> Path:
     """A folder with the library for C of crates/toarmuts: toarmuts.h, toarmuts_memory.c and libtoarmuts.a."""
-    def gather(folder: Path) -> None:
-        folder.mkdir(exist_ok=True)
-        shutil.copy2(library("toarmuts"), folder)
-        for file in ("toarmuts.h", "toarmuts_memory.c"):
-            shutil.copy2(CRATES / "toarmuts/include" / file, folder)
-    return once(shared / "toarmuts", gather)
+    return gathered(shared / "toarmuts", "toarmuts", "toarmuts.h", "toarmuts_memory.c")
 
 
 @pytest.fixture(scope="session")
 def modules_library(shared: Path) -> Path:
-    def gather(folder: Path) -> None:
-        folder.mkdir(exist_ok=True)
-        shutil.copy2(library("modules_c"), folder)
-    return once(shared / "modules_c", gather)
+    """A folder with libmodules_c.a, the archive of the memory modules for C."""
+    return gathered(shared / "modules_c", "modules_c")
 
 
 @pytest.fixture(scope="session")
