@@ -19,17 +19,14 @@ REMARK = b"# one\r\ntick 1\n"
 
 # ---- An unproved run ----
 
-def test_unproved_run(tree: Tree) -> None:
+@pytest.mark.parametrize(("script", "words", "proving"), [
+    ("mote", ["--mmem", "8", "--", "two words", ""], "./prove"), ("mote-picture", ["--page", "a b"], "./prove mote_picture")])
+def test_unproved_run(tree: Tree, script: str, words: list[str], proving: str) -> None:
     """Arguments, input and output are passed on, and it is reported that the run is unproved."""
-    tree.run("mote", "--mmem", "8", "--", "two words", "", stdin=SCRIPT)
-    assert tree.is_unproved() and "./prove proves and builds" in tree.stderr
-    assert tree.ran.stdout == b"words --mmem 8 -- two words \n" + SCRIPT
-
-
-def test_unproved_picture(tree: Tree) -> None:
     (tree.root / "crates/mote_picture").mkdir()
-    tree.run("mote-picture", "--page", "a b", stdin=SCRIPT)
-    assert tree.is_unproved() and tree.ran.stdout == b"words --page a b\n" + SCRIPT
+    tree.run(script, *words, stdin=SCRIPT)
+    assert tree.is_unproved() and f"; {proving} proves and builds" in tree.stderr
+    assert tree.ran.stdout == f"words {' '.join(words)}\n".encode() + SCRIPT
 
 
 def test_longest_input(tree: Tree) -> None:

@@ -53,9 +53,8 @@ def test_first_lines() -> None:
 
 
 def test_text() -> None:
-    """Sources are text in UTF-8 without tabs in Python, and each ends with a line end."""
-    faults = [str(path) for path in sources("python", "shell", "C") if not path.read_text(encoding="utf-8").endswith("\n")]
-    faults += [f"{path}: a tab" for path in sources("python") if "\t" in path.read_text(encoding="utf-8")]
+    """Sources end with a line end. (Of Python flake8 says so, and of tabs.)"""
+    faults = [str(path) for path in sources("shell", "C") if not path.read_text(encoding="utf-8").endswith("\n")]
     assert not faults, "\n".join(faults)
 
 

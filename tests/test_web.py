@@ -153,33 +153,25 @@ def test_as_typed(mote_page: Opened) -> None:  # noqa: F811
     assert "> tick 77\n" in mote_page.ask("await click('run'); return transcript();")
 
 
-def test_completion(mote_page: Opened) -> None:  # noqa: F811
-    """Ctrl+Space names the calls that begin so, with what they take, and Enter takes one."""
-    set_fields(mote_page, "", "")
-    mote_page.ask("editors.applications.focus();")
-    mote_page.page.insert("calls timer-rese")
-    mote_page.page.wait_for("editors.applications.text === 'calls timer-rese'")
+@pytest.mark.parametrize("editor, before, typed, found, text", [
+    ("applications", "", "calls timer-rese", "timer-reset TIMER: Arms", "calls timer-reset"),
+    ("network", "", "gr", "grid N..M width W delay D: Rows", "grid "),
+    ("network", "grid ", "1 calls packet-o", "packet-open: ", "grid 1 calls packet-open"),
+])
+def test_completion(mote_page: Opened, editor: str, before: str, typed: str, found: str, text: str) -> None:  # noqa: F811
+    """Ctrl+Space names what a line may begin with, or the calls that begin so, with what they take, and Enter takes one."""
+    if editor == "network":
+        set_network(mote_page, before)
+    else:
+        set_fields(mote_page, before, "")
+    mote_page.ask(f"editors.{editor}.focus(); editors.{editor}.code.setCursor(0, 99);")
+    mote_page.page.insert(typed)
+    mote_page.page.wait_for(f"editors.{editor}.text === '{before}{typed}'")
     mote_page.page.press(*SPACE, modifiers=CONTROL)
     mote_page.page.wait_for("document.querySelector('.CodeMirror-hint')")
-    assert mote_page.ask("return document.querySelector('.CodeMirror-hint').textContent;").startswith("timer-reset TIMER: Arms")
+    assert mote_page.ask("return document.querySelector('.CodeMirror-hint').textContent;").startswith(found)
     mote_page.page.press(*ENTER)
-    assert mote_page.ask("return editors.applications.text;") == "calls timer-reset"
-
-
-def test_completion_of_a_network(mote_page: Opened) -> None:  # noqa: F811
-    """At the start of a line Ctrl+Space names what a line begins with, and elsewhere calls."""
-    set_network(mote_page, "")
-    mote_page.ask("editors.network.focus();")
-    cases = [("", "gr", "grid N..M width W delay D: Rows", "grid "),
-             ("grid ", "1 calls packet-o", "packet-open: ", "grid 1 calls packet-open")]
-    for before, typed, found, text in cases:
-        mote_page.page.insert(typed)
-        mote_page.page.wait_for(f"editors.network.text === '{before}{typed}'")
-        mote_page.page.press(*SPACE, modifiers=CONTROL)
-        mote_page.page.wait_for("document.querySelector('.CodeMirror-hint')")
-        assert mote_page.ask("return document.querySelector('.CodeMirror-hint').textContent;").startswith(found)
-        mote_page.page.press(*ENTER)
-        assert mote_page.ask("return editors.network.text;") == text
+    assert mote_page.ask(f"return editors.{editor}.text;") == text
 
 
 def test_all_calls(mote_page: Opened) -> None:  # noqa: F811
