@@ -280,7 +280,7 @@ def test_all_ways(network: Path, scenario: Path, sanitized: Callable[[test_libra
                   environments: test_python.Environments, tmp_path: Path) -> None:
     """A network whose calls are made in C has the bytes of the same network as a script, as a scenario file and from Python."""
     all_hold(run(sanitized(test_library.NETWORK), "write", MADE_IN_C, tmp_path, timeout=3600))
-    succeed(environments.python("environment"), "-c", IN_PYTHON, tmp_path, settings={"PYTHONDONTWRITEBYTECODE": "1"})
+    succeed(environments("environment"), "-c", IN_PYTHON, tmp_path, settings={"PYTHONDONTWRITEBYTECODE": "1"})
     scripts = sorted(tmp_path.glob("*.net"))
     assert len(scripts) == MADE_IN_C
     text = ""

@@ -5,6 +5,7 @@ import os
 import re
 import shutil
 from pathlib import Path
+from typing import Callable
 
 import pytest
 
@@ -21,6 +22,8 @@ sys.modules['wheel'] = sys.modules['wheel.bdist_wheel'] = sys.modules['setuptool
 import backend
 backend.build_wheel(sys.argv[1])
 """
+# The Python of an environment, by its name.
+Environments = Callable[[str], Path]
 
 
 @functools.lru_cache(maxsize=None)
@@ -45,43 +48,25 @@ def settings(monkeypatch: pytest.MonkeyPatch) -> None:
         monkeypatch.setenv(name, "1")
 
 
-def copy_package(place: Path) -> Path:
-    shutil.rmtree(place, ignore_errors=True)
-    shutil.copytree(PACKAGE, place, ignore=shutil.ignore_patterns("build", "*.egg-info", "*.so", "__pycache__"))
-    return place
-
-
-class Environments:
-    def __init__(self, room: Path) -> None:
-        self.room = room
-
-    def python(self, name: str) -> Path:
-        place = self.room / name
-        return once(place, self.pack if name == "packed" else self.install) / "bin/python"
-
-    def make(self, place: Path) -> None:
-        """Makes an environment: that of the name `bare` sees no packages."""
-        succeed(PYTHON, "-m", "venv", "--clear", *([] if place.name == "bare" else ["--system-site-packages"]), place)
-
-    def install(self, place: Path) -> None:
-        """Makes an environment and installs the package; into that of the name `sanitized` with the sanitizers."""
-        self.make(place)
-        flags = {"CFLAGS": f"{SANITIZERS[0]} -fno-sanitize-recover=undefined {WARNINGS}", "LDFLAGS": SANITIZERS[0]}
-        succeed(place / "bin/pip", "install", copy_package(place / "package"), cwd=self.room,
-                settings={"TOARMUTS_CRATE": str(CRATES / "toarmuts"), **(flags if place.name == "sanitized" else {})})
-
-    def pack(self, place: Path) -> None:
-        """The same by a wheel that was made without the package of that name."""
-        self.make(place)
-        succeed(PYTHON, "-c", NO_WHEEL, place, cwd=copy_package(place / "package"), settings={"TOARMUTS_CRATE": str(CRATES / "toarmuts")})
-        succeed(place / "bin/pip", "install", *place.glob("toarmuts-*.whl"))
+def make_environment(place: Path) -> None:
+    """Makes an environment with a new build of the package: `bare` sees none of Debian's packages, `sanitized` has what is written in C
+    with the sanitizers, and `packed` has a wheel that was made without the package of that name."""
+    succeed(PYTHON, "-m", "venv", "--clear", *([] if place.name == "bare" else ["--system-site-packages"]), place)
+    package, settings = place / "package", {"TOARMUTS_CRATE": str(CRATES / "toarmuts")}
+    shutil.copytree(PACKAGE, package, ignore=shutil.ignore_patterns("build", "*.egg-info", "*.so", "__pycache__"))
+    if place.name == "sanitized":
+        settings |= {"CFLAGS": f"{SANITIZERS[0]} -fno-sanitize-recover=undefined {WARNINGS}", "LDFLAGS": SANITIZERS[0]}
+    if place.name == "packed":
+        succeed(PYTHON, "-c", NO_WHEEL, place, cwd=package, settings=settings)
+        package, = place.glob("toarmuts-*.whl")
+    succeed(place / "bin/pip", "install", package, cwd=place.parent, settings=settings)
 
 
 @pytest.fixture(scope="module")
 def environments(toarmuts_library: Path, shared: Path) -> Environments:
+    """The Python of an environment of this name, which is made once. The library for C is there."""
     assert toarmuts_library.exists()
-    (shared / "python").mkdir(exist_ok=True)
-    return Environments(shared / "python")
+    return lambda name: once(shared / "python" / name, make_environment) / "bin/python"
 
 
 def pass_all(ran: Completed) -> None:
@@ -99,7 +84,7 @@ def pytest_by(python: Path, *words: Word, cwd: Path = TESTS, settings: dict[str,
 @pytest.mark.parametrize("name", ["bare", "environment"])
 def test_backend(environments: Environments, name: str) -> None:
     """The library is loaded by cffi if there is one, otherwise by ctypes."""
-    told_of = succeed(environments.python(name), "-c", "from toarmuts.library import library; print(library().backend)").stdout
+    told_of = succeed(environments(name), "-c", "from toarmuts.library import library; print(library().backend)").stdout
     if name == "environment" and not has("cffi"):
         pytest.skip("no python3-cffi here: the library is taken by ctypes alone")
     assert told_of.decode().strip() == ("ctypes" if name == "bare" else "cffi")
@@ -109,24 +94,24 @@ def test_backend(environments: Environments, name: str) -> None:
 @pytest.mark.parametrize("name", ["bare", "environment", "packed"])
 def test_example(environments: Environments, c_examples: Path, tmp_path: Path, name: str) -> None:
     """The example by each of them is that in C."""
-    ran = succeed(environments.python(name), EXAMPLES / "python/blink.py", cwd=tmp_path)
+    ran = succeed(environments(name), EXAMPLES / "python/blink.py", cwd=tmp_path)
     assert ran.stdout == succeed(c_examples / "blink").stdout != b""
 
 
 @lacks("pytest", "hypothesis")
 @pytest.mark.parametrize("file", sorted(path.name for path in TESTS.glob("test_*.py")))
 def test_tests(environments: Environments, file: str) -> None:
-    pytest_by(environments.python("environment"), file)
+    pytest_by(environments("environment"), file)
 
 
 @lacks("pytest", "hypothesis")
 def test_docstrings(environments: Environments, tmp_path: Path) -> None:
-    pytest_by(environments.python("environment"), "--doctest-modules", "--pyargs", "toarmuts", "--ignore-glob=*/by_c*.py", cwd=tmp_path)
+    pytest_by(environments("environment"), "--doctest-modules", "--pyargs", "toarmuts", "--ignore-glob=*/by_c*.py", cwd=tmp_path)
 
 
 @lacks("pytest", "hypothesis")
 def test_page(environments: Environments, tmp_path: Path) -> None:
-    pytest_by(environments.python("environment"), "-p", "same_each_time", "--doctest-glob=*.md", ROOT / "docs/python.md", cwd=tmp_path,
+    pytest_by(environments("environment"), "-p", "same_each_time", "--doctest-glob=*.md", ROOT / "docs/python.md", cwd=tmp_path,
               settings={"PYTHONPATH": str(TESTS)})
 
 
@@ -136,15 +121,15 @@ def test_page(environments: Environments, tmp_path: Path) -> None:
 def test_sanitized(environments: Environments, file: str) -> None:
     """What is written in C, with all warnings and the sanitizers."""
     places = [succeed("gcc", f"-print-file-name={name}").stdout.decode().strip() for name in ("libasan.so", "libubsan.so")]
-    pytest_by(environments.python("sanitized"), file, settings={"LD_PRELOAD": ":".join(places), "ASAN_OPTIONS": "detect_leaks=0"})
+    pytest_by(environments("sanitized"), file, settings={"LD_PRELOAD": ":".join(places), "ASAN_OPTIONS": "detect_leaks=0"})
 
 
 @lacks("pytest", "hypothesis")
 @pytest.mark.parametrize("file", ["test_entries.py", "test_mote.py", "test_arguments.py", "test_network.py"])
 def test_by_ctypes(environments: Environments, tmp_path: Path, file: str) -> None:
     """What depends on the way to the library: once more by ctypes, with rows made in Python."""
-    python = environments.python("environment")
-    shared_library, = environments.python("bare").parent.parent.glob("lib/python3*/site-packages/toarmuts/_library*.so")
+    python = environments("environment")
+    shared_library, = environments("bare").parent.parent.glob("lib/python3*/site-packages/toarmuts/_library*.so")
     package, = python.parent.parent.glob("lib/python3*/site-packages/toarmuts")
     shutil.copytree(package, tmp_path / "toarmuts", ignore=shutil.ignore_patterns("_entries*.so"))
     pytest_by(python, file, settings={"PYTHONPATH": str(tmp_path), "TOARMUTS_LIBRARY": str(shared_library)})
