@@ -101,10 +101,8 @@ def test_cell(cell: str) -> None:
 
 @pytest.mark.parametrize("cell", OUT_OF_REACH)
 def test_cell_out_of_reach(cell: str) -> None:
-    """No stored transcript shows it, for the reason above."""
     assert cell in possible_cells() and cell not in shown()
 
 
 def test_no_other_cells() -> None:
-    """No transcript shows what the rules don't know."""
     assert {cell: run for cell, run in shown().items() if cell not in set(possible_cells())} == {}

@@ -95,7 +95,6 @@ def test_application_of_mote(contiki: Contiki, reference: Path, tmp_path: Path, 
 
 @pytest.mark.parametrize("first", range(0, RUNS_OF_LISTS, PART))
 def test_lists_of_calls(contiki: Contiki, reference: Path, tmp_path: Path, first: int) -> None:
-    """Random lists of calls have the same transcripts as by toarmuts_run."""
     built = contiki.build(SOURCES / "lists.c", "gcc", "--sanitize")
     for seed in range(first, first + PART):
         chance = random.Random(seed)

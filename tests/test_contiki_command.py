@@ -105,7 +105,6 @@ def test_help(contiki: Contiki, blinker: Path) -> None:
     ("int main(void) { return 0; }\n", "a source has a main: leave it out, since AUTOSTART_PROCESSES says what is started"),
 ], ids=["two", "main"])
 def test_two_programs(contiki: Contiki, sanitizing_compiler: str, tmp_path: Path, other: str, why: str) -> None:
-    """Sources of two programs, and one that has a main."""
     ran = contiki("--cc", sanitizing_compiler, BLINKER, write_source(tmp_path, other))
     assert (ran.returncode, messages(ran.stderr)) == (65, [why, NO_PROGRAM]), told(ran)
 

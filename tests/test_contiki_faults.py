@@ -110,7 +110,6 @@ def start_spinning(tmp_path: Path, *words: object) -> subprocess.Popen[bytes]:
 @pytest.mark.parametrize(("number", "how"), [(signal.SIGINT, "interrupted (SIGINT)"), (signal.SIGTERM, "ended (SIGTERM)"),
                                              (signal.SIGHUP, "ended (SIGHUP)")], ids=["INT", "TERM", "HUP"])
 def test_signal(contiki: Contiki, tmp_path: Path, words: list[str], number: signal.Signals, how: str) -> None:
-    """A program that is interrupted says where, with its transcript so far."""
     ran = start_spinning(tmp_path, contiki.build(SPINS, "gcc", *words))
     ran.send_signal(number)
     out, told_of = ran.communicate(timeout=60)

@@ -147,7 +147,6 @@ def test_frames_that_are_sent(runner: Runner) -> None:
 
 
 def test_numbers_of_frames(runner: Runner) -> None:
-    """The number of a frame goes from 1 to 255, and then is 1 again."""
     ran = runner("mote 1 node.c\n", [OWN / "node.c"], "1 serial 6e0a\n" * 257, "--quiet")
     assert [int(number, 16) for number in re.findall(r"note sent 41d8(..)", ran.stdout.decode())] == [*range(1, 256), 1, 2]
 
@@ -237,7 +236,6 @@ def test_parts_of_the_transcript(contiki: Contiki) -> None:
 
 
 def test_text_of_begun_lines(runner: Runner, tmp_path: Path) -> None:
-    """With --text a line that a mote has begun ends where another mote prints."""
     source = tmp_path / "begun.c"
     source.write_text(program_of('while(1) { PROCESS_WAIT_EVENT(); printf("%s", (char *)data); }'), encoding="utf-8")
     script = "1 serial 610a\n1 serial 620a\n2 serial 630a\n1 serial 640a\n"

@@ -114,7 +114,6 @@ def test_failing_transfers(faults: Faults, name: str, script: Path, words: list[
 
 @of_each_run
 def test_cut_transfers(faults: Faults, name: str, script: Path, words: list[str]) -> None:
-    """Where each read or write moves a single byte, nothing changes."""
     whole = faults(script, "REFUSE", 0, program(name), *words)
     for number in range(1, whole.wide + 1):
         assert faults(script, "CUT", number, program(name), *words).told == whole.told, f"cut {number}"

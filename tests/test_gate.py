@@ -95,7 +95,6 @@ def test_order(gate: Gate) -> None:
 
 
 def test_help(gate: Gate) -> None:
-    """The help has all names, and begins nothing."""
     names = re.findall(r"^  (\w+)  +(\S.*)$", "\n".join(gate("--help")[1]).partition("Names:\n")[2], re.M)
     assert names == [("proofs", "Every proof from nothing, the must-fail edits, tests and programs, by `rt ci`."),
                      ("first", "The first tests."), ("first_more", "More of the first."), ("second", "The second test.")]

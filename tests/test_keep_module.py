@@ -81,7 +81,6 @@ def test_module_is_kept_once(repository: Path) -> None:
 
 
 def test_module_is_kept_once_by_several(repository: Path) -> None:
-    """One builds, the others wait for it."""
     with ThreadPoolExecutor(3) as pool:
         kept_by = [pool.submit(keep_module, repository, "low") for _ in range(3)]
         assert len({it.result() for it in kept_by}) == runs(repository) == 1

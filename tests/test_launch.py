@@ -66,7 +66,6 @@ def test_no_answer(tree: Tree, says: str, status: str, told: list[str]) -> None:
     ("<&-", 5, "mote: read failed\n"), ("</", 5, "mote: read failed\n"), ("</dev/null >/dev/full", 6, "mote: write failed\n"),
 ], ids=["closed", "folder", "full"])
 def test_stream_that_fails(tree: Tree, redirection: str, status: int, told: str) -> None:
-    """A stream that fails has the program's own status."""
     tree.shell(f"./mote {redirection}")
     assert tree.ran.returncode == status and tree.stderr.endswith(told)
 
@@ -132,7 +131,6 @@ def test_signal(tree: Tree, number: signal.Signals, is_silent: bool) -> None:
 
 @pytest.mark.parametrize("script", ["mote", "scenario", "prove"])
 def test_no_rt(tree: Tree, script: str) -> None:
-    """Where there is no rt, that is reported in one line."""
     tree.run(script, PATH=WITHOUT_RT)
     assert (tree.ran.returncode, tree.stderr.count("\n")) == (127, 1)
 

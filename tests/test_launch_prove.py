@@ -212,7 +212,6 @@ def is_current(tree: Tree, *names: str) -> bool:
 
 
 def test_other_programs(tree: Tree) -> None:
-    """A program is proved by its name alone, or together with mote."""
     assert tree.run("prove", "scenario").returncode == 0 and tree.begun() == ["low", "scenario"] and tree.is_clean()
     tree.run("scenario", "--write", "a.runs")
     assert tree.is_proved("--write", "a.runs")
@@ -237,7 +236,6 @@ def test_no_such_pause(tree: Tree, pause: str) -> None:
 
 
 def test_libraries(tree: Tree) -> None:
-    """Libraries for C: proved and built by their names, current or not."""
     assert tree.run("prove", "toarmuts", LATE="toarmuts").returncode == 1
     assert tree.run("prove", "toarmuts", "modules-c").returncode == 0 and tree.is_clean()
     for name in ("toarmuts", "modules_c"):

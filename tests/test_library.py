@@ -57,7 +57,6 @@ def test_program(sanitized: Callable[[Program], Path], program: Program) -> None
 @with_sanitizers
 @pytest.mark.parametrize("program", [STEPS, NETWORK], ids=[STEPS.name, NETWORK.name])
 def test_forgotten_close_is_found(sanitized: Callable[[Program], Path], program: Program) -> None:
-    """The sanitizers see a mote or a network that is left open."""
     ran = run(sanitized(program), "forget")
     assert ran.returncode != 0 and b"leaked in" in ran.stderr, told(ran)
 
@@ -96,7 +95,6 @@ def test_examples(c_examples: Path) -> None:
 @needs("aarch64-linux-gnu-gcc", "qemu-aarch64")
 @of_each_program
 def test_program_for_aarch64(toarmuts_library: Path, tmp_path: Path, program: Program) -> None:
-    """The same as the library is built for aarch64, by an emulator."""
     archive = library_for_aarch64("toarmuts")
     built = compile_over(toarmuts_library, archive, program, tmp_path / program.name, "aarch64-linux-gnu-gcc", "-static", "-O1")
     all_hold(run("qemu-aarch64", built, *program.words_for_aarch64, timeout=3600))

@@ -64,7 +64,6 @@ def test_module(checked: Path, tmp_path: Path, name: str) -> None:
 @needs("aarch64-linux-gnu-gcc", "qemu-aarch64")
 @pytest.mark.parametrize("name", TESTS)
 def test_module_for_aarch64(modules_library: Path, shared: Path, tmp_path: Path, name: str) -> None:
-    """The same as the library is built for aarch64, by an emulator."""
     archive = library_for_aarch64("modules_c").parent
     modules = build_modules(shared / "modules-aarch64", archive, "aarch64-linux-gnu-gcc", "-O1")
     built = compile_test(name, modules, tmp_path / name, "aarch64-linux-gnu-gcc", "-static", "-O1", "-DRANDOM_CALLS=20000")

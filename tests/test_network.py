@@ -214,7 +214,6 @@ def test_room_that_memory_lacks(network: Path) -> None:
 @pytest.mark.parametrize("words", [("--only", "0"), ("--only",), ("--only", "x"), ("--only", "1", "--only", "2"), ("--loud",), ("file",)],
                          ids=" ".join)
 def test_invalid_arguments(network: Path, words: tuple[str, ...]) -> None:
-    """The parser's text, and nothing is executed."""
     ran = run(network, *words, stdin=TWO.encode())
     assert (ran.returncode, ran.stdout) == (64, b"") and ran.stderr.startswith(b"error: ")
 

@@ -64,7 +64,6 @@ def test_states(ask: Ask, part: int) -> None:
 
 
 def test_hands(ask: Ask) -> None:
-    """Steps, filters, the overview."""
     told = ask(page_of(["one", "two"], HANDS_RUN), f"{HANDS} return [{', '.join(expression for expression, _ in STEPS)}];")
     for (expression, wanted), value in zip(STEPS, told):
         assert value == wanted, expression
@@ -88,14 +87,12 @@ def test_markup(ask: Ask) -> None:
 
 
 def test_quiet_run(ask: Ask) -> None:
-    """A quiet run has no clock and no memory."""
     told = ask(page_of([], "4 synch 129 - -> print 61\n"),
                "return [byId('faults').textContent, byId('tally').textContent, byId('panel').innerText];")
     assert "quiet" in told[0] and "clock" not in told[1] + told[2] and "memory" not in told[2]
 
 
 def test_other_sizes(ask: Ask) -> None:
-    """Where memory isn't the run's, that is reported."""
     told = ask(page_of(["--mmem", "8"], HANDS_RUN), "return byId('faults').textContent;")
     assert "line 3" in told and "managed memory" in told
 

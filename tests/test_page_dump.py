@@ -120,7 +120,6 @@ SPOILT = {
 
 
 def test_reader() -> None:
-    """A signal has the value of the last change up to a time."""
     dump = read_dump(GOOD)
     assert (dump.second, dump.times) == (100_000, [0, 5, 7])
     assert [dump.signals["a"].at(time) for time in (0, 4, 5, 6, 7, 99)] == ["2", "2", "0", "0", "3", "3"]

@@ -68,7 +68,6 @@ def test_reading_order_goes_upward() -> None:
 
 @pytest.mark.parametrize("part", [0, 1], ids=["text", "laws"])
 def test_sums_of_definitions(part: int) -> None:
-    """The page has the number of lines of definitions."""
     lines = {file: count for file, count in lines_by_file(reached()[part]).items() if is_definitions(file)}
     assert f"{sum(lines.values()):,} lines in {len(lines)} files" in " ".join(ORDER.split())
 

@@ -42,20 +42,17 @@ def judge(case: Path, ran: Completed) -> None:
 
 @of_each_case
 def test_case(mote: Path, case: Path) -> None:
-    """A stored run, its script from a file."""
     judge(case, run(mote, *words_of(case), stdin=case / "stdin" if (case / "stdin").exists() else Path("/dev/null")))
 
 
 @of_each_case
 def test_case_through_a_pipe(mote: Path, case: Path) -> None:
-    """A stored run, its script through a pipe in small pieces."""
     ran = run("bash", "-c", 'dd bs=3 status=none | "$@"', "bash", mote, *words_of(case), stdin=file_of(case, "stdin"))
     judge(case, ran)
 
 
 @pytest.mark.parametrize("script", SCRIPTS, ids=[script.name for script in SCRIPTS])
 def test_sample(mote: Path, script: Path) -> None:
-    """A sample script, with the application that it is named after."""
     ran = run(mote, script.stem, stdin=script)
     assert (ran.returncode, ran.stdout, ran.stderr) == (0, script.with_suffix(".transcript").read_bytes(), b"")
 
@@ -135,7 +132,6 @@ def test_status(template: Path, status: int, wanted: str, words: list[str | byte
     (6, "template_app: write failed\n", "beat", f"<{STDIN} >/dev/full"),
 ])
 def test_status_with_a_stream(template: Path, status: int, wanted: str, word: str, redirection: str) -> None:
-    """The same where a stream is closed or full."""
     ran = with_stream(redirection, template, word)
     assert (ran.returncode, ran.stderr.decode()) == (status, wanted)
 

@@ -93,7 +93,6 @@ def test_backend(environments: Environments, name: str) -> None:
 @needs("make")
 @pytest.mark.parametrize("name", ["bare", "environment", "packed"])
 def test_example(environments: Environments, c_examples: Path, tmp_path: Path, name: str) -> None:
-    """The example by each of them is that in C."""
     ran = succeed(environments(name), EXAMPLES / "python/blink.py", cwd=tmp_path)
     assert ran.stdout == succeed(c_examples / "blink").stdout != b""
 

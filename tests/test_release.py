@@ -100,7 +100,6 @@ def test_unproved_program_is_refused(proofs: None, tmp_path: Path) -> None:
 
 
 def test_same_bytes(releases: Path) -> None:
-    """Two releases are the same bytes, and their sums hold."""
     succeed("diff", "-r", releases / "first", releases / "second")
     succeed("sha256sum", "--check", "--quiet", "SHA256SUMS", cwd=releases / "first")
 
@@ -110,7 +109,6 @@ def test_sums(there: Path) -> None:
 
 
 def test_version(there: Path) -> None:
-    """All files have one version, and the change log has it."""
     assert list((there / "share/toarmuts/python").glob(f"toarmuts-{VERSION}-*.whl")) and (there / f"lib/libtoarmuts.so.{VERSION}").exists()
     succeed(ROOT / "scripts/version", "--check")
     assert f"\n## {VERSION}\n" in (ROOT / "CHANGELOG.md").read_text(encoding="utf-8")
@@ -235,7 +233,6 @@ _toarmuts "$1" "${{@: -1}}" "${{@: -2:1}}"; echo "${{COMPREPLY[*]}}"
 @pytest.mark.parametrize(("words", "wanted"), [("mote --m", "--mmem"), ("mote --quiet r", "relay"),
                                                ("contiki --he", "--header --heap --help")])
 def test_completion(archive: System, words: str, wanted: str) -> None:
-    """What stands for the last word of a command."""
     file = f"{archive.prefix}/share/bash-completion/completions/{words.split()[0]}"
     ran = archive.run("bash", "-c", COMPLETED.format(completion=COMPLETION), "bash", file, *words.split())
     assert ran.stdout.decode() == wanted + "\n", told(ran)

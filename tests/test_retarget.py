@@ -95,7 +95,6 @@ def test_rewritten(target: str, before: str, after: str) -> None:
 
 
 def test_head_names_the_target() -> None:
-    """Triple and data layout are the target's, and attributes for x86-64 go."""
     attributes = 'attributes #0 = { nounwind "probe-stack"="inline-asm" "target-cpu"="x86-64-v2" }'
     lines = retargeted(module_of("", attributes), CORTEX_M3).splitlines()
     assert lines[:2] == ['target datalayout = "e-m:e-p:32:32-Fi8-i64:64-v128:64:128-a:0:32-n32-S64"',

@@ -134,7 +134,6 @@ def test_mistaken_sizes(mote_page: Opened, sizes: dict[str, Any], field: str, wo
 
 
 def test_run_up_to_a_mistake(mote_page: Opened) -> None:  # noqa: F811
-    """Where a line of the script is malformed, the run up to there is shown."""
     set_fields(mote_page, "blink\n", "tick 10\ntock\n")
     told = mote_page.ask("return transcript();").splitlines()
     assert told[-1] == "bad line 2" and "> tick 10" in told
@@ -219,7 +218,6 @@ def test_network_buttons(mote_page: Opened) -> None:  # noqa: F811
 
 
 def test_sizes(mote_page: Opened) -> None:  # noqa: F811
-    """Sizes, the quota, the header and the quiet transcript reach the mote."""
     told = mote_page.ask(script("sizes"))
     assert "answer num 4096" in told[0] and "answer stats 20 16 4060 36 1" in told[0]
     assert "answer num 16" in told[1] and "answer stats 20 8 100 28 1" in told[1]
@@ -390,7 +388,6 @@ def test_picture(mote_page: Opened, tmp_path: Path) -> None:  # noqa: F811
 
 
 def test_explorer(mote_page: Opened) -> None:  # noqa: F811
-    """The explorer's own script runs in its frame, and shows the run."""
     set_fields(mote_page, "blink\n", "tick 10\n")
     mote_page.ask("await click('tab-explorer');")
     assert mote_page.page.ask_frame("document.querySelectorAll('.row').length", 6) == 6

@@ -117,14 +117,12 @@ def test_networks(mote_page: Opened, part: int) -> None:  # noqa: F811
 
 
 def test_worked_networks(mote_page: Opened) -> None:  # noqa: F811
-    """Networks whose transcripts were written out from the rules."""
     given: list[dict[str, Any]] = [{"words": how(it)[1], "input": it.read_text(encoding="utf-8"), "file": None} for it in WORKED]
     wanted = [[how(it)[0], hashlib.sha256(it.with_suffix(".transcript").read_bytes()).hexdigest(), ""] for it in WORKED]
     assert differing(mote_page.ask(with_cases(PROGRAM_RUNS, given, "network")), wanted, WORKED) == []
 
 
 def test_examples_of_the_repository(mote_page: Opened) -> None:  # noqa: F811
-    """The samples' transcripts, by the page's library."""
     folder = ROOT / "examples"
     names = sorted(it.stem for it in folder.glob("*.script"))
     cases = [{"configuration": {"mmem": 4096, "heap": 4096, "header": 16, "quota": None, "quiet": False}, "applications": name,
