@@ -11,8 +11,6 @@ from tools import ROOT, needs, run, succeed, told
 # Each kind of script has one first line. A script that takes Debian's packages for Python names Debian's.
 SHEBANGS = {"#!/usr/bin/env python3": "python", "#!/usr/bin/python3": "python", "#!/bin/bash": "shell", "#!/bin/sh": "shell",
             "#!/usr/bin/env bash": "shell"}
-# bash that is sourced, and files that are no source of ours.
-SOURCED = ("packaging/completion",)
 
 
 @functools.lru_cache(maxsize=None)
