@@ -4,7 +4,7 @@ import base64
 import ctypes
 import random
 import subprocess
-from dataclasses import asdict, dataclass
+from dataclasses import dataclass
 from pathlib import Path
 from typing import Any
 
@@ -38,19 +38,17 @@ class Case:
                 "script": base64.b64encode(self.script).decode()}
 
 
-@dataclass
-class Answer:
-    status: int
-    line: int
-    length: int
-    reason: int
-    application: int
-    call: int
-    transcript: bytes
+class Answer(ctypes.Structure):
+    """The library's outcome of a run, as toarmuts.h has it, and the transcript."""
+
+    _fields_ = [("status", ctypes.c_uint32), ("line", ctypes.c_uint64), ("length", ctypes.c_uint64), ("reason", ctypes.c_uint32),
+                ("application", ctypes.c_uint32), ("call", ctypes.c_uint64)]
+    transcript = b""
 
     def for_page(self) -> dict[str, Any]:
         """The outcome in the form of the page's script."""
-        return {**asdict(self), "transcript": base64.b64encode(self.transcript).decode()}
+        numbers = {field[0]: getattr(self, field[0]) for field in self._fields_}
+        return {**numbers, "transcript": base64.b64encode(self.transcript).decode()}
 
 
 class Maker:
@@ -127,11 +125,6 @@ class Maker:
         return "".join(f"{line}\n" for line in [*applications, "mmem 256", *inputs])
 
 
-class _Answer(ctypes.Structure):
-    _fields_ = [("status", ctypes.c_uint32), ("line", ctypes.c_uint64), ("length", ctypes.c_uint64), ("reason", ctypes.c_uint32),
-                ("application", ctypes.c_uint32), ("call", ctypes.c_uint64)]
-
-
 class NativeLibrary:
     @staticmethod
     def link(folder: Path, to: Path) -> None:
@@ -148,12 +141,13 @@ class NativeLibrary:
         given = case.configuration
         quota = given["quota"]
         numbers = (ctypes.c_uint32 * 6)(given["mmem"], given["heap"], given["header"], quota is not None, quota or 0, given["quiet"])
-        applications, told, room = "\n".join(case.applications).encode(), _Answer(), 1 << 22
+        applications, told, room = "\n".join(case.applications).encode(), Answer(), 1 << 22
         transcript = ctypes.create_string_buffer(room)
         self._run(numbers, applications, len(applications), case.script, len(case.script), transcript, room, ctypes.byref(told))
         assert told.status != NO_ROOM
-        text = ctypes.string_at(transcript, told.length) if told.status <= LAST_OF_A_RUN else b""
-        return Answer(told.status, told.line, told.length, told.reason, told.application, told.call, text)
+        if told.status <= LAST_OF_A_RUN:
+            told.transcript = ctypes.string_at(transcript, told.length)
+        return told
 
 
 def native(name: str, words: list[str], given: bytes, folder: Path | None = None) -> "subprocess.CompletedProcess[bytes]":
