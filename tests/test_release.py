@@ -177,7 +177,7 @@ USES: dict[str, list[tuple[str, str]]] = {
         (f"gcc {FLAGS} $examples/c/blink.c $(pkg-config --cflags toarmuts) $(pkg-config --variable=libdir toarmuts)/libtoarmuts.a -o whole"
          " && ./whole", BLINK),
         (f"gcc {FLAGS} $examples/c/readings.c $({PKG_CONFIG} toarmuts-modules) -o readings && ./readings", "21 degrees\n"),
-        ("cd $examples/contiki && contiki hello-world.c <hello-world.script | cmp - hello-world.transcript", ""),
+        ("hello=$examples/contiki/hello-world; contiki $hello.c <$hello.script | cmp - $hello.transcript", ""),
     ],
     "python": [
         ("/usr/bin/python3 -m venv environment", ""),
