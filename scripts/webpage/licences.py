@@ -3,7 +3,7 @@ from __future__ import annotations
 
 import html
 import re
-from collections.abc import Iterator
+from collections.abc import Iterator, Sequence
 from pathlib import Path
 
 from retarget.compiler import kit_folder
@@ -14,10 +14,11 @@ PRODUCTS = ("toarmuts", "mote_picture", "scenario", "network")
 COPYRIGHT = Path("/usr/share/doc")
 
 
-def libraries_below() -> Iterator[str]:
+def libraries_below(products: Sequence[str]) -> Iterator[str]:
+    """The kit's libraries that these products are made of."""
     lines = (line.partition("#")[0].partition(":") for line in (ROOT / "crates.txt").read_text(encoding="utf-8").splitlines())
     below = {name.split()[0]: uses.split() for name, _, uses in lines if name.strip()}
-    waiting, known = list(PRODUCTS), set()
+    waiting, known = list(products), set()
     while waiting:
         name = waiting.pop()
         if name in known:
@@ -34,7 +35,7 @@ def libraries_below() -> Iterator[str]:
 def kit_notices() -> dict[str, list[str]]:
     """The texts of licences of the kit's libraries, each with the libraries that have it."""
     found: dict[str, list[str]] = {}
-    for name in sorted(libraries_below()):
+    for name in sorted(libraries_below(PRODUCTS)):
         for notice in sorted((kit_folder() / "rattle" / name).glob("LICENSE*")):
             found.setdefault(notice.read_text(encoding="utf-8").strip(), []).append(name)
     return found
