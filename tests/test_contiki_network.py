@@ -285,13 +285,14 @@ def test_malformed_input(runner: Runner, line: str) -> None:
     (["--network", "{net}", "--only", "0", HELLO], 64, "--only needs the number of a mote"),
     (["--only", "1", HELLO], 64, "--only shows one mote of a network: --network is missing"),
     (["--network", "{net}", "--mmem", "64", HELLO], 64, "the sizes of a network's motes are in its file: leave out --mmem"),
-    (["--network", "{net}", "--test", HELLO], 64, "--build, --picture and --test are for one mote: leave out --network"),
-    (["--network", "{net}", "--build", "x", HELLO], 64, "--build, --picture and --test are for one mote: leave out --network"),
+    (["--network", "{net}", "--test", HELLO], 64, "--build and --test are for one mote: leave out --network"),
+    (["--network", "{net}", "--build", "x", HELLO], 64, "--build and --test are for one mote: leave out --network"),
+    (["--network", "{net}", "--picture", HELLO], 64, "--picture is for one mote: pipe the transcript to network-picture {net}"),
     (["--network", "{net}"], 64, "no source is given; see --help"),
 ], ids=lambda word: " ".join(map(str, word)) if isinstance(word, list) else "")
 def test_refused_arguments(contiki: Contiki, tmp_path: Path, words: list[Word], status: int, why: str) -> None:
     net = write_network(tmp_path, TWO_MOTES)
-    assert outcome(contiki(*(net if word == "{net}" else word for word in words))) == (status, "", f"contiki: {why}\n")
+    assert outcome(contiki(*(net if word == "{net}" else word for word in words))) == (status, "", f"contiki: {why.replace('{net}', str(net))}\n")
 
 
 def test_names_of_sources(runner: Runner, tmp_path: Path) -> None:
