@@ -292,7 +292,8 @@ def test_malformed_input(runner: Runner, line: str) -> None:
 ], ids=lambda word: " ".join(map(str, word)) if isinstance(word, list) else "")
 def test_refused_arguments(contiki: Contiki, tmp_path: Path, words: list[Word], status: int, why: str) -> None:
     net = write_network(tmp_path, TWO_MOTES)
-    assert outcome(contiki(*(net if word == "{net}" else word for word in words))) == (status, "", f"contiki: {why.replace('{net}', str(net))}\n")
+    told_why = why.replace("{net}", str(net))
+    assert outcome(contiki(*(net if word == "{net}" else word for word in words))) == (status, "", f"contiki: {told_why}\n")
 
 
 def test_names_of_sources(runner: Runner, tmp_path: Path) -> None:
