@@ -249,53 +249,40 @@ def test_libraries(tree: Tree) -> None:
     assert not is_current(tree, "toarmuts") and is_current(tree, "modules_c")
 
 
-class ForAarch64:
-    """A tree whose library is proved and built, and the script that builds it for aarch64."""
-
-    def __init__(self, tree: Tree) -> None:
-        self.tree = tree
-        assert tree.run("prove", "toarmuts").returncode == 0, tree.stderr
-        self.library = tree.crate("toarmuts") / "out/libtoarmuts.a"
-        self.archive = tree.crate("toarmuts") / "out/aarch64/libtoarmuts.a"
-        self.before = self.library.read_bytes()
-        tree.began.unlink()
-
-    def __call__(self, **settings: str) -> tuple[int, list[str]]:
-        """Its status, and what was begun; the library for this processor is back in the end."""
-        status = self.tree.run("scripts/for-aarch64", "toarmuts", stdin=b"", cwd=None, **settings).returncode
-        assert self.library.read_bytes() == self.before and not list(self.library.parent.glob("*.here"))
-        begun = self.tree.begun()
-        self.tree.began.unlink(missing_ok=True)
-        return status, begun
+def for_aarch64(tree: Tree, **settings: str) -> tuple[int, list[str]]:
+    """The status of scripts/for-aarch64, and what was begun; the library for this processor is back in the end."""
+    library = tree.crate("toarmuts") / "out/libtoarmuts.a"
+    before = library.read_bytes()
+    tree.began.unlink(missing_ok=True)
+    status = tree.run("scripts/for-aarch64", "toarmuts", **settings).returncode
+    assert library.read_bytes() == before and not list(library.parent.glob("*.here"))
+    return status, tree.begun()
 
 
-@pytest.fixture
-def for_aarch64(tree: Tree) -> ForAarch64:
-    return ForAarch64(tree)
-
-
-def test_for_aarch64(for_aarch64: ForAarch64) -> None:
+def test_for_aarch64(tree: Tree) -> None:
     """The library is built for aarch64 once for each that is proved, and by each kit."""
-    tree = for_aarch64.tree
-    assert for_aarch64() == (0, ["toarmuts"]), tree.stderr
-    assert for_aarch64.archive.read_bytes() == for_aarch64.before
-    assert for_aarch64() == (0, [])
+    out = tree.crate("toarmuts") / "out"
+    assert tree.run("prove", "toarmuts").returncode == 0, tree.stderr
+    assert for_aarch64(tree) == (0, ["toarmuts"]), tree.stderr
+    assert (out / "aarch64/libtoarmuts.a").read_bytes() == (out / "libtoarmuts.a").read_bytes()
+    assert for_aarch64(tree) == (0, [])
     tree.shell("echo more >>crates/toarmuts/out/aarch64/libtoarmuts.a")
-    assert for_aarch64() == (0, ["toarmuts"])
+    assert for_aarch64(tree) == (0, ["toarmuts"])
     tree.shell("sed -i '3s/.*/another kit/' crates/toarmuts/out/aarch64/proved")
-    assert for_aarch64() == (0, ["toarmuts"])
+    assert for_aarch64(tree) == (0, ["toarmuts"])
 
 
-def test_for_aarch64_fails(for_aarch64: ForAarch64) -> None:
+def test_for_aarch64_fails(tree: Tree) -> None:
     """What fails leaves the library for this processor, and none for the other."""
-    tree = for_aarch64.tree
-    assert for_aarch64(FAILS="toarmuts") == (1, ["toarmuts"])
-    assert "for-aarch64: toarmuts isn't proved and built for aarch64" in tree.stderr and not for_aarch64.archive.exists()
+    assert tree.run("prove", "toarmuts").returncode == 0, tree.stderr
+    assert for_aarch64(tree, FAILS="toarmuts") == (1, ["toarmuts"])
+    assert "for-aarch64: toarmuts isn't proved and built for aarch64" in tree.stderr
+    assert not (tree.crate("toarmuts") / "out/aarch64/libtoarmuts.a").exists()
     write_program(tree.bin / "cp", '#!/bin/bash\necho part >"${!#}"\nexit 1\n')
-    assert for_aarch64() == (1, [])
+    assert for_aarch64(tree) == (1, [])
     (tree.bin / "cp").unlink()
     tree.edit("low")
-    assert for_aarch64() == (1, [])
+    assert for_aarch64(tree) == (1, [])
     assert "for-aarch64: toarmuts isn't proved, or older than its sources: ./prove toarmuts" in tree.stderr
 
 
