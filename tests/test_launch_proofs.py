@@ -25,7 +25,7 @@ def built(tree: Tree) -> list[str]:
 
 
 def prove_all(tree: Tree, **settings: str) -> list[str]:
-    tree.run("tests/proofs", **settings)
+    tree.run("tests/proofs", stdin=b"", cwd=None, **settings)
     return tree.stdout.splitlines()
 
 

@@ -254,7 +254,7 @@ def for_aarch64(tree: Tree, **settings: str) -> tuple[int, list[str]]:
     library = tree.crate("toarmuts") / "out/libtoarmuts.a"
     before = library.read_bytes()
     tree.began.unlink(missing_ok=True)
-    status = tree.run("scripts/for-aarch64", "toarmuts", **settings).returncode
+    status = tree.run("scripts/for-aarch64", "toarmuts", stdin=b"", cwd=None, **settings).returncode
     assert library.read_bytes() == before and not list(library.parent.glob("*.here"))
     return status, tree.begun()
 
