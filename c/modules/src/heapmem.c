@@ -54,15 +54,16 @@ size_at(size_t place)
   if(place >= toarmuts_heap_memory.size) {
     return 0;
   }
+  uint32_t wanted = (uint32_t)place;
   while(low < high) {
     size_t middle = low + (high - low) / 2;
-    if(rows[middle].place < place) {
+    if(rows[middle].place < wanted) {
       low = middle + 1;
     } else {
       high = middle;
     }
   }
-  return low < used && rows[low].place == place ? rows[low].size : 0;
+  return low < used && rows[low].place == wanted ? rows[low].size : 0;
 }
 
 /* A block of a zone has another size now. */
@@ -74,12 +75,10 @@ note_taken(heapmem_zone_t zone, size_t before, size_t now)
   }
 }
 
-/* After a call that made or resized a block: the rows are in the order of their places, so the last one has the footprint. */
+/* After a call that made or resized a block, which ends there. One that has a rest of a gap beside its size isn't the last one. */
 static void
-note_footprint(void)
+note_footprint(size_t end)
 {
-  const struct toarmuts_heap_row *last = &toarmuts_heap_memory.rows[used - 1];
-  size_t end = (size_t)last->place + last->room;
   if(end > max_footprint) {
     max_footprint = end;
   }
@@ -90,7 +89,10 @@ static void
 mark_gaps(void (*mark)(const void *place, size_t size))
 {
   size_t end = 0;
-  for(size_t i = 0; i < used && is_guarded(); i++) {
+  if(!is_guarded()) {
+    return;
+  }
+  for(size_t i = 0; i < used; i++) {
     const struct toarmuts_heap_row *row = &toarmuts_heap_memory.rows[i];
     if(row->place < end || row->place > toarmuts_heap_memory.size || row->size > toarmuts_heap_memory.size - row->place) {
       /* Somebody wrote to the rows, and the calls refuse them. */
@@ -151,7 +153,7 @@ heapmem_zone_alloc(heapmem_zone_t zone, size_t size)
   open_block(place, size, wanted);
   *zone_at(place) = zone;
   note_taken(zone, 0, wanted);
-  note_footprint();
+  note_footprint((size_t)place + wanted);
   return toarmuts_heap_memory.bytes + (size_t)place;
 }
 
@@ -208,7 +210,7 @@ heapmem_realloc(void *ptr, size_t size)
   }
   *zone_at(place) = zone;
   note_taken(zone, old, wanted);
-  note_footprint();
+  note_footprint((size_t)place + wanted);
   memset(toarmuts_heap_memory.bytes + (size_t)place + size, 0, wanted - size);
   mark_gaps(guard_bytes);
   open_block(place, size, wanted);
