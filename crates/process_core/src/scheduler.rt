@@ -16,7 +16,7 @@ ghost use Rattle.process_core.specs.declared.next_job.NextJob.{NextJob as Answer
 use crate::front::Front;
 use crate::giving::plain_event;
 use crate::next_job::NextJob;
-use crate::open_work::Base;
+use crate::open_work::{Base, Continuation};
 use crate::process_list::ProcessList;
 use crate::process_numbers::ProcessNumbers;
 use crate::scheduler_fields::SchedulerFields;
@@ -54,6 +54,15 @@ impl Model for Scheduler {
     ghost invariant = { λ s. IsInOrder s.fields };
 }
 
+/// A stack with no continuation.
+// Out of line, so that the copies in which LLVM makes it are not kept on the stack in as many pieces beside the scheduler's own.
+#[inline(never)]
+fn no_continuations() -> ArrayVec<Continuation, 34>
+    ensures { result.items ≡ [] }
+{
+    ArrayVec::new()
+}
+
 impl Scheduler {
     /// The scheduler of a mote with `applications` applications, 0 to 16, none of which is started yet.
     ///
@@ -77,7 +86,7 @@ impl Scheduler {
             front: Front::Nothing,
             reply: Reply::Done,
             synch: plain_event(0),
-            stack: ArrayVec::new(),
+            stack: no_continuations(),
             polls: Walk::none(),
             base: Base::Boot,
             walk: Walk::over(starts),
