@@ -30,20 +30,20 @@ module _ (test : ℕ → ℕ → Bool) (old new : Armings) where
 
 -- a kernel whose callback timers got new numbers has cancelled their expiries
 module _ (k : KernelFields) (new : NumberedTimers) (timers : Timers) (fit : HasQueueableEvents k) (changed : new.timers ≡ timers) where
-  cancelled_machine : (test : ℕ → ℕ → Bool) → AreRenewed test k.timers.armings new.armings
-      → machine_of (record k { timers = new }) ≡ expiries_cancelled test (with_timers timers (machine_of k))
+  cancelled_machine : (test : ℕ → ℕ → Bool) → AreRenewed test k.timers.value.armings new.armings
+      → machine_of (record k { timers = record k.timers { value = new } }) ≡ expiries_cancelled test (with_timers timers (machine_of k))
   cancelled_machine test renewed =
-      rw (cancelled test k.timers.armings new.armings k.scheduler.state.events renewed fit, changed) refl
+      rw (cancelled test k.timers.value.armings new.armings k.scheduler.state.events renewed fit, changed) refl
 
   module _ (p : ℕ) where
     -- one callback timer got a new number
-    pub renewed_one : (c : ℕ) → ((arming : ℕ) → arming < k.timers.armings.drawn → is_present_arming p c arming new.armings ≡ false)
-        → ((q d : ℕ) → 4 ≤ q → d < 4 → (q ≡ p → d ≡ c → ⊥) → present_arming q d new.armings ≡ present_arming q d k.timers.armings)
-        → machine_of (record k { timers = new }) ≡ expiries_cancelled (is_callback_timer p c) (with_timers timers (machine_of k))
+    pub renewed_one : (c : ℕ) → ((arming : ℕ) → arming < k.timers.value.armings.drawn → is_present_arming p c arming new.armings ≡ false)
+        → ((q d : ℕ) → 4 ≤ q → d < 4 → (q ≡ p → d ≡ c → ⊥) → present_arming q d new.armings ≡ present_arming q d k.timers.value.armings)
+        → machine_of (record k { timers = record k.timers { value = new } }) ≡ expiries_cancelled (is_callback_timer p c) (with_timers timers (machine_of k))
     renewed_one c gone others = cancelled_machine (is_callback_timer p c) (grind (decide, gone, others, same_timer))
 
     -- each callback timer of p got one
-    pub renewed_all : ((c arming : ℕ) → c < 4 → arming < k.timers.armings.drawn → is_present_arming p c arming new.armings ≡ false)
-        → ((q d : ℕ) → 4 ≤ q → d < 4 → (q ≡ p → ⊥) → present_arming q d new.armings ≡ present_arming q d k.timers.armings)
-        → machine_of (record k { timers = new }) ≡ expiries_cancelled (λ q c. q == p) (with_timers timers (machine_of k))
+    pub renewed_all : ((c arming : ℕ) → c < 4 → arming < k.timers.value.armings.drawn → is_present_arming p c arming new.armings ≡ false)
+        → ((q d : ℕ) → 4 ≤ q → d < 4 → (q ≡ p → ⊥) → present_arming q d new.armings ≡ present_arming q d k.timers.value.armings)
+        → machine_of (record k { timers = record k.timers { value = new } }) ≡ expiries_cancelled (λ q c. q == p) (with_timers timers (machine_of k))
     renewed_all gone others = cancelled_machine (λ q c. q == p) (grind (decide, gone, others))

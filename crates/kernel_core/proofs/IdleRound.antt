@@ -35,7 +35,7 @@ order_polled k order room = record {
 module _ (answers : Answers) where
   -- such a poll round is passed: the delivery is left
   pub poll_passed : (k : KernelFields) → k.halted ≡ false → k.pending ≡ no_pending_entries → (k.work == work_limit) ≡ false
-      → is_some (first_due k.clock k.timers.timers) ≡ false → IsLonePoll 0 k.scheduler.state
+      → is_some (first_due k.clock k.timers.value.timers) ≡ false → IsLonePoll 0 k.scheduler.state
       → GoesSilently answers (machine_of k)
       (machine_of (record k { work = k.work + 1; scheduler = awaiting_nothing (polled_alone 0 k.scheduler.state) }))
   poll_passed k running shown room none lone =
@@ -51,7 +51,7 @@ module _ (answers : Answers) where
 
   -- at rest a tick that leaves no timer due is accepted: its entry is made, and such a round follows
   pub idle_tick : (k : KernelFields) (n : ℕ) → k.halted ≡ false → k.pending ≡ no_pending_entries
-      → is_some (first_due (k.clock + n) k.timers.timers) ≡ false → IsLonePoll 0 (marked 0 k.scheduler.state)
+      → is_some (first_due (k.clock + n) k.timers.value.timers) ≡ false → IsLonePoll 0 (marked 0 k.scheduler.state)
       → ComesTo (polled_alone 0 (marked 0 k.scheduler.state)) Job.Rest (unmarked 0 (marked 0 k.scheduler.state))
       → unmarked 0 (marked 0 k.scheduler.state) ≡ k.scheduler.state → is_idle k.scheduler.state ≡ true
       → RestsAfter answers (Input.Tick n) (machine_of k) (machine_of (record k { clock = k.clock + n; work = 1; inputs = k.inputs + 1 }))
@@ -68,6 +68,6 @@ module _ (answers : Answers) where
               job_silently (then_job (poll_passed handed running shown refl none lone)
               (fields_reach answers polled (awaiting_nothing k.scheduler.state) Job.Rest running shown
               (subst (λ s. ComesTo (polled_alone 0 (marked 0 k.scheduler.state)) Job.Rest s) same rest))) refl;
-          at_rest = rw (running, shown) (idle_carrying (is_cancelled k.timers.armings) k.scheduler.state idle);
+          at_rest = rw (running, shown) (idle_carrying (is_cancelled k.timers.value.armings) k.scheduler.state idle);
         };
       }

@@ -16,15 +16,15 @@ use Rattle.kernel_core.specs.declared.turn.Turn.{Turn}
 pub fields_reach : (answers : Answers) (k : KernelFields) (view : SchedulerView) (next : Job ℕ) → k.halted ≡ false
     → k.pending ≡ no_pending_entries →
     ComesTo k.scheduler.state next view.state
-    → ComesToJob k.timers.armings answers (machine_of k) next (machine_of (record k { scheduler = view }))
+    → ComesToJob k.timers.value.armings answers (machine_of k) next (machine_of (record k { scheduler = view }))
 fields_reach answers k view next running bare comes =
-    rw bare (job_reached k.timers.armings answers (machine_of k) running k.scheduler.state view.state next comes)
+    rw bare (job_reached k.timers.value.armings answers (machine_of k) running k.scheduler.state view.state next comes)
 
 -- items that are no jobs, as silent steps of the kernel's machine
 pub fields_go : (answers : Answers) (k : KernelFields) (view : SchedulerView) → k.halted ≡ false → k.pending ≡ no_pending_entries
     → Yields k.scheduler.state None view.state → GoesSilently answers (machine_of k) (machine_of (record k { scheduler = view }))
 fields_go answers k view running bare yields =
-    rw bare (items_silently k.timers.armings answers (machine_of k) running k.scheduler.state view.state yields)
+    rw bare (items_silently k.timers.value.armings answers (machine_of k) running k.scheduler.state view.state yields)
 
 module _ {answers : Answers} where
   module _ {armings : Armings} {next : Job ℕ} {a b : Machine} where

@@ -4,27 +4,64 @@ ghost use Rattle.std.specs.Prelude.{◌≡◌, ◌≢◌, ◌<◌, ◌≤◌, �
 ghost use Rattle.std.specs.List.{list_any};
 ghost use Rattle.mote_types.specs.Entries.{is_halt};
 ghost use Rattle.process_core.specs.Conditions.{IsApplication};
+ghost use Rattle.node_memory.specs.Memory.{fresh_memory};
+ghost use Rattle.node_memory.specs.Placed.{last_owner};
+ghost use Rattle.timer_core.specs.Code.NumberedTimers.{at_boot as timers_at_boot};
+ghost use Rattle.kernel_core.specs.Code.View.{machine_of, IsInOrder};
 ghost use Rattle.kernel_core.specs.Calls.{after_call};
 ghost use Rattle.kernel_core.specs.Code.OpenTurns.{AwaitsCall};
 ghost use Rattle.kernel_core.specs.Code.Steps.{GoesOn, made as made_by, stepped};
 ghost use Rattle.kernel_core.specs.Inputs.{fed};
 ghost use Rattle.kernel_core.specs.Conditions.{has_bytes, ticks_of};
-ghost use Rattle.kernel_core.specs.Machine.{is_bootable, booted};
+ghost use Rattle.kernel_core.specs.Machine.{is_bootable, booted, sizes_of};
 ghost use Rattle.kernel_core.specs.Conditions.{TakesEntry};
 ghost use Rattle.kernel_core.specs.Run.{Answers, heard, is_at_rest};
 ghost use Rattle.timer_core.specs.Deadlines.{next_deadline};
 
+use crate::boot::{Tables, tables_at_boot};
 use crate::config::Config;
 use crate::fields::KernelFields;
-use crate::kernel::Kernel;
 use crate::step::StepOutcome;
 use crate::turn::Turn;
+use device_core::serial_line::SerialLine;
 use mote_types::call::Call;
 use mote_types::entry::{Entry, Input};
 use mote_types::event::Pid;
 use mote_types::fault::BootFault;
-use std::alloc::Global;
+use process_core::scheduler::Scheduler;
+use std::alloc::{AllocError, Global};
 use std::marker::Model;
+
+/// The fields of a kernel at boot, on the heap.
+// Out of line, so that what it takes of the stack isn't added to what the tables take while they are made.
+#[inline(never)]
+fn fields_on_heap(
+    alloc: Global,
+    config: Config,
+    tables: Tables,
+) -> Result<Box<KernelFields>, AllocError>
+    requires few { config.apps ≤ 16 }
+    requires fresh { tables.memory.value.contents ≡ fresh_memory (sizes_of config) }
+    requires owners { 3 + config.apps ≤ last_owner tables.memory.value }
+    requires unarmed { tables.timers.value ≡ timers_at_boot }
+    ensures machine { IfOk result (λ fields. machine_of fields.value ≡ booted config) }
+    ensures order { IfOk result (λ fields. IsInOrder fields.value) }
+    ensures inputs { IfOk result (λ fields. fields.value.inputs ≡ 0) }
+{
+    let Ok(scheduler) = Scheduler::new(alloc, config.apps) else {
+        return Err(AllocError);
+    };
+    let Ok(serial) = SerialLine::new(alloc) else {
+        return Err(AllocError);
+    };
+    match Box::new(
+        alloc,
+        KernelFields::at_boot(config, tables, scheduler, serial),
+    ) {
+        Ok(fields) => Ok(fields),
+        Err(_) => Err(AllocError),
+    }
+}
 
 /// A mote's kernel, and the application whose call it awaits, if it awaits one.
 ///
@@ -57,15 +94,13 @@ impl AwaitingKernel {
         ensures booted { IfOk result (λ kernel. (kernel.mote.machine ≡ booted config) × (kernel.mote.inputs ≡ 0) × (kernel.turn ≡ None)) }
         ensures bad_sizes { IsErrOf result BootFault.BadSizes ↔ (is_bootable config ≡ false) }
     {
-        match Kernel::boot(alloc, config) {
-            Ok(kernel) => {
-                let Kernel { fields } = kernel;
-                match Box::new(alloc, fields) {
-                    Ok(fields) => Ok(AwaitingKernel { fields, turn: None }),
-                    Err(_) => Err(BootFault::Memory),
-                }
-            }
-            Err(fault) => Err(fault),
+        let tables = match tables_at_boot(alloc, config) {
+            Ok(tables) => tables,
+            Err(fault) => return Err(fault),
+        };
+        match fields_on_heap(alloc, config, tables) {
+            Ok(fields) => Ok(AwaitingKernel { fields, turn: None }),
+            Err(_) => Err(BootFault::Memory),
         }
     }
 

@@ -35,8 +35,9 @@ pub struct KernelFields {
     /// These entries are made before any other work.
     pub pending: PendingEntries,
     pub scheduler: Scheduler,
-    pub timers: Timers,
-    pub memory: NodeMemory,
+    /// On the heap, as the memory's tables: who makes a kernel moves only its small parts over the stack.
+    pub timers: Box<Timers>,
+    pub memory: Box<NodeMemory>,
     pub serial: SerialLine,
     /// A line was broadcast, and the serial line's process waits for its CONTINUE.
     pub serial_waits: bool,
@@ -99,7 +100,7 @@ impl KernelFields {
     pub fn next_job(&mut self, told: &mut Stimulus) -> NextJob
         requires at_work { IsAtWork self.old }
         ensures reached { (answers : Answers)
-            → ComesToJob self.old.timers.armings answers (machine_of self.old) (job_of result told.new) (machine_of self.new) }
+            → ComesToJob self.old.timers.value.armings answers (machine_of self.old) (job_of result told.new) (machine_of self.new) }
         ensures paid { (bound : ℕ) → present self.old.scheduler.state ≤ bound →
             IsPaid bound (Some (job_of result told.new)) (costs bound self.old.scheduler.state.agenda) (costs bound self.new.scheduler.state.agenda)
             × (present self.new.scheduler.state ≤ present self.old.scheduler.state) }

@@ -1,6 +1,7 @@
 //! A poll round in which only etimer acts: it looks for due timers, and finds none.
 
-ghost use Rattle.std.specs.Prelude.{◌≡◌, ◌≤◌, ◌<◌, ◌+◌, ◌^◌, true, false};
+ghost use Rattle.std.specs.Prelude.{◌≡◌, ◌≤◌, ◌<◌, ◌+◌, ◌^◌, true, false, is_some};
+ghost use Rattle.timer_core.specs.Timers.{first_due};
 ghost use Rattle.kernel_core.specs.Code.View.{machine_of, IsAtWork, IsInOrder};
 ghost use Rattle.kernel_core.specs.Code.IdleRound.{is_idle_tick, RestsAfter};
 ghost use Rattle.kernel_core.specs.Conditions.{ticks_of};
@@ -12,6 +13,15 @@ use mote_types::entry::Input;
 use mote_types::event::ETIMER;
 
 impl KernelFields {
+    /// Whether a timer is due then. Changes nothing that contracts see.
+    #[inline]
+    fn is_any_due(&mut self, clock: u64) -> bool
+        ensures answer { result ≡ is_some (first_due clock self.old.timers.value.timers) }
+        ensures kept { self.new ≡ self.old }
+    {
+        self.timers.any_due(clock)
+    }
+
     /// Where the next poll round would only poll etimer, and no timer is due, begins the round and passes that poll.
     /// Otherwise does nothing.
     #[inline]
@@ -25,7 +35,7 @@ impl KernelFields {
     {
         if !self.scheduler.polls_alone(ETIMER)
             || self.work == WORK_LIMIT
-            || self.timers.any_due(self.clock)
+            || self.is_any_due(self.clock)
         {
             return;
         }
@@ -54,7 +64,7 @@ impl KernelFields {
             return false;
         };
         let clock = self.clock + *ticks as u64;
-        if self.timers.any_due(clock) {
+        if self.is_any_due(clock) {
             return false;
         }
         // Does nothing: the call gives the proof the fact that the round polls only etimer.

@@ -19,7 +19,7 @@ use mote_types::rounding::rounded;
 impl KernelFields {
     /// The number of bytes of managed memory that are free for frames.
     fn free_bytes(&self) -> u32
-        ensures { result ≡ free 3 self.now.memory.contents.managed }
+        ensures { result ≡ free 3 self.now.memory.value.contents.managed }
     {
         self.memory.mmem_avail(PACKET_PROCESS)
     }
@@ -28,8 +28,8 @@ impl KernelFields {
     fn hold_frame(&mut self, bytes: &[u8]) -> Result<(), Refusal>
         requires least { 1 ≤ length bytes.now }
         requires most { length bytes.now ≤ 127 }
-        requires frames { HoldsFrames self.old.memory.contents self.old.packets.frames }
-        requires holder { 3 ≤ last_owner self.old.memory }
+        requires frames { HoldsFrames self.old.memory.value.contents self.old.packets.frames }
+        requires holder { 3 ≤ last_owner self.old.memory.value }
         ensures held { IfOk result (λ _. (frame_refusal (length bytes.now) (machine_of self.old) ≡ None)
             × (machine_of self.new ≡ frame_held (free_slot self.old.packets) bytes.now (machine_of self.old))) }
         ensures lost { IfErr result (λ refusal. (frame_refusal (length bytes.now) (machine_of self.old) ≡ Some refusal)
@@ -56,8 +56,8 @@ impl KernelFields {
     fn receive_frame(&mut self, bytes: &[u8])
         requires least { 1 ≤ length bytes.now }
         requires most { length bytes.now ≤ 127 }
-        requires frames { HoldsFrames self.old.memory.contents self.old.packets.frames }
-        requires holder { 3 ≤ last_owner self.old.memory }
+        requires frames { HoldsFrames self.old.memory.value.contents self.old.packets.frames }
+        requires holder { 3 ≤ last_owner self.old.memory.value }
         requires shown { self.old.pending ≡ no_pending_entries }
         ensures machine { machine_of self.new ≡ frame_arrived bytes.now (machine_of self.old) }
         ensures kept { IsTakenIn self.old self.new }
@@ -73,8 +73,8 @@ impl KernelFields {
     pub fn take_in(&mut self, input: &Input)
         requires clock { self.old.clock + ticks_of input.now ≤ 2 ^ 62 }
         requires bytes { has_bytes input.now ≡ true }
-        requires frames { HoldsFrames self.old.memory.contents self.old.packets.frames }
-        requires holder { 3 ≤ last_owner self.old.memory }
+        requires frames { HoldsFrames self.old.memory.value.contents self.old.packets.frames }
+        requires holder { 3 ≤ last_owner self.old.memory.value }
         requires shown { self.old.pending ≡ no_pending_entries }
         ensures machine { machine_of self.new ≡ effect input.now (machine_of self.old) }
         ensures kept { IsTakenIn self.old self.new }

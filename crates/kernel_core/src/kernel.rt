@@ -13,23 +13,19 @@ ghost use Rattle.kernel_core.specs.Run.{Answers, heard, is_at_rest};
 ghost use Rattle.kernel_core.specs.Code.Steps.{GoesOn, made as made_by, stepped};
 ghost use Rattle.kernel_core.specs.Conditions.{TakesEntry};
 
+use crate::boot::tables_at_boot;
 use crate::config::Config;
 use crate::fields::KernelFields;
-use crate::pending_entries::PendingEntries;
 use crate::step::{Step, StepOutcome};
 use crate::turn::Turn;
-use device_core::packet_queue::PacketQueue;
 use device_core::serial_line::SerialLine;
 use mote_types::app::App;
 use mote_types::ask::ask;
 use mote_types::entry::{Entry, Input};
-use mote_types::event::MOST_APPLICATIONS;
 use mote_types::fault::BootFault;
-use node_memory::NodeMemory;
 use process_core::scheduler::Scheduler;
 use std::alloc::Global;
 use std::marker::Model;
-use timer_core::timers::Timers;
 
 /// A mote's kernel: one machine of processes, events and a clock.
 #[derive(Drop)]
@@ -58,12 +54,8 @@ impl Kernel {
         ensures booted { IfOk result (λ kernel. (kernel.machine ≡ booted config) × (kernel.inputs ≡ 0)) }
         ensures bad_sizes { IsErrOf result BootFault.BadSizes ↔ (is_bootable config ≡ false) }
     {
-        if config.apps > MOST_APPLICATIONS {
-            return Err(BootFault::BadSizes);
-        }
-        // No `?`: it would clear and copy the room of all memory's tables three times more.
-        let memory = match NodeMemory::new(alloc, config.sizes(), config.apps) {
-            Ok(memory) => memory,
+        let tables = match tables_at_boot(alloc, config) {
+            Ok(tables) => tables,
             Err(fault) => return Err(fault),
         };
         let Ok(scheduler) = Scheduler::new(alloc, config.apps) else {
@@ -72,20 +64,7 @@ impl Kernel {
         let Ok(serial) = SerialLine::new(alloc) else {
             return Err(BootFault::Memory);
         };
-        let fields = KernelFields {
-            clock: 0,
-            work: 0,
-            halted: false,
-            inputs: 0,
-            applications: config.apps,
-            pending: PendingEntries::none(),
-            scheduler,
-            timers: Timers::new(),
-            memory,
-            serial,
-            serial_waits: false,
-            packets: PacketQueue::new(),
-        };
+        let fields = KernelFields::at_boot(config, tables, scheduler, serial);
         Ok(Kernel { fields })
     }
 

@@ -63,7 +63,7 @@ impl KernelFields {
 
     /// Serves a kernel process with the event that it receives. Does nothing for another stimulus.
     pub fn serve(&mut self, pid: Pid, told: &Stimulus)
-        requires few { self.old.timers.armings.drawn < 2 ^ 60 }
+        requires few { self.old.timers.value.armings.drawn < 2 ^ 60 }
         requires events { HasQueueableEvents self.old }
         ensures machine { (answers : Answers) (cancelled : ℕ → ℕ → ℕ → Bool) →
             job_done answers (Some (job_carrying cancelled (served pid told.now))) (machine_of self.old) ≡ silent (machine_of self.new) }

@@ -3,6 +3,7 @@
 
 pub mod all_runs;
 pub mod awaiting_kernel;
+mod boot;
 pub mod by_value;
 mod call_kind;
 mod calls;

@@ -97,7 +97,7 @@ impl KernelFields {
         requires shown { self.old.pending ≡ no_pending_entries }
         requires events { HasQueueableEvents self.old }
         ensures machine { (answers : Answers) →
-            job_done answers (Some (job_carrying (is_cancelled self.old.timers.armings) (Job.CallBack pid.0 number arming))) (machine_of self.old) ≡ silent (machine_of self.new) }
+            job_done answers (Some (job_carrying (is_cancelled self.old.timers.value.armings) (Job.CallBack pid.0 number arming))) (machine_of self.old) ≡ silent (machine_of self.new) }
         ensures kept { IsExpired self.old self.new }
     {
         if !self.timers.is_present_arming(pid, number, arming) {
@@ -120,7 +120,7 @@ impl KernelFields {
     /// The callback timers of an application that has ended leave the timer list, and their expiries that wait in the
     /// queue no longer count.
     pub fn forget_callback_timers(&mut self, payload: &Payload)
-        requires few { self.old.timers.armings.drawn < 2 ^ 60 }
+        requires few { self.old.timers.value.armings.drawn < 2 ^ 60 }
         requires events { HasQueueableEvents self.old }
         ensures machine { machine_of self.new ≡ processes.forget_callback_timers (exited_application payload.now) (machine_of self.old) }
         ensures kept { IsServed 4 self.old self.new }

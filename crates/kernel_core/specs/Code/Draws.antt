@@ -42,13 +42,13 @@ IsQueueableJob drawn _ = Unit {0}
 
 -- the numbers that were drawn, and those that will be drawn by what is on the agenda
 abbrev pub drawn_in_all : KernelFields → ℕ
-drawn_in_all k = k.timers.armings.drawn + draws k.scheduler.state.agenda
+drawn_in_all k = k.timers.value.armings.drawn + draws k.scheduler.state.agenda
 
 abbrev pub HasQueueableEvents : KernelFields → Type 0
-HasQueueableEvents k = All (IsQueueable k.timers.armings.drawn) k.scheduler.state.events
+HasQueueableEvents k = All (IsQueueable k.timers.value.armings.drawn) k.scheduler.state.events
 
 -- the job's number was drawn, as those of the events that wait, and it draws no more than the agenda was to draw
 pub record IsFitJob (next : Job ℕ) (old new : KernelFields) : Type 0 where
   pub events : HasQueueableEvents new
   pub draws : drawn_in_all new + draws_of_job next ≤ drawn_in_all old
-  pub job : IsQueueableJob old.timers.armings.drawn next
+  pub job : IsQueueableJob old.timers.value.armings.drawn next

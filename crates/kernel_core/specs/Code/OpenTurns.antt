@@ -32,7 +32,7 @@ pub record IsMidTurn (pid : Pid) (k : KernelFields) : Type 0 where
   pub work : k.work ≤ work_limit
   pub few : k.applications ≤ 16
   pub inputs : k.inputs ≤ 2 ^ 40
-  pub owners : 3 + k.applications ≤ last_owner k.memory
+  pub owners : 3 + k.applications ≤ last_owner k.memory.value
   -- the call draws four numbers at most
   pub draws : drawn_in_all k + 4 ≤ 1 + 8 * (10000 * k.inputs + k.work)
 

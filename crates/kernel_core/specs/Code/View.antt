@@ -57,9 +57,9 @@ machine_of k =
       clock = k.clock;
       work = k.work;
       is_halted = k.halted;
-      scheduler = in_front (pending_items k.pending) (carrying (is_cancelled k.timers.armings) k.scheduler.state);
-      timers = k.timers.timers;
-      memory = k.memory.contents;
+      scheduler = in_front (pending_items k.pending) (carrying (is_cancelled k.timers.value.armings) k.scheduler.state);
+      timers = k.timers.value.timers;
+      memory = k.memory.value.contents;
       serial = k.serial;
       is_serial_waiting = k.serial_waits;
       packets = k.packets;
@@ -85,9 +85,9 @@ pub record IsInOrder (k : KernelFields) : Type 0 where
   pub clock : k.clock ≤ 2 ^ 62
   pub inputs : k.inputs ≤ 2 ^ 40
   pub events : HasQueueableEvents k
-  pub frames : HoldsFrames k.memory.contents k.packets.frames
+  pub frames : HoldsFrames k.memory.value.contents k.packets.frames
   -- each application may have managed blocks
-  pub owners : 3 + k.applications ≤ last_owner k.memory
+  pub owners : 3 + k.applications ≤ last_owner k.memory.value
   -- a turn draws a number, or ends a process whose callback timers then get four
   pub draws : drawn_in_all k ≤ 1 + 8 * (10000 * k.inputs + k.work)
 
@@ -103,12 +103,12 @@ pub record IsAtTurn (pid : Pid) (k : KernelFields) : Type 0 where
   pub shown : k.pending ≡ no_pending_entries
   pub first : 4 ≤ pid.0
   pub last : pid.0 ≤ 19
-  pub owner : pid.0 ≤ last_owner k.memory
+  pub owner : pid.0 ≤ last_owner k.memory.value
   pub applications : k.applications ≡ k.scheduler.state.applications
   pub clock : k.clock ≤ 2 ^ 62
-  pub few : k.timers.armings.drawn < 2 ^ 60
+  pub few : k.timers.value.armings.drawn < 2 ^ 60
   pub events : HasQueueableEvents k
-  pub frames : HoldsFrames k.memory.contents k.packets.frames
+  pub frames : HoldsFrames k.memory.value.contents k.packets.frames
   pub distinct : IsDistinct eqb (numbers k.scheduler.state.processes)
 
 -- only the scheduler, the timers, the memory and the devices were changed
@@ -146,8 +146,8 @@ pub record IsCarriedOut (old new : KernelFields) : Type 0 where
   pub turn : new.scheduler.turn ≡ None
   pub events : HasQueueableEvents new
   pub draws : drawn_in_all new ≤ drawn_in_all old + 4
-  pub frames : HoldsFrames new.memory.contents new.packets.frames
-  pub owners : last_owner new.memory ≡ last_owner old.memory
+  pub frames : HoldsFrames new.memory.value.contents new.packets.frames
+  pub owners : last_owner new.memory.value ≡ last_owner old.memory.value
   pub pending : pending_count new.pending ≤ 1
 
 -- an input had its effect
@@ -161,8 +161,8 @@ pub record IsTakenIn (old new : KernelFields) : Type 0 where
   pub turn : new.scheduler.turn ≡ old.scheduler.turn
   pub events : new.scheduler.state.events ≡ old.scheduler.state.events
   pub agenda : new.scheduler.state.agenda ≡ old.scheduler.state.agenda
-  pub frames : HoldsFrames new.memory.contents new.packets.frames
-  pub owners : last_owner new.memory ≡ last_owner old.memory
+  pub frames : HoldsFrames new.memory.value.contents new.packets.frames
+  pub owners : last_owner new.memory.value ≡ last_owner old.memory.value
 
 -- what a kernel process did, which drew at most n numbers
 pub record IsServed (most : ℕ) (old new : KernelFields) : Type 0 where

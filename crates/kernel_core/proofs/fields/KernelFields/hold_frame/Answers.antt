@@ -13,10 +13,11 @@ returns-clause-kept c = record {
   turn = search rules;
   events = search rules;
   agenda = search rules;
-  owners = c.take_frame.ensures.owners;
+  owners = rw c.deref_mut.ensures.value at c.take_frame.ensures.owners;
   frames =
       rw c.in-Some.ensures.held
-      (frames_after_taken c.in-Some.slot c.args.self.now.memory.contents c.take_frame.new.self.contents c.take_frame.ensures.others
+      (frames_after_taken c.in-Some.slot c.args.self.now.memory.value.contents c.take_frame.new.self.contents
+      (rw c.deref_mut.ensures.value at c.take_frame.ensures.others)
       _ c.args.bytes.now
       c.args.self.now.packets.frames c.in_ok-take_frame.ensures.held c.requires.frames);
 }

@@ -15,7 +15,7 @@ returns-clause-paid c = λ bound few.
 
 pub returns-clause-fit : goal.returns-clause-fit
 returns-clause-fit c =
-    let fit = job_is_fit c.args.self.now.timers.armings.drawn c.args.self.now.scheduler.state c.next_to.new.self.state
+    let fit = job_is_fit c.args.self.now.timers.value.armings.drawn c.args.self.now.scheduler.state c.next_to.new.self.state
     (job_of c.next_to.result c.next_to.new.told) c.requires.at_work.order.events c.next_to.ensures.job in
     record { events = fit.0; draws = omega (arith, fit.1); job = fit.2 }
 
