@@ -50,9 +50,11 @@ fn boot(alloc: Global, config: Config) -> Result<Box<OpenMote>, BootFault>
     ensures opened { IfOk result (λ mote. IsOpened config mote.value.session) }
     ensures bad_sizes { IsErrOf result BootFault.BadSizes ↔ (is_bootable config ≡ false) }
 {
-    let session = Session::boot(alloc, config)?;
-    let open_mote = held(alloc, session)?;
-    Ok(open_mote)
+    // No `?`: it would take room on the stack for two sessions more.
+    match Session::boot(alloc, config) {
+        Ok(session) => held(alloc, session),
+        Err(fault) => Err(fault),
+    }
 }
 
 /// Opens a mote with so many applications, processes 4, 5, .. All memory that it will use is taken here.
