@@ -20,7 +20,7 @@ use std::alloc::{AllocError, Global};
 use values::{Dump, Value};
 
 /// What a dump shows of a run besides its transcript.
-#[derive(Clone, Copy, Drop)]
+#[derive(Clone, Copy)]
 pub struct Settings<'a> {
     /// The names of processes 4, 5, ..; those after them have none.
     pub names: &'a [&'a str],
@@ -144,13 +144,12 @@ fn walk_over(
 ) -> Result<(), AllocError> {
     let changes = changes_of(alloc, facts)?;
     let mut left = changes.as_slice();
-    let clocks = clocks_of(facts, shown).iter();
-    for (number, (line, clock)) in lines.iter().zip(clocks).enumerate() {
-        let number = number.saturating_add(shown.first);
-        let (due, later) = parted(left, number);
+    let clocks = clocks_of(facts, shown);
+    for place in 0..lines.len().min(clocks.len()) {
+        let (due, later) = parted(left, place.saturating_add(shown.first));
         walk.levels.apply_all(due);
         left = later;
-        walk.take_line(line, *clock)?;
+        walk.take_line(lines[place], clocks[place])?;
     }
     Ok(())
 }

@@ -11,6 +11,7 @@ pub mod posts;
 pub mod timers;
 
 use crate::memory::{Answered, Memory, Sizes, Stays};
+use crate::numbers::{asked_by, number_of};
 use crate::rows::{Row, Show};
 pub use posts::Curve;
 use posts::Posts;
@@ -23,7 +24,7 @@ use transcript_lines::{Input, Line, Note, Origin, Turn, is_quiet, read_line, rea
 const PROCESSES: usize = 20;
 
 /// An activation of a process, from a row to a row.
-#[derive(Clone, Copy, Drop)]
+#[derive(Clone, Copy)]
 pub struct Activation {
     pub pid: usize,
     pub first: usize,
@@ -31,7 +32,7 @@ pub struct Activation {
 }
 
 /// A process from its INIT to its end, if it ended.
-#[derive(Clone, Copy, Drop)]
+#[derive(Clone, Copy)]
 pub struct Life {
     pub pid: usize,
     pub first: usize,
@@ -39,7 +40,7 @@ pub struct Life {
 }
 
 /// What one process gave another at once, in a row.
-#[derive(Clone, Copy, Drop)]
+#[derive(Clone, Copy)]
 pub struct Gift {
     pub from: usize,
     pub to: usize,
@@ -47,7 +48,7 @@ pub struct Gift {
 }
 
 /// Numbers of a run.
-#[derive(Clone, Copy, Default, Drop)]
+#[derive(Clone, Copy, Default)]
 pub struct Tally {
     pub inputs: u64,
     pub turns: u64,
@@ -84,8 +85,29 @@ pub struct Marks {
     pub is_quiet: bool,
 }
 
+impl Marks {
+    /// The marks of no lines.
+    fn none(alloc: Global, is_quiet: bool) -> Self {
+        Marks {
+            start: 0,
+            clocks: Vec::new(alloc),
+            answers: Vec::new(alloc),
+            lateness: Vec::new(alloc),
+            activations: Vec::new(alloc),
+            lives: Vec::new(alloc),
+            gifts: Vec::new(alloc),
+            curves: Vec::new(alloc),
+            armings: Vec::new(alloc),
+            stays: Stays::new(alloc),
+            tally: Tally::default(),
+            processes: 0,
+            is_quiet,
+        }
+    }
+}
+
 /// A frame that arrived; the next line says whether it is lost.
-#[derive(Clone, Copy, Drop)]
+#[derive(Clone, Copy)]
 struct Arrived {
     size: usize,
     row: usize,
@@ -93,7 +115,7 @@ struct Arrived {
 }
 
 /// A call that has no reply yet: its row, and the number of its line.
-#[derive(Clone, Copy, Drop)]
+#[derive(Clone, Copy)]
 struct Awaited {
     row: usize,
     number: usize,
@@ -101,14 +123,14 @@ struct Awaited {
 
 /// What a line says of rows: in which of them the call was made to which it has the reply, if any, and the delay of its timer in
 /// ticks.
-#[derive(Clone, Copy, Default, Drop)]
+#[derive(Clone, Copy, Default)]
 struct Told {
     answered: Option<usize>,
     late: u64,
 }
 
 /// A process after the lines so far.
-#[derive(Clone, Copy, Drop)]
+#[derive(Clone, Copy)]
 struct Process {
     /// The row of its INIT, while it lives.
     born: Option<usize>,
@@ -144,29 +166,17 @@ impl Walk {
             marked: None,
             awaited: None,
         };
+        let timers = Timers::new(alloc)?;
+        let memory = Memory::new(alloc, sizes)?;
         Ok(Walk {
             is_folded: false,
             processes: [process; PROCESSES],
             active: Vec::new(alloc),
-            timers: Timers::new(alloc)?,
-            memory: Memory::new(alloc, sizes)?,
+            timers,
+            memory,
             arrived: None,
             posts: Posts::new(alloc),
-            marks: Marks {
-                start: 0,
-                clocks: Vec::new(alloc),
-                answers: Vec::new(alloc),
-                lateness: Vec::new(alloc),
-                activations: Vec::new(alloc),
-                lives: Vec::new(alloc),
-                gifts: Vec::new(alloc),
-                curves: Vec::new(alloc),
-                armings: Vec::new(alloc),
-                stays: Stays::new(alloc),
-                tally: Tally::default(),
-                processes: 0,
-                is_quiet,
-            },
+            marks: Marks::none(alloc, is_quiet),
         })
     }
 
@@ -273,14 +283,12 @@ impl Walk {
                 self.count_printed(rest);
                 Ok(())
             }
-            "kill" => match rest.parse::<usize>() {
-                Ok(pid) => self.end_life(pid, row),
-                Err(_) => Ok(()),
-            },
+            "kill" => self.end_life(number_of(Some(rest)) as usize, row),
             "post" | "broadcast" => self.posts.carry_out(turn, called.line, row),
             _ => {
-                self.memory.carry_out(called)?;
-                self.timers.carry_out(turn.pid, turn.call, moment)
+                let asked = asked_by(turn.call);
+                self.memory.carry_out(called, &asked)?;
+                self.timers.carry_out(turn.pid, &asked, moment)
             }
         }
     }
@@ -485,10 +493,21 @@ impl Walk {
         ensures stays { IfOk result (λ marks. AllEndLater marks.stays) }
     {
         self.close()?;
-        self.marks.armings = self.timers.finish()?;
-        self.marks.curves = self.posts.finish();
-        self.marks.stays = self.memory.finish(alloc)?;
-        Ok(self.marks)
+        let Walk {
+            timers,
+            memory,
+            posts,
+            marks,
+            ..
+        } = self;
+        let armings = timers.finish()?;
+        let stays = memory.finish(alloc)?;
+        Ok(Marks {
+            curves: posts.finish(),
+            armings,
+            stays,
+            ..marks
+        })
     }
 }
 

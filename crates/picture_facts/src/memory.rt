@@ -11,6 +11,7 @@ pub mod managed;
 pub mod pools;
 pub mod stay;
 
+use crate::numbers::{Asked, asked_by};
 use heap_map::HeapMap;
 use managed::Managed;
 use pools::Pools;
@@ -18,7 +19,7 @@ pub use stay::Stay;
 use std::alloc::{AllocError, Global};
 
 /// The sizes of a mote's memory, in bytes.
-#[derive(Clone, Copy, Drop)]
+#[derive(Clone, Copy)]
 pub struct Sizes {
     pub managed: u32,
     /// The bytes of managed memory that each process, and the frames, may have. `None` where each may take all that is free.
@@ -29,7 +30,7 @@ pub struct Sizes {
 }
 
 /// A process's call, its reply, and where the call is: its row, and the number of its line, from 0 on.
-#[derive(Clone, Copy, Drop)]
+#[derive(Clone, Copy)]
 pub(crate) struct Answered<'a> {
     pub(crate) pid: usize,
     pub(crate) call: &'a str,
@@ -96,26 +97,49 @@ impl Memory {
     }
 
     /// A call was accepted. Calls that are on no memory change nothing.
-    pub(crate) fn carry_out(&mut self, called: &Answered<'_>) -> Result<(), AllocError> {
-        let (part, _) = called.call.split_once('-').unwrap_or((called.call, ""));
+    pub(crate) fn carry_out(
+        &mut self,
+        called: &Answered<'_>,
+        asked: &Asked<'_>,
+    ) -> Result<(), AllocError> {
+        let (part, _) = asked.name.split_once('-').unwrap_or((asked.name, ""));
         match part {
-            "mmem" => self.managed.carry_out(called),
-            "heap" => match &mut self.heap {
-                Some(heap) => heap.carry_out(called),
-                None => Ok(()),
-            },
-            "memb" => self.pools.carry_out(called),
-            "list" => self.pools.carry_out_on_list(called),
-            "packet" if called.call == "packet-done" => self.managed.give_back(called.row),
+            "mmem" => self.managed.carry_out(called, asked),
+            "heap" => self.carry_out_on_heap(called, asked),
+            "memb" => self.pools.carry_out(called, asked),
+            "list" => self.pools.carry_out_on_list(called, asked),
+            "packet" => self.give_back(called, asked),
             _ => Ok(()),
+        }
+    }
+
+    /// The same for a call on the heap.
+    fn carry_out_on_heap(
+        &mut self,
+        called: &Answered<'_>,
+        asked: &Asked<'_>,
+    ) -> Result<(), AllocError> {
+        match &mut self.heap {
+            Some(heap) => heap.carry_out(called, asked),
+            None => Ok(()),
+        }
+    }
+
+    /// The same for a call on frames: where it is the one that does so, the front frame is released.
+    fn give_back(&mut self, called: &Answered<'_>, asked: &Asked<'_>) -> Result<(), AllocError> {
+        if asked.name == "packet-done" {
+            self.managed.give_back(called.row)
+        } else {
+            Ok(())
         }
     }
 
     /// A call was refused, which changes nothing.
     pub(crate) fn refuse(&mut self, called: &Answered<'_>) {
-        self.managed.refuse(called);
+        let asked = asked_by(called.call);
+        self.managed.refuse(called, &asked);
         if let Some(heap) = &mut self.heap {
-            heap.refuse(called);
+            heap.refuse(called, &asked);
         }
     }
 

@@ -15,7 +15,7 @@ use std::alloc::{AllocError, Global};
 use transcript_lines::{Input, Line, read_line};
 
 /// The lines that are shown: from one on, and up to another, which isn't.
-#[derive(Clone, Copy, Drop)]
+#[derive(Clone, Copy)]
 pub struct Shown {
     pub first: usize,
     pub end: usize,

@@ -1,11 +1,12 @@
 //! What changes from one line of a run to the next.
 
+use crate::dump::signal::PROCESSES;
 use crate::facts::Facts;
 use crate::memory::Stay;
 use std::alloc::{AllocError, Global};
 
 /// What is counted.
-#[derive(Clone, Copy, Drop)]
+#[derive(Clone, Copy)]
 pub(crate) enum Level {
     Queue,
     Managed,
@@ -17,8 +18,25 @@ pub(crate) enum Level {
     Activation(usize),
 }
 
+/// The number of levels: two for each process, and four others.
+pub(crate) const LEVELS: usize = 4 + 2 * PROCESSES;
+
+impl Level {
+    /// Its position among all.
+    pub(crate) fn place(self) -> usize {
+        match self {
+            Level::Queue => 0,
+            Level::Managed => 1,
+            Level::Heap => 2,
+            Level::Timers => 3,
+            Level::Life(pid) => pid.saturating_mul(2).saturating_add(4),
+            Level::Activation(pid) => pid.saturating_mul(2).saturating_add(5),
+        }
+    }
+}
+
 /// A level rises or falls at a line.
-#[derive(Clone, Copy, Drop)]
+#[derive(Clone, Copy)]
 pub(crate) struct Change {
     pub(crate) line: usize,
     pub(crate) level: Level,

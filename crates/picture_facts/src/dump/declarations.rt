@@ -22,7 +22,7 @@ const UNITS: [&str; 16] = [
 ];
 
 /// The units of time of a tick, as a power of ten: enough that each line at one clock has one, and one is left.
-#[derive(Clone, Copy, Drop)]
+#[derive(Clone, Copy)]
 pub(crate) struct Scale {
     /// Which of the units it is.
     place: usize,

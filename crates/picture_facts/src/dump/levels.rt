@@ -3,32 +3,22 @@
 ghost use Rattle.std.specs.Prelude.{◌≡◌};
 ghost use Rattle.picture_facts.specs.Levels as spec;
 
-use crate::dump::changes::{Change, Level};
-use crate::dump::signal::{PROCESSES, Signal};
+use crate::dump::changes::{Change, LEVELS, Level};
+use crate::dump::signal::Signal;
 use crate::dump::values::Value;
 use crate::memory::Sizes;
 use transcript_lines::{Line, read_line};
 
-/// What a process does.
-#[derive(Clone, Copy, Drop)]
-struct Process {
-    lives: u64,
-    activations: u64,
-}
-
 /// The levels after the lines so far.
-#[derive(Clone, Copy, Drop)]
+#[derive(Clone, Copy)]
 pub(crate) struct Levels {
     sizes: Sizes,
     /// The process that takes its turn.
     running: Option<usize>,
     /// Whether the mote rests, so that no activation goes on.
     rests: bool,
-    queue: u64,
-    managed: u64,
-    heap: u64,
-    timers: u64,
-    processes: [Process; PROCESSES],
+    /// Each level, at its position.
+    levels: [u64; LEVELS],
 }
 
 fn moved(level: u64, change: &Change) -> u64 {
@@ -51,38 +41,21 @@ fn free(size: u32, taken: u64) -> Value
 
 impl Levels {
     pub(crate) fn new(sizes: Sizes) -> Self {
-        let process = Process {
-            lives: 0,
-            activations: 0,
-        };
         Levels {
             sizes,
             running: None,
             rests: true,
-            queue: 0,
-            managed: 0,
-            heap: 0,
-            timers: 0,
-            processes: [process; PROCESSES],
+            levels: [0; LEVELS],
         }
     }
 
+    fn level(&self, level: Level) -> u64 {
+        self.levels.get(level.place()).copied().unwrap_or(0)
+    }
+
     fn apply(&mut self, change: &Change) {
-        match change.level {
-            Level::Queue => self.queue = moved(self.queue, change),
-            Level::Managed => self.managed = moved(self.managed, change),
-            Level::Heap => self.heap = moved(self.heap, change),
-            Level::Timers => self.timers = moved(self.timers, change),
-            Level::Life(pid) => {
-                if let Some(process) = self.processes.get_mut(pid) {
-                    process.lives = moved(process.lives, change);
-                }
-            }
-            Level::Activation(pid) => {
-                if let Some(process) = self.processes.get_mut(pid) {
-                    process.activations = moved(process.activations, change);
-                }
-            }
+        if let Some(level) = self.levels.get_mut(change.level.place()) {
+            *level = moved(*level, change);
         }
     }
 
@@ -109,17 +82,12 @@ impl Levels {
     }
 
     fn process(&self, pid: usize) -> Value {
-        let Some(process) = self.processes.get(pid) else {
-            return Value::Nothing;
-        };
         if self.running == Some(pid) {
             Value::Number(3)
-        } else if process.activations > 0 && !self.rests {
+        } else if !self.rests && self.level(Level::Activation(pid)) > 0 {
             Value::Number(2)
-        } else if process.lives > 0 {
-            Value::Number(1)
         } else {
-            Value::Number(0)
+            Value::Number(self.level(Level::Life(pid)).min(1))
         }
     }
 
@@ -129,10 +97,10 @@ impl Levels {
                 Some(pid) => Value::Number(pid as u64),
                 None => Value::Nothing,
             },
-            Signal::Queue => Value::Number(self.queue),
-            Signal::ManagedFree => free(self.sizes.managed, self.managed),
-            Signal::HeapFree => free(self.sizes.heap, self.heap),
-            Signal::Timers => Value::Number(self.timers),
+            Signal::Queue => Value::Number(self.level(Level::Queue)),
+            Signal::ManagedFree => free(self.sizes.managed, self.level(Level::Managed)),
+            Signal::HeapFree => free(self.sizes.heap, self.level(Level::Heap)),
+            Signal::Timers => Value::Number(self.level(Level::Timers)),
             Signal::Process(pid) => self.process(pid),
         }
     }

@@ -12,7 +12,7 @@ pub(crate) const PROCESSES: usize = 20;
 pub(crate) const SIGNALS: usize = 21;
 
 /// A signal.
-#[derive(Clone, Copy, Drop)]
+#[derive(Clone, Copy)]
 pub(crate) enum Signal {
     /// The process that takes its turn.
     Running,

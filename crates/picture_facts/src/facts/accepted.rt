@@ -3,7 +3,7 @@
 use transcript_lines::{Turn, read_turn};
 
 /// A call that wasn't refused.
-#[derive(Clone, Copy, Drop)]
+#[derive(Clone, Copy)]
 pub(crate) struct Accepted<'a> {
     /// The words of the call.
     pub(crate) call: &'a str,

@@ -6,7 +6,7 @@ ghost use Rattle.picture_facts.specs.Chains.{AreChains};
 ghost use Rattle.picture_facts.specs.Lists as spec;
 
 use crate::facts::accepted::Accepted;
-use crate::numbers::number_of;
+use crate::numbers::{asked_by, number_in_reply};
 use std::alloc::{AllocError, Global};
 use std::marker::Model;
 
@@ -24,7 +24,7 @@ pub struct Chain {
 }
 
 /// What an accepted call does to a list.
-#[derive(Clone, Copy, Drop)]
+#[derive(Clone, Copy)]
 pub(crate) enum ListChange {
     /// A block is put after all others.
     Append(u64),
@@ -109,13 +109,13 @@ fn carry_out(blocks: &mut Vec<u64>, change: ListChange) -> Result<(), AllocError
 
 /// Which list a call changes, and how.
 fn read_change(call: &Accepted<'_>) -> Option<(usize, ListChange)> {
-    let mut words = call.call.split(' ');
-    let word = words.next().unwrap_or("");
-    let list = number_of(words.next()).min(LISTS as u64) as usize;
-    let first = number_of(words.next());
-    let last = words.next().map_or(first, |word| number_of(Some(word)));
-    let answer = number_of(call.answer.strip_prefix("num "));
-    Some((list, change_by(word, first, last, answer)?))
+    let asked = asked_by(call.call);
+    let list = asked.first.min(LISTS as u64) as usize;
+    let answer = number_in_reply(call.answer);
+    Some((
+        list,
+        change_by(asked.name, asked.second, asked.last, answer)?,
+    ))
 }
 
 impl Model for Lists {

@@ -16,7 +16,7 @@ use transcript_lines::{Origin, Turn};
 const PLACES: usize = 32;
 
 /// An event that waits from a line on, the one whose call posts it, and up to another one.
-#[derive(Clone, Copy, Drop)]
+#[derive(Clone, Copy)]
 pub struct Wait {
     /// The number of the line whose call posts it, from 0 on.
     pub line: usize,
@@ -25,7 +25,7 @@ pub struct Wait {
 }
 
 /// An event that was posted.
-#[derive(Clone, Copy, Drop)]
+#[derive(Clone, Copy)]
 struct Posted<'a> {
     line: usize,
     /// The process that it was posted to, or all.
@@ -35,7 +35,7 @@ struct Posted<'a> {
 }
 
 /// A broadcast that is being delivered, with a bit for each process that received it.
-#[derive(Clone, Copy, Drop)]
+#[derive(Clone, Copy)]
 struct Broadcast<'a> {
     event: &'a str,
     told: u32,

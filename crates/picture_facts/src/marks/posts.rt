@@ -12,7 +12,7 @@ use transcript_lines::Turn;
 const MOST: usize = 33;
 
 /// An event that was posted to a process or to all.
-#[derive(Clone, Copy, Drop)]
+#[derive(Clone, Copy)]
 struct Posted {
     from: usize,
     to: Option<usize>,
@@ -25,7 +25,7 @@ struct Posted {
 }
 
 /// An event from the row where it was posted to the one where it is received.
-#[derive(Clone, Copy, Drop)]
+#[derive(Clone, Copy)]
 pub struct Curve {
     pub from: usize,
     pub first: usize,

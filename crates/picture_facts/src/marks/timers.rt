@@ -3,7 +3,7 @@
 ghost use Rattle.std.specs.Prelude.{◌≡◌, ◌%◌, nat_le, All, IfOk};
 ghost use Rattle.picture_facts.specs.Spans.{ArmingEndsLater};
 
-use crate::numbers::number_of;
+use crate::numbers::{Asked, number_of};
 use std::alloc::{AllocError, Global};
 use std::marker::Model;
 use transcript_lines::{Origin, Turn};
@@ -18,7 +18,7 @@ const TIMERS: usize = 12;
 const CELLS: usize = 240;
 
 /// A timer after the lines so far: the row where it was armed last, and whether it still is.
-#[derive(Clone, Copy, Drop)]
+#[derive(Clone, Copy)]
 struct Cell {
     row: usize,
     start: u64,
@@ -41,7 +41,7 @@ impl Cell {
 }
 
 /// An arming of a timer, from a row to the row where it ended, if it did.
-#[derive(Clone, Copy, Drop)]
+#[derive(Clone, Copy)]
 pub struct Arming {
     pub pid: usize,
     /// The timer's number; those of the callback timers begin after those of the event timers.
@@ -55,7 +55,7 @@ pub struct Arming {
 }
 
 /// When something happens: in which row, and at which clock.
-#[derive(Clone, Copy, Drop)]
+#[derive(Clone, Copy)]
 pub(crate) struct Moment {
     pub(crate) row: usize,
     pub(crate) clock: u64,
@@ -119,16 +119,19 @@ impl Timers {
         Ok(())
     }
 
-    /// A timer is armed from a start on.
-    fn arm(
+    /// A timer is stopped, or is armed from a start on.
+    fn set(
         &mut self,
         pid: usize,
         timer: usize,
         row: usize,
-        start: u64,
+        start: Option<u64>,
         interval: u64,
     ) -> Result<(), AllocError> {
         self.end(pid, timer, row, None)?;
+        let Some(start) = start else {
+            return Ok(());
+        };
         if let Some(cell) = self.cell(pid, timer) {
             *cell = Cell {
                 row,
@@ -144,28 +147,39 @@ impl Timers {
     pub(crate) fn carry_out(
         &mut self,
         pid: usize,
-        call: &str,
+        asked: &Asked<'_>,
         moment: Moment,
     ) -> Result<(), AllocError> {
-        let Moment { row, clock } = moment;
-        let mut words = call.split(' ');
-        let word = words.next().unwrap_or("");
-        let timer = number_of(words.next()) as usize;
-        let interval = number_of(words.next());
-        let callback = timer.saturating_add(EVENT_TIMERS);
+        let (part, verb) = asked.name.split_once('-').unwrap_or(("", ""));
+        let timer = match part {
+            "timer" => asked.first as usize,
+            "callback" => (asked.first as usize).saturating_add(EVENT_TIMERS),
+            _ => return Ok(()),
+        };
+        self.change(pid, timer, verb, asked.second, moment)
+    }
+
+    /// Sets a timer, starts it again or stops it. Other verbs change nothing.
+    fn change(
+        &mut self,
+        pid: usize,
+        timer: usize,
+        verb: &str,
+        interval: u64,
+        moment: Moment,
+    ) -> Result<(), AllocError> {
         let before = match self.cell(pid, timer) {
             Some(cell) => *cell,
             None => UNUSED,
         };
-        match word {
-            "timer-set" => self.arm(pid, timer, row, clock, interval),
-            "timer-restart" => self.arm(pid, timer, row, clock, before.interval),
-            "timer-reset" => self.arm(pid, timer, row, before.due(), before.interval),
-            "timer-stop" => self.end(pid, timer, row, None),
-            "callback-set" => self.arm(pid, callback, row, clock, interval),
-            "callback-stop" => self.end(pid, callback, row, None),
-            _ => Ok(()),
-        }
+        let (start, interval) = match verb {
+            "set" => (Some(moment.clock), interval),
+            "restart" => (Some(moment.clock), before.interval),
+            "reset" => (Some(before.due()), before.interval),
+            "stop" => (None, interval),
+            _ => return Ok(()),
+        };
+        self.set(pid, timer, moment.row, start, interval)
     }
 
     /// A process receives a stimulus, perhaps that its timer ran out. Returns the number of ticks since that was due.

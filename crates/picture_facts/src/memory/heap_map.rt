@@ -8,7 +8,7 @@ ghost use Rattle.picture_facts.specs.Spans.{StayEndsLater};
 use crate::memory::Answered;
 use crate::memory::heap::LiveHeap;
 use crate::memory::stay::{Record, Stay};
-use crate::numbers::number_of;
+use crate::numbers::Asked;
 use heap_core::Key;
 use mote_types::event::Pid;
 use std::alloc::{AllocError, Global};
@@ -43,21 +43,9 @@ fn key_of(pid: usize, number: u64) -> Option<Key>
     Some((Pid(pid as u8), number as u8))
 }
 
-/// What a call on the heap asks for.
-#[derive(Clone, Copy, Drop)]
-struct Asked<'a> {
-    word: &'a str,
-    number: u64,
-    size: u32,
-}
-
-fn asked_by(call: &str) -> Asked<'_> {
-    let mut words = call.split(' ');
-    Asked {
-        word: words.next().unwrap_or(""),
-        number: number_of(words.next()),
-        size: number_of(words.next()).min(u32::MAX as u64) as u32,
-    }
+/// The length that a call asks for.
+fn size_of(asked: &Asked<'_>) -> u32 {
+    asked.second.min(u32::MAX as u64) as u32
 }
 
 impl HeapMap {
@@ -84,45 +72,53 @@ impl HeapMap {
     }
 
     /// A call was accepted.
-    pub(crate) fn carry_out(&mut self, called: &Answered<'_>) -> Result<(), AllocError> {
-        let Asked { word, number, size } = asked_by(called.call);
-        let Some(key) = key_of(called.pid, number) else {
+    pub(crate) fn carry_out(
+        &mut self,
+        called: &Answered<'_>,
+        asked: &Asked<'_>,
+    ) -> Result<(), AllocError> {
+        if asked.name == "heap-stats" {
+            let is_so = self.has_stats(called.answer)?;
+            self.compare(is_so, called.line);
+            return Ok(());
+        }
+        let Some(key) = key_of(called.pid, asked.first) else {
             return Ok(());
         };
-        let is_so = match word {
+        let size = size_of(asked);
+        let is_so = match asked.name {
             "heap-alloc" => self.heap.alloc(key, size),
             "heap-realloc" => self.heap.realloc(key, size),
             "heap-free" => self.heap.free(key),
-            "heap-stats" => self.has_stats(called.answer)?,
             _ => return Ok(()),
         };
-        if !is_so {
-            self.differs = self.differs.or(Some(called.line));
-        }
-        if word == "heap-stats" {
-            return Ok(());
-        }
+        self.compare(is_so, called.line);
         self.show(key, size, called.row)
     }
 
+    /// Stores the first line that says what isn't so.
+    fn compare(&mut self, is_so: bool, line: usize) {
+        if !is_so {
+            self.differs = self.differs.or(Some(line));
+        }
+    }
+
     /// A call was refused. Where that was for lack of room, this heap has none either.
-    pub(crate) fn refuse(&mut self, called: &Answered<'_>) {
-        let Asked { word, number, size } = asked_by(called.call);
-        let Some(key) = key_of(called.pid, number) else {
+    pub(crate) fn refuse(&mut self, called: &Answered<'_>, asked: &Asked<'_>) {
+        let Some(key) = key_of(called.pid, asked.first) else {
             return;
         };
         if called.answer != "refused 12" {
             return;
         }
+        let size = size_of(asked);
         // Where it has one, the map is another run's from here on in any case.
-        let is_taken = match word {
+        let is_taken = match asked.name {
             "heap-alloc" => self.heap.alloc(key, size),
             "heap-realloc" => self.heap.realloc(key, size),
             _ => false,
         };
-        if is_taken {
-            self.differs = self.differs.or(Some(called.line));
-        }
+        self.compare(!is_taken, called.line);
     }
 
     /// Whether these are the statistics of the heap.

@@ -6,7 +6,7 @@ ghost use Rattle.picture_facts.specs.Spans.{StayEndsLater};
 
 use crate::memory::Answered;
 use crate::memory::stay::{Record, Stay};
-use crate::numbers::number_of;
+use crate::numbers::{Asked, number_in_reply, number_of};
 use std::alloc::{AllocError, Global};
 
 /// The process whose blocks hold frames.
@@ -79,20 +79,20 @@ impl Managed {
     }
 
     /// A call was accepted.
-    pub(crate) fn carry_out(&mut self, called: &Answered<'_>) -> Result<(), AllocError> {
+    pub(crate) fn carry_out(
+        &mut self,
+        called: &Answered<'_>,
+        asked: &Asked<'_>,
+    ) -> Result<(), AllocError> {
         let Answered { pid, row, line, .. } = *called;
-        let mut words = called.call.split(' ');
-        let word = words.next();
-        let handle = number_of(words.next());
-        match word {
-            Some("mmem-alloc") => {
-                let size = number_of(words.next());
-                self.compare(self.has_room(pid, size), line);
-                self.add(pid, handle, size, row)
+        match asked.name {
+            "mmem-alloc" => {
+                self.compare(self.has_room(pid, asked.second), line);
+                self.add(pid, asked.first, asked.second, row)
             }
-            Some("mmem-free") => self.free(pid, handle, row),
-            Some("mmem-avail") => {
-                let free = number_of(called.answer.strip_prefix("num "));
+            "mmem-free" => self.free(pid, asked.first, row),
+            "mmem-avail" => {
+                let free = number_in_reply(called.answer);
                 self.compare(free == self.free_for(pid), line);
                 Ok(())
             }
@@ -101,11 +101,11 @@ impl Managed {
     }
 
     /// A call was refused.
-    pub(crate) fn refuse(&mut self, called: &Answered<'_>) {
-        if let Some(words) = called.call.strip_prefix("mmem-alloc ") {
-            let size = number_of(words.split(' ').nth(1));
+    pub(crate) fn refuse(&mut self, called: &Answered<'_>, asked: &Asked<'_>) {
+        if asked.name == "mmem-alloc" {
             let number = number_of(called.answer.strip_prefix("refused "));
-            self.compare(self.may_refuse(called.pid, size, number), called.line);
+            let is_so = self.may_refuse(called.pid, asked.second, number);
+            self.compare(is_so, called.line);
         }
     }
 

@@ -5,7 +5,7 @@ ghost use Rattle.picture_facts.specs.Spans.{StayEndsLater};
 
 use crate::memory::Answered;
 use crate::memory::stay::{Record, Stay};
-use crate::numbers::number_of;
+use crate::numbers::{Asked, number_in_reply, number_of};
 use std::alloc::{AllocError, Global};
 
 /// The number of blocks of a pool.
@@ -37,6 +37,14 @@ fn stay_of(pid: usize, name: u64, at: u64, row: usize) -> Stay {
     }
 }
 
+/// The block that a call on a list is about: the one in its reply, or else its last number.
+fn block_of(answer: &str, last: u64) -> u64 {
+    match answer.strip_prefix("num ") {
+        Some(number) => number_of(Some(number)),
+        None => last,
+    }
+}
+
 impl Pools {
     pub(crate) fn new(alloc: Global) -> Self {
         Pools {
@@ -46,66 +54,47 @@ impl Pools {
     }
 
     /// A call on a pool was accepted.
-    pub(crate) fn carry_out(&mut self, called: &Answered<'_>) -> Result<(), AllocError> {
-        let Answered {
-            pid,
-            call,
-            answer,
-            row,
-            ..
-        } = *called;
-        let mut words = call.split(' ');
-        let word = words.next();
-        let pool = number_of(words.next());
-        let answered = number_of(answer.strip_prefix("num "));
-        match word {
-            Some("memb-alloc") => {
-                let at = number_among_all(pool, answered);
-                self.used.begin(stay_of(pid, at, at, row))
+    pub(crate) fn carry_out(
+        &mut self,
+        called: &Answered<'_>,
+        asked: &Asked<'_>,
+    ) -> Result<(), AllocError> {
+        match asked.name {
+            "memb-alloc" => {
+                let at = number_among_all(asked.first, number_in_reply(called.answer));
+                self.used.begin(stay_of(called.pid, at, at, called.row))
             }
-            Some("memb-free") => {
-                let at = number_among_all(pool, number_of(words.next()));
-                self.used.end_at(at, row)
+            "memb-free" => {
+                let at = number_among_all(asked.first, asked.second);
+                self.used.end_at(at, called.row)
             }
             _ => Ok(()),
         }
     }
 
     /// The same for a call on a list.
-    pub(crate) fn carry_out_on_list(&mut self, called: &Answered<'_>) -> Result<(), AllocError> {
-        let Answered {
-            pid,
-            call,
-            answer,
-            row,
-            ..
-        } = *called;
-        let mut words = call.split(' ');
-        let word = words.next().unwrap_or("");
-        let list = number_of(words.next());
-        let block = number_of(words.last());
-        let answered = number_of(answer.strip_prefix("num "));
-        match word {
-            "list-add" | "list-push" | "list-insert" => self.link(pid, list, block, row),
-            "list-remove" => self.unlink(list, block, row),
-            "list-pop" | "list-chop" => self.unlink(list, answered, row),
+    pub(crate) fn carry_out_on_list(
+        &mut self,
+        called: &Answered<'_>,
+        asked: &Asked<'_>,
+    ) -> Result<(), AllocError> {
+        let list = asked.first;
+        let at = number_among_all(list / 2, block_of(called.answer, asked.last));
+        match asked.name {
+            "list-add" | "list-push" | "list-insert" => {
+                self.link(stay_of(called.pid, list, at, called.row))
+            }
+            "list-remove" | "list-pop" | "list-chop" => self.linked.end_at(at, called.row),
             _ => Ok(()),
         }
     }
 
     /// A block is put into a list, or to another position of it.
-    fn link(&mut self, pid: usize, list: u64, block: u64, row: usize) -> Result<(), AllocError> {
-        let at = number_among_all(list / 2, block);
-        if self.linked.is_taken(at) {
+    fn link(&mut self, stay: Stay) -> Result<(), AllocError> {
+        if self.linked.is_taken(stay.at) {
             return Ok(());
         }
-        self.linked.begin(stay_of(pid, list, at, row))
-    }
-
-    /// A block is removed from a list.
-    fn unlink(&mut self, list: u64, block: u64, row: usize) -> Result<(), AllocError> {
-        let at = number_among_all(list / 2, block);
-        self.linked.end_at(at, row)
+        self.linked.begin(stay)
     }
 
     pub(crate) fn forget_rows(&mut self) {

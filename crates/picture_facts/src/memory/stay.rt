@@ -7,7 +7,7 @@ use std::alloc::{AllocError, Global};
 use std::marker::Model;
 
 /// A block at its position, from a row on.
-#[derive(Clone, Copy, Drop)]
+#[derive(Clone, Copy)]
 pub struct Stay {
     /// The process that it belongs to.
     pub pid: usize,

@@ -1,7 +1,7 @@
 //! The rows of a picture.
 
 /// What a row shows of its lines.
-#[derive(Clone, Copy, PartialEq, Eq, Drop)]
+#[derive(Clone, Copy, PartialEq, Eq)]
 pub enum Show {
     /// The first line, and after it what belongs to it: the end of its activation, or others who only wait too.
     Lines,
@@ -12,7 +12,7 @@ pub enum Show {
 }
 
 /// Consecutive lines of a transcript.
-#[derive(Clone, Copy, Drop)]
+#[derive(Clone, Copy)]
 pub struct Row {
     /// The number of the first one, from 0 on.
     pub first: usize,
