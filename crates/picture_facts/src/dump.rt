@@ -129,9 +129,14 @@ impl Walk {
 
 /// The changes at a line or before it, and the others.
 fn parted(changes: &[Change], line: usize) -> (&[Change], &[Change]) {
-    let later = changes.iter().position(|change| change.line > line);
-    let count = later.unwrap_or(changes.len()).min(changes.len());
-    changes.split_at(count)
+    let mut count: usize = 0;
+    for change in changes {
+        if change.line > line {
+            break;
+        }
+        count = count.saturating_add(1);
+    }
+    changes.split_at(count.min(changes.len()))
 }
 
 /// Walks over the lines in the dump.

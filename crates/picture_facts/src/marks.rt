@@ -85,25 +85,15 @@ pub struct Marks {
     pub is_quiet: bool,
 }
 
-impl Marks {
-    /// The marks of no lines.
-    fn none(alloc: Global, is_quiet: bool) -> Self {
-        Marks {
-            start: 0,
-            clocks: Vec::new(alloc),
-            answers: Vec::new(alloc),
-            lateness: Vec::new(alloc),
-            activations: Vec::new(alloc),
-            lives: Vec::new(alloc),
-            gifts: Vec::new(alloc),
-            curves: Vec::new(alloc),
-            armings: Vec::new(alloc),
-            stays: Stays::new(alloc),
-            tally: Tally::default(),
-            processes: 0,
-            is_quiet,
-        }
-    }
+/// What the lines so far show together, but for curves, armings and blocks.
+#[derive(Drop)]
+struct Gathered {
+    activations: Vec<Activation>,
+    lives: Vec<Life>,
+    gifts: Vec<Gift>,
+    tally: Tally,
+    processes: usize,
+    is_quiet: bool,
 }
 
 /// A frame that arrived; the next line says whether it is lost.
@@ -154,7 +144,7 @@ struct Walk {
     memory: Memory,
     arrived: Option<Arrived>,
     posts: Posts,
-    marks: Marks,
+    marks: Gathered,
 }
 
 impl Walk {
@@ -176,7 +166,14 @@ impl Walk {
             memory,
             arrived: None,
             posts: Posts::new(alloc),
-            marks: Marks::none(alloc, is_quiet),
+            marks: Gathered {
+                activations: Vec::new(alloc),
+                lives: Vec::new(alloc),
+                gifts: Vec::new(alloc),
+                tally: Tally::default(),
+                processes: 0,
+                is_quiet,
+            },
         })
     }
 
@@ -243,7 +240,10 @@ impl Walk {
         awaited: Awaited,
         clock: u64,
     ) -> Result<(), AllocError> {
-        let Some(asked) = lines.get(awaited.number).and_then(|line| read_turn(line)) else {
+        if awaited.number >= lines.len() {
+            return Ok(());
+        }
+        let Some(asked) = read_turn(lines[awaited.number]) else {
             return Ok(());
         };
         let called = Answered {
@@ -473,10 +473,8 @@ impl Walk {
         self.is_folded = matches!(row.show, Show::Again(_));
     }
 
-    /// What is still going on lasts to the end.
-    fn close(&mut self) -> Result<(), AllocError> {
-        self.rest()?;
-        self.hold_frame()?;
+    /// The processes that have not ended live on to the end.
+    fn close_lives(&mut self) -> Result<(), AllocError> {
         for (pid, process) in self.processes.iter().enumerate() {
             if let Some(first) = process.born {
                 let end = None;
@@ -486,28 +484,13 @@ impl Walk {
         Ok(())
     }
 
-    /// The result of the walk.
-    fn finish(mut self, alloc: Global) -> Result<Marks, AllocError>
-        ensures curves { IfOk result (λ marks. All IsToldLater marks.curves.items) }
-        ensures armings { IfOk result (λ marks. All ArmingEndsLater marks.armings.items) }
-        ensures stays { IfOk result (λ marks. AllEndLater marks.stays) }
-    {
-        self.close()?;
-        let Walk {
-            timers,
-            memory,
-            posts,
-            marks,
-            ..
-        } = self;
-        let armings = timers.finish()?;
-        let stays = memory.finish(alloc)?;
-        Ok(Marks {
-            curves: posts.finish(),
-            armings,
-            stays,
-            ..marks
-        })
+    /// What is still going on lasts to the end.
+    fn close(&mut self) -> Result<(), AllocError> {
+        self.rest()?;
+        self.hold_frame()?;
+        self.close_lives()?;
+        self.timers.close()?;
+        self.memory.close()
     }
 }
 
@@ -621,6 +604,57 @@ impl ClockedWalk {
     }
 }
 
+impl ClockedWalk {
+    /// The result of the walk, where the first row begins at a clock.
+    fn finish(self, alloc: Global, start: u64) -> Marks
+        ensures start { result.start ≡ start }
+        ensures clocks { result.clocks ≡ self.clocks }
+        ensures answers { result.answers ≡ self.answers }
+        ensures lateness { result.lateness ≡ self.lateness }
+        ensures curves { All IsToldLater result.curves.items }
+        ensures armings { All ArmingEndsLater result.armings.items }
+        ensures stays { AllEndLater result.stays }
+    {
+        let ClockedWalk {
+            walk,
+            clocks,
+            answers,
+            lateness,
+            ..
+        } = self;
+        let Walk {
+            timers,
+            memory,
+            posts,
+            marks,
+            ..
+        } = walk;
+        let Gathered {
+            activations,
+            lives,
+            gifts,
+            tally,
+            processes,
+            is_quiet,
+        } = marks;
+        Marks {
+            start,
+            clocks,
+            answers,
+            lateness,
+            activations,
+            lives,
+            gifts,
+            curves: posts.finish(),
+            armings: timers.finish(),
+            stays: memory.finish(alloc),
+            tally,
+            processes,
+            is_quiet,
+        }
+    }
+}
+
 /// Where the first row begins; all lines are before it where there is none.
 fn first_of(lines: &[&str], rows: &[Row]) -> usize
     ensures { result ≡ spec.first_of rows.now (length lines.now) }
@@ -660,19 +694,6 @@ pub fn marks_of(
     clocked.walk.forget_rows();
     let start = clocked.clock;
     clocked.take_rows(lines, rows)?;
-    let ClockedWalk {
-        walk,
-        clocks,
-        answers,
-        lateness,
-        ..
-    } = clocked;
-    let marks = walk.finish(alloc)?;
-    Ok(Marks {
-        start,
-        clocks,
-        answers,
-        lateness,
-        ..marks
-    })
+    clocked.walk.close()?;
+    Ok(clocked.finish(alloc, start))
 }

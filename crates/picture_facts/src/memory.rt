@@ -2,7 +2,6 @@
 //!
 //! Rows are those of a picture; the reader of the transcript says in which one something happens.
 
-ghost use Rattle.std.specs.Prelude.{IfOk};
 ghost use Rattle.picture_facts.specs.Spans.{AllEndLater};
 
 pub mod heap;
@@ -67,21 +66,6 @@ pub struct Stays {
     pub linked: Vec<Stay>,
 }
 
-impl Stays {
-    /// No block.
-    pub(crate) fn new(alloc: Global) -> Self {
-        Stays {
-            managed: Vec::new(alloc),
-            heap: Vec::new(alloc),
-            most: 0,
-            differs: None,
-            managed_differs: None,
-            used: Vec::new(alloc),
-            linked: Vec::new(alloc),
-        }
-    }
-}
-
 impl Memory {
     /// Memory without a block.
     ///
@@ -102,36 +86,12 @@ impl Memory {
         called: &Answered<'_>,
         asked: &Asked<'_>,
     ) -> Result<(), AllocError> {
-        let (part, _) = asked.name.split_once('-').unwrap_or((asked.name, ""));
-        match part {
-            "mmem" => self.managed.carry_out(called, asked),
-            "heap" => self.carry_out_on_heap(called, asked),
-            "memb" => self.pools.carry_out(called, asked),
-            "list" => self.pools.carry_out_on_list(called, asked),
-            "packet" => self.give_back(called, asked),
-            _ => Ok(()),
+        self.managed.carry_out(called, asked)?;
+        if let Some(heap) = &mut self.heap {
+            heap.carry_out(called, asked)?;
         }
-    }
-
-    /// The same for a call on the heap.
-    fn carry_out_on_heap(
-        &mut self,
-        called: &Answered<'_>,
-        asked: &Asked<'_>,
-    ) -> Result<(), AllocError> {
-        match &mut self.heap {
-            Some(heap) => heap.carry_out(called, asked),
-            None => Ok(()),
-        }
-    }
-
-    /// The same for a call on frames: where it is the one that does so, the front frame is released.
-    fn give_back(&mut self, called: &Answered<'_>, asked: &Asked<'_>) -> Result<(), AllocError> {
-        if asked.name == "packet-done" {
-            self.managed.give_back(called.row)
-        } else {
-            Ok(())
-        }
+        self.pools.carry_out(called, asked)?;
+        self.pools.carry_out_on_list(called, asked)
     }
 
     /// A call was refused, which changes nothing.
@@ -167,28 +127,38 @@ impl Memory {
         self.pools.forget_rows();
     }
 
+    /// What is there stays to the end.
+    pub(crate) fn close(&mut self) -> Result<(), AllocError> {
+        self.managed.close()?;
+        if let Some(heap) = &mut self.heap {
+            heap.close()?;
+        }
+        self.pools.close()
+    }
+
     /// The blocks that there were.
-    pub(crate) fn finish(self, alloc: Global) -> Result<Stays, AllocError>
-        ensures { IfOk result (λ stays. AllEndLater stays) }
+    pub(crate) fn finish(self, alloc: Global) -> Stays
+        ensures { AllEndLater result }
     {
-        let managed_differs = self.managed.differs;
-        let managed = self.managed.finish()?;
-        let (used, linked) = self.pools.finish()?;
-        let (heap, most, differs) = match self.heap {
-            Some(heap) => {
-                let (most, differs) = (heap.most, heap.differs);
-                (heap.finish()?, most, differs)
-            }
-            None => (Vec::new(alloc), 0, None),
-        };
-        Ok(Stays {
+        let Memory {
             managed,
+            heap,
+            pools,
+        } = self;
+        let managed_differs = managed.differs;
+        let (used, linked) = pools.finish();
+        let (most, differs, heap) = match heap {
+            Some(heap) => (heap.most, heap.differs, heap.finish()),
+            None => (0, None, Vec::new(alloc)),
+        };
+        Stays {
+            managed: managed.finish(),
             heap,
             most,
             differs,
             managed_differs,
             used,
             linked,
-        })
+        }
     }
 }

@@ -73,7 +73,7 @@ fn number_in(word: &str) -> Option<usize>
 }
 
 /// Whom a call posts an event to, and its code and what it carries. `None` where it posts nothing.
-fn posted_by(call: &str) -> Option<(Option<usize>, &str)>
+pub(crate) fn posted_by(call: &str) -> Option<(Option<usize>, &str)>
     ensures { IfSome result (λ posted. Posts call.now posted.0 posted.1.now) }
 {
     let (word, rest) = parted(call)?;

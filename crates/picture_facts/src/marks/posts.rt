@@ -3,6 +3,7 @@
 ghost use Rattle.std.specs.Prelude.{All};
 ghost use Rattle.picture_facts.specs.Spans.{IsToldLater};
 
+use crate::facts::waiting::posted_by;
 use crate::numbers::bit_of;
 use std::alloc::{AllocError, Global};
 use std::marker::Model;
@@ -38,19 +39,6 @@ pub struct Curve {
 pub(crate) struct Posts {
     posted: Vec<Posted>,
     curves: Vec<Curve>,
-}
-
-/// Whom a call posts an event to, and its code and what it carries; `None` where it posts nothing.
-fn posted_by(call: &str) -> Option<(Option<usize>, &str)> {
-    let (word, rest) = call.split_once(' ')?;
-    match word {
-        "broadcast" => Some((None, rest)),
-        "post" => {
-            let (to, event) = rest.split_once(' ')?;
-            Some((Some(to.parse::<usize>().unwrap_or(0)), event))
-        }
-        _ => None,
-    }
 }
 
 /// The code of the event that the call of a line posts, and what it carries.

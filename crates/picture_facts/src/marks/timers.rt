@@ -1,6 +1,6 @@
 //! Event timers and callback timers, each from the row where it is armed to the row where its event is received.
 
-ghost use Rattle.std.specs.Prelude.{◌≡◌, ◌%◌, nat_le, All, IfOk};
+ghost use Rattle.std.specs.Prelude.{◌≡◌, ◌%◌, nat_le, All};
 ghost use Rattle.picture_facts.specs.Spans.{ArmingEndsLater};
 
 use crate::numbers::{Asked, number_of};
@@ -188,13 +188,15 @@ impl Timers {
         let Some(timer) = timer_told(turn) else {
             return Ok(0);
         };
-        match self.cell(turn.pid, timer).map(|cell| *cell) {
-            Some(cell) if cell.is_armed && cell.due() <= clock => {
-                self.end(turn.pid, timer, row, Some(clock))?;
-                Ok(clock.saturating_sub(cell.due()))
-            }
-            _ => Ok(0),
+        let cell = match self.cell(turn.pid, timer) {
+            Some(cell) => *cell,
+            None => UNUSED,
+        };
+        if !cell.is_armed || cell.due() > clock {
+            return Ok(0);
         }
+        self.end(turn.pid, timer, row, Some(clock))?;
+        Ok(clock.saturating_sub(cell.due()))
     }
 
     /// A process ends in a row: none of its timers is armed any more.
@@ -211,30 +213,37 @@ impl Timers {
     }
 
     /// What is still armed stays so to the end.
-    pub(crate) fn finish(self) -> Result<Vec<Arming>, AllocError>
-        ensures { IfOk result (λ armings. All ArmingEndsLater armings.items) }
-    {
-        let Timers { cells, mut armings } = self;
-        let mut pid: usize = 0;
-        let mut timer: usize = 0;
-        for cell in cells.as_slice() {
-            if cell.is_armed {
-                armings.push(Arming {
-                    pid,
-                    timer,
-                    first: cell.row,
-                    last: None,
-                    due: cell.due(),
-                    told: None,
-                })?;
-            }
-            timer = timer.saturating_add(1);
-            if timer >= TIMERS {
-                timer = 0;
-                pid = pid.saturating_add(1);
-            }
+    pub(crate) fn close(&mut self) -> Result<(), AllocError> {
+        for place in 0..self.cells.len() {
+            self.close_cell(place)?;
         }
-        Ok(armings)
+        Ok(())
+    }
+
+    /// The same for the timer of that number among those of all processes.
+    fn close_cell(&mut self, place: usize) -> Result<(), AllocError> {
+        if place >= self.cells.len() {
+            return Ok(());
+        }
+        let cell = self.cells[place];
+        if cell.is_armed {
+            self.armings.push(Arming {
+                pid: place / TIMERS,
+                timer: place % TIMERS,
+                first: cell.row,
+                last: None,
+                due: cell.due(),
+                told: None,
+            })?;
+        }
+        Ok(())
+    }
+
+    /// The armings that ended, and those that `close` found.
+    pub(crate) fn finish(self) -> Vec<Arming>
+        ensures { All ArmingEndsLater result.items }
+    {
+        self.armings
     }
 }
 

@@ -1,6 +1,6 @@
 //! The map of the heap: where its blocks are, by a heap in which the accepted calls of the transcript are executed.
 
-ghost use Rattle.std.specs.Prelude.{◌≡◌, All, IfOk, IfSome};
+ghost use Rattle.std.specs.Prelude.{◌≡◌, All, IfSome};
 ghost use Rattle.mote_types.specs.Conditions.{IsName};
 ghost use Rattle.heap_core.specs.Conditions.{IsHeaderLength};
 ghost use Rattle.picture_facts.specs.Spans.{StayEndsLater};
@@ -160,8 +160,12 @@ impl HeapMap {
         self.most = self.record.live().len();
     }
 
-    pub(crate) fn finish(self) -> Result<Vec<Stay>, AllocError>
-        ensures { IfOk result (λ stays. All StayEndsLater stays.items) }
+    pub(crate) fn close(&mut self) -> Result<(), AllocError> {
+        self.record.close()
+    }
+
+    pub(crate) fn finish(self) -> Vec<Stay>
+        ensures { All StayEndsLater result.items }
     {
         self.record.finish()
     }

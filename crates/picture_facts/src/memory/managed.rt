@@ -1,7 +1,7 @@
 //! Managed memory: lengths one after the other. No call shows where the blocks are in the region, so those after a freed one are
 //! shown as closing up at once.
 
-ghost use Rattle.std.specs.Prelude.{All, IfOk};
+ghost use Rattle.std.specs.Prelude.{All};
 ghost use Rattle.picture_facts.specs.Spans.{StayEndsLater};
 
 use crate::memory::Answered;
@@ -96,6 +96,7 @@ impl Managed {
                 self.compare(free == self.free_for(pid), line);
                 Ok(())
             }
+            "packet-done" => self.give_back(row),
             _ => Ok(()),
         }
     }
@@ -174,13 +175,8 @@ impl Managed {
     }
 
     /// The front frame is released.
-    pub(crate) fn give_back(&mut self, row: usize) -> Result<(), AllocError> {
-        let front = self
-            .record
-            .live()
-            .iter()
-            .position(|stay| stay.pid == FRAMES);
-        match front {
+    fn give_back(&mut self, row: usize) -> Result<(), AllocError> {
+        match self.record.first_of(FRAMES) {
             Some(place) => self.take_away(place, row),
             None => Ok(()),
         }
@@ -190,8 +186,12 @@ impl Managed {
         self.record.forget_rows();
     }
 
-    pub(crate) fn finish(self) -> Result<Vec<Stay>, AllocError>
-        ensures { IfOk result (λ stays. All StayEndsLater stays.items) }
+    pub(crate) fn close(&mut self) -> Result<(), AllocError> {
+        self.record.close()
+    }
+
+    pub(crate) fn finish(self) -> Vec<Stay>
+        ensures { All StayEndsLater result.items }
     {
         self.record.finish()
     }

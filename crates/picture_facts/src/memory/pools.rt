@@ -1,6 +1,6 @@
 //! Pools and their lists: which blocks are used, and which of these are in a list.
 
-ghost use Rattle.std.specs.Prelude.{All, IfOk};
+ghost use Rattle.std.specs.Prelude.{All};
 ghost use Rattle.picture_facts.specs.Spans.{StayEndsLater};
 
 use crate::memory::Answered;
@@ -91,7 +91,7 @@ impl Pools {
 
     /// A block is put into a list, or to another position of it.
     fn link(&mut self, stay: Stay) -> Result<(), AllocError> {
-        if self.linked.is_taken(stay.at) {
+        if self.linked.find_at(stay.at).is_some() {
             return Ok(());
         }
         self.linked.begin(stay)
@@ -102,12 +102,15 @@ impl Pools {
         self.linked.forget_rows();
     }
 
+    pub(crate) fn close(&mut self) -> Result<(), AllocError> {
+        self.used.close()?;
+        self.linked.close()
+    }
+
     /// The stays of the blocks that were used, and of those that were in a list.
-    pub(crate) fn finish(self) -> Result<(Vec<Stay>, Vec<Stay>), AllocError>
-        ensures { IfOk result (λ stays. All StayEndsLater stays.0.items × All StayEndsLater stays.1.items) }
+    pub(crate) fn finish(self) -> (Vec<Stay>, Vec<Stay>)
+        ensures { All StayEndsLater result.0.items × All StayEndsLater result.1.items }
     {
-        let used = self.used.finish()?;
-        let linked = self.linked.finish()?;
-        Ok((used, linked))
+        (self.used.finish(), self.linked.finish())
     }
 }

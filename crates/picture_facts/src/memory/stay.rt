@@ -1,6 +1,6 @@
 //! Blocks at their positions.
 
-ghost use Rattle.std.specs.Prelude.{◌≡◌, All, IfOk};
+ghost use Rattle.std.specs.Prelude.{◌≡◌, All};
 ghost use Rattle.picture_facts.specs.Spans.{StayEndsLater};
 
 use std::alloc::{AllocError, Global};
@@ -60,14 +60,33 @@ impl Record {
 
     /// The index of a block in the list of those that have a position.
     pub(crate) fn find(&self, pid: usize, name: u64) -> Option<usize> {
-        self.live
-            .iter()
-            .position(|stay| stay.pid == pid && stay.name == name)
+        for place in 0..self.live.len() {
+            let stay = self.live[place];
+            if stay.pid == pid && stay.name == name {
+                return Some(place);
+            }
+        }
+        None
     }
 
-    /// Whether a block is at a position.
-    pub(crate) fn is_taken(&self, at: u64) -> bool {
-        self.live.iter().any(|stay| stay.at == at)
+    /// The index of the first block of a process.
+    pub(crate) fn first_of(&self, pid: usize) -> Option<usize> {
+        for place in 0..self.live.len() {
+            if self.live[place].pid == pid {
+                return Some(place);
+            }
+        }
+        None
+    }
+
+    /// The index of the block at a position.
+    pub(crate) fn find_at(&self, at: u64) -> Option<usize> {
+        for place in 0..self.live.len() {
+            if self.live[place].at == at {
+                return Some(place);
+            }
+        }
+        None
     }
 
     /// A block's stay begins.
@@ -95,7 +114,7 @@ impl Record {
 
     /// The same for the block that begins at a position.
     pub(crate) fn end_at(&mut self, at: u64, row: usize) -> Result<(), AllocError> {
-        let place = self.live.iter().position(|stay| stay.at == at);
+        let place = self.find_at(at);
         self.end_of(place, row)
     }
 
@@ -146,17 +165,28 @@ impl Record {
         }
     }
 
-    /// All stays.
-    pub(crate) fn finish(self) -> Result<Vec<Stay>, AllocError>
-        ensures { IfOk result (λ stays. All StayEndsLater stays.items) }
-    {
-        let Record { live, mut ended } = self;
-        for place in 0..live.len() {
-            ended.push(Stay {
-                last: None,
-                ..live[place]
-            })?;
+    /// What has not ended stays so to the end.
+    pub(crate) fn close(&mut self) -> Result<(), AllocError> {
+        for place in 0..self.live.len() {
+            self.keep_open(place)?;
         }
-        Ok(ended)
+        Ok(())
+    }
+
+    /// The same for the block at that index in the list.
+    fn keep_open(&mut self, place: usize) -> Result<(), AllocError> {
+        if place >= self.live.len() {
+            return Ok(());
+        }
+        let stay = self.live[place];
+        self.ended.push(Stay { last: None, ..stay })?;
+        Ok(())
+    }
+
+    /// The stays that ended, and those that `close` found.
+    pub(crate) fn finish(self) -> Vec<Stay>
+        ensures { All StayEndsLater result.items }
+    {
+        self.ended
     }
 }

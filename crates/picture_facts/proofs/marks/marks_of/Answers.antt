@@ -5,8 +5,9 @@ use Rattle.picture_facts.proofs.RowClocks.{told_at}
 use Rattle.picture_facts.proofs.marks.marks_of.Goals as goal
 
 pub returns-clause-clocks : goal.returns-clause-clocks
-returns-clause-clocks c =
+returns-clause-clocks c = λ first end covered.
     let lines = bytes_of c.args.lines.now in
-    told_at lines c.args.rows.now (length c.args.lines.now) _ _ _
+    ap (λ clocks. clocks.items) c.finish.ensures.clocks
+    ∙ told_at lines c.args.rows.now (length c.args.lines.now) _ _ _
     (c.in_ok-take_lines.ensures.clock refl ∙ ap (λ line. clock_after (take line lines)) c.first_of.ensures)
-    (ap (λ clocks. clocks.items) c.in_ok-take_lines.ensures.clocks ∙ c.new-2.ensures.items) c.in_ok-take_rows.ensures.clocks
+    (ap (λ clocks. clocks.items) c.in_ok-take_lines.ensures.clocks ∙ c.new-2.ensures.items) c.in_ok-take_rows.ensures.clocks first end covered
