@@ -605,6 +605,27 @@ impl ClockedWalk {
 }
 
 impl ClockedWalk {
+    /// The lines before the first row, and all rows. Returns the clock at which the first row begins.
+    fn take_all(&mut self, lines: &[&str], rows: &[Row]) -> Result<u64, AllocError>
+        requires clock { self.old.clock ≡ 0 }
+        requires clocks { self.old.clocks.items ≡ [] }
+        requires answers { self.old.answers.items ≡ [] }
+        requires lateness { self.old.lateness.items ≡ [] }
+        ensures start { IfOk result
+            (λ start. start ≡ clock_after (take (spec.first_of rows.now (length lines.now)) (bytes_of lines.now))) }
+        ensures clocks { IfOk result (λ _. (first end : ℕ) → Cover first rows.now end
+            → self.new.clocks.items ≡ map (row_clock (bytes_of lines.now)) rows.now) }
+        ensures answers { IfOk result (λ _. length self.new.answers.items ≡ length rows.now) }
+        ensures lateness { IfOk result (λ _. length self.new.lateness.items ≡ length rows.now) }
+    {
+        self.take_lines(lines, 0, 0, first_of(lines, rows))?;
+        self.walk.forget_rows();
+        let start = self.clock;
+        self.take_rows(lines, rows)?;
+        self.walk.close()?;
+        Ok(start)
+    }
+
     /// The result of the walk, where the first row begins at a clock.
     fn finish(self, alloc: Global, start: u64) -> Marks
         ensures start { result.start ≡ start }
@@ -690,10 +711,6 @@ pub fn marks_of(
         answers: Vec::new(alloc),
         lateness: Vec::new(alloc),
     };
-    clocked.take_lines(lines, 0, 0, first_of(lines, rows))?;
-    clocked.walk.forget_rows();
-    let start = clocked.clock;
-    clocked.take_rows(lines, rows)?;
-    clocked.walk.close()?;
+    let start = clocked.take_all(lines, rows)?;
     Ok(clocked.finish(alloc, start))
 }

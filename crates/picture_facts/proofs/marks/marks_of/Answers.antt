@@ -1,13 +1,6 @@
-use Rattle.std.proofs.Common.{◌∙◌, length, take, refl, ap}
-use Rattle.picture_facts.specs.Clocks.{clock_after}
-use Rattle.picture_facts.specs.Rows.{bytes_of}
-use Rattle.picture_facts.proofs.RowClocks.{told_at}
+use Rattle.std.proofs.Common.{◌∙◌, ap}
 use Rattle.picture_facts.proofs.marks.marks_of.Goals as goal
 
 pub returns-clause-clocks : goal.returns-clause-clocks
 returns-clause-clocks c = λ first end covered.
-    let lines = bytes_of c.args.lines.now in
-    ap (λ clocks. clocks.items) c.finish.ensures.clocks
-    ∙ told_at lines c.args.rows.now (length c.args.lines.now) _ _ _
-    (c.in_ok-take_lines.ensures.clock refl ∙ ap (λ line. clock_after (take line lines)) c.first_of.ensures)
-    (ap (λ clocks. clocks.items) c.in_ok-take_lines.ensures.clocks ∙ c.new-2.ensures.items) c.in_ok-take_rows.ensures.clocks first end covered
+    ap (λ clocks. clocks.items) c.finish.ensures.clocks ∙ c.in_ok-start.ensures.clocks first end covered
