@@ -1,1 +1,6 @@
 pub mod Asking
+pub mod Booting
+pub mod Cutting
+pub mod Examples
+pub mod Linking
+pub mod ShortLines

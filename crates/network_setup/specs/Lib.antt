@@ -1,3 +1,8 @@
 pub mod MoteApps
 pub mod Setting
+pub mod Shapes
+pub mod SetupView
+pub mod Lines
 pub mod SetUpRuns
+-- What the code keeps.
+pub mod Code

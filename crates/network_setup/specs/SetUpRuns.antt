@@ -1,26 +1,33 @@
 -- The run of a network that was set up.
 use Rattle.std.specs.Prelude.{◌≡◌, ℕ, Bool, List, [], None, Result, Ok, Err}
+use Rattle.kernel_core.specs.declared.config.Config.{Config}
 use Rattle.medium_core.specs.Air.{still_air}
-use Rattle.medium_core.specs.Code.Airs.{link_lists}
 use Rattle.mote_text.specs.declared.script.End.{End}
+use Rattle.network_setup.specs.SetupView.{HaveJustBooted, SetupView, config_of}
 use Rattle.network_setup.specs.declared.fault.SetUpRunFault.{SetUpRunFault}
-use Rattle.network_setup.specs.declared.setup.Setup.{Setup}
 use Rattle.network_run.specs.NetworkRunText.{HasRun}
 use Rattle.mote_session.specs.Voices.{Voices}
 use Rattle.network_session.specs.Network.{NetworkView}
+use Rattle.network_session.specs.Promise.{IsLogOf}
 use Rattle.network_text.specs.declared.input.NetworkInput.{NetworkInput}
 
 -- the network of these motes and links, before anything has happened
-abbrev pub start_of : Setup → NetworkView
+abbrev pub start_of : SetupView → NetworkView
 start_of setup = record {
-  motes = setup.motes.items;
-  air = still_air setup.room (link_lists setup.links.items);
+  motes = setup.motes;
+  air = still_air setup.room setup.links;
   active = None;
   started = 0;
   target = 0;
   bound = setup.rounds;
   rounds = setup.rounds;
 }
+
+-- it has just booted: nothing is the log of what happened in it. So what happens in its run keeps the promise of a network
+pub record HasBooted (setup : SetupView) : Type 0 where
+  pub configs : List Config
+  pub motes : HaveJustBooted configs setup.motes
+  pub log : IsLogOf (config_of configs) setup.room setup.links [] (start_of setup)
 
 -- how the run ended: where there is a network, as its run promises
 abbrev pub HasRunSetUp : Bool → NetworkView → Voices → List NetworkInput × End → List ℕ → Result End SetUpRunFault → Type 0

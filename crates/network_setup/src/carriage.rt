@@ -1,10 +1,11 @@
 //! How links carry frames: the end of a line that makes links.
 
-ghost use Rattle.std.specs.Prelude.{◌≡◌};
-ghost use Rattle.network_setup.specs.Setting.{next_loss};
+ghost use Rattle.std.specs.Prelude.{◌≡◌, map};
+ghost use Rattle.network_setup.specs.Lines.{carriage_said, every_said, loss_said, lot_said};
+ghost use Rattle.network_setup.specs.Setting.{next_carriage};
 
-use crate::words::{has_word_at, number_at};
 use medium_core::link::Loss;
+use mote_text::script::read_number;
 
 /// The delay of links in ticks, and which frames they lose.
 #[derive(Clone, Copy, Drop)]
@@ -13,44 +14,65 @@ pub(crate) struct Carriage {
     pub(crate) loss: Loss,
 }
 
-/// The loss from this position to the end of the line: nothing, `every N`, or `lot N seed N`.
-fn loss_from(words: &[&str], at: usize) -> Option<Loss> {
-    let rest = words.len().saturating_sub(at);
-    if rest == 0 {
-        return Some(Loss::Never);
+/// `every N`.
+fn read_every(word: &str, number: &str) -> Option<Loss>
+    ensures { result ≡ every_said word.now number.now }
+{
+    if word != "every" {
+        return None;
     }
-    let number = number_at(words, at.saturating_add(1))?;
-    if rest == 2 && has_word_at(words, at, "every") {
-        return Some(Loss::every_nth(number));
+    let number = read_number(number.as_bytes())?;
+    Some(Loss::every_nth(number))
+}
+
+/// `lot N seed N`.
+fn read_lot(word: &str, chance: &str, label: &str, seed: &str) -> Option<Loss>
+    ensures { result ≡ lot_said word.now chance.now label.now seed.now }
+{
+    if word != "lot" || label != "seed" {
+        return None;
     }
-    if rest == 4
-        && has_word_at(words, at, "lot")
-        && has_word_at(words, at.saturating_add(2), "seed")
-    {
-        let seed = number_at(words, at.saturating_add(3))?;
-        return Some(Loss::ByLot {
-            chance: number,
-            drawn: seed as u64,
-        });
+    let chance = read_number(chance.as_bytes())?;
+    let seed = read_number(seed.as_bytes())?;
+    Some(Loss::ByLot {
+        chance,
+        drawn: seed as u64,
+    })
+}
+
+/// The end of a line: nothing, `every N`, or `lot N seed N`.
+fn read_loss(words: &[&str]) -> Option<Loss>
+    ensures { result ≡ loss_said (map (λ word. word.now) words.now) }
+{
+    match words {
+        [] => Some(Loss::Never),
+        [word, number] => read_every(word, number),
+        [word, chance, label, seed] => read_lot(word, chance, label, seed),
+        _ => None,
     }
-    None
 }
 
 impl Carriage {
-    /// What the line says from this position on: `delay N`, and a loss.
-    pub(crate) fn from_words(words: &[&str], at: usize) -> Option<Self> {
-        if !has_word_at(words, at, "delay") {
-            return None;
+    /// The end of a line: `delay N`, and which frames are lost.
+    pub(crate) fn from_words(words: &[&str]) -> Option<Self>
+        ensures { result ≡ carriage_said (map (λ word. word.now) words.now) }
+    {
+        match words {
+            [word, delay, rule @ ..] => {
+                if *word != "delay" {
+                    return None;
+                }
+                let delay = read_number(delay.as_bytes())?;
+                let loss = read_loss(rule)?;
+                Some(Carriage { delay, loss })
+            }
+            _ => None,
         }
-        let delay = number_at(words, at.saturating_add(1))?;
-        let loss = loss_from(words, at.saturating_add(2))?;
-        Some(Carriage { delay, loss })
     }
 
     /// The same for the line's next link: a lot has the next seed.
     pub(crate) fn next(self) -> Self
-        ensures delay { result.delay ≡ self.delay }
-        ensures loss { result.loss ≡ next_loss self.loss }
+        ensures { result ≡ next_carriage self }
     {
         let loss = match self.loss {
             Loss::Never => Loss::Never,

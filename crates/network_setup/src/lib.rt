@@ -7,8 +7,10 @@
 mod applications;
 mod carriage;
 pub mod fault;
+mod links;
 mod mote_app;
 pub mod run;
 pub mod script;
 pub mod setup;
+mod shape;
 mod words;

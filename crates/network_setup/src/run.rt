@@ -3,7 +3,7 @@
 ghost use Rattle.std.specs.Prelude.{◌≡◌, ◌≤◌, ◌<◌, ◌+◌, ◌-◌, ◌^◌, ◌||◌, ◌==◌, length, slice_index, IfOk};
 ghost use Rattle.network_run.specs.NetworkRunText.{Gives, script_lines};
 ghost use Rattle.network_setup.specs.MoteApps.{voices_of};
-ghost use Rattle.network_setup.specs.SetUpRuns.{HasRunSetUp, start_of};
+ghost use Rattle.network_setup.specs.SetUpRuns.{HasBooted, HasRunSetUp, start_of};
 ghost use Rattle.network_text.specs.NetworkScript.{read_network_lines};
 
 use crate::applications::Applications;
@@ -73,8 +73,10 @@ pub fn run_setup<K: ByteSink>(
     requires numbers { inputs.first + length inputs.script.now < 2 ^ 32 }
     requires countable { K.failure_count sink.old < 2 ^ 64 - 1 }
     ensures ran { K.is_named → Gives (K.given sink.old) (K.given sink.new) (λ written. HasRunSetUp quiet (start_of setup)
-        (voices_of setup.applications.items) (read_network_lines (length setup.motes.items) inputs.entry.first (script_lines inputs.entry.script.now)) written result) }
+        (voices_of setup.applications) (read_network_lines (length setup.motes) inputs.entry.first (script_lines inputs.entry.script.now)) written result) }
+    ensures booted { HasBooted setup }
 {
+    setup.has_booted();
     let Setup {
         motes,
         applications,

@@ -1,19 +1,26 @@
 //! The motes and links of a network, as the first lines of its script say them.
 
-ghost use Rattle.std.specs.Prelude.{◌≡◌, ◌≢◌, ◌≤◌, true, false, length, IfOk, IsErrOf};
-ghost use Rattle.network_setup.specs.Setting.{is_fit};
-ghost use Rattle.network_setup.specs.declared.fault.LineFault.{LineFault};
+ghost use Rattle.std.specs.Prelude.{◌≡◌, IfOk, None, OnErr, codes, map};
+ghost use Rattle.mote_text.specs.Script.{argument_of};
+ghost use Rattle.network_setup.specs.Code.Booting.{HasOneMore, IsAdded};
+ghost use Rattle.network_setup.specs.Lines.{line_said, with_links_said, with_room, with_rounds, words_of, words_said};
+ghost use Rattle.network_setup.specs.SetUpRuns.{HasBooted};
+ghost use Rattle.network_setup.specs.SetupView.{empty_setup};
+ghost use Rattle.network_setup.specs.Setting.{Does};
 
 use crate::carriage::Carriage;
 use crate::fault::LineFault;
+use crate::links::add_shape;
 use crate::mote_app::MoteApp;
-use crate::words::{Span, has_word_at, number_at, read_span, span_at, split_words};
+use crate::shape::{Shape, read_links};
+use crate::words::{Span, only_number, read_span, split_words};
 use kernel_core::config::Config;
 use medium_core::link::Link;
 use mote_session::session::Session;
 use mote_text::script::read_number;
 use mote_types::fault::BootFault;
 use std::alloc::Global;
+use std::marker::Model;
 
 /// A mote without options.
 const DEFAULT: Config = Config {
@@ -42,6 +49,23 @@ pub struct Setup {
     pub links: Vec<Vec<Link>>,
     pub room: u32,
     pub rounds: u32,
+}
+
+impl Model for Setup {
+    ghost use Rattle.medium_core.specs.Code.Airs.{link_lists};
+    ghost use Rattle.network_setup.specs.SetupView.{AreBooted, SetupView};
+
+    ghost Value = { SetupView };
+
+    ghost view = { λ s. record {
+      motes = s.motes.items;
+      applications = s.applications.items;
+      links = link_lists s.links.items;
+      room = s.room;
+      rounds = s.rounds;
+    } };
+
+    ghost invariant = { λ s. AreBooted s.motes.items };
 }
 
 /// Sets the size of this name.
@@ -144,9 +168,27 @@ fn read_mote(
     Ok((config, applications))
 }
 
+/// Boots one more mote.
+fn boot_mote(alloc: Global, motes: &mut Vec<Session>, config: Config) -> Result<(), LineFault>
+    ensures added { IfOk result (λ _. IsAdded config motes.old.items motes.new.items) }
+    ensures err { OnErr result (motes.new.items ≡ motes.old.items) }
+{
+    let mote = match Session::boot(alloc, config) {
+        Ok(mote) => mote,
+        Err(BootFault::BadSizes) => return Err(LineFault::Malformed),
+        Err(BootFault::Memory) => return Err(LineFault::Memory),
+    };
+    match motes.push(mote) {
+        Ok(()) => Ok(()),
+        Err(_) => Err(LineFault::Memory),
+    }
+}
+
 impl Setup {
     /// No motes.
-    pub fn new(alloc: Global) -> Self {
+    pub fn new(alloc: Global) -> Self
+        ensures { result ≡ empty_setup }
+    {
         Setup {
             motes: Vec::new(alloc),
             applications: Vec::new(alloc),
@@ -157,18 +199,37 @@ impl Setup {
     }
 
     /// Does what a line says before the first input.
-    pub fn take_line(&mut self, alloc: Global, line: &str) -> Result<(), LineFault> {
+    pub fn take_line(&mut self, alloc: Global, line: &str) -> Result<(), LineFault>
+        ensures { argument_of (codes "mote ") line.now ≡ None → Does result (line_said (words_of line.now) self.old) self.new }
+    {
         if let Some(text) = line.strip_prefix("mote ") {
             return self.add_motes(alloc, text);
         }
         let words = split_words(alloc, line)?;
-        let words = words.as_slice();
-        if has_word_at(words, 0, "link") {
-            self.add_one_link(words)
-        } else if has_word_at(words, 0, "room") || has_word_at(words, 0, "rounds") {
-            self.set_number(words)
-        } else {
-            self.add_shape(words)
+        match words.as_slice() {
+            [word, rest @ ..] => self.take_words(word, rest),
+            [] => Err(LineFault::Malformed),
+        }
+    }
+
+    /// Does what the words of a line say of links, of the room, or of rounds.
+    fn take_words(&mut self, word: &str, rest: &[&str]) -> Result<(), LineFault>
+        ensures { Does result (words_said word.now (map (λ word. word.now) rest.now) self.old) self.new }
+    {
+        match word {
+            "room" => self.set_room(only_number(rest)),
+            "rounds" => self.set_rounds(only_number(rest)),
+            _ => self.add_links(read_links(word, rest)),
+        }
+    }
+
+    /// Adds the links that a line says.
+    fn add_links(&mut self, said: Option<(Shape, Carriage)>) -> Result<(), LineFault>
+        ensures { Does result (with_links_said said self.old) self.new }
+    {
+        match said {
+            Some((shape, carriage)) => add_shape(self.links.as_mut_slice(), shape, carriage),
+            None => Err(LineFault::Malformed),
         }
     }
 
@@ -191,177 +252,48 @@ impl Setup {
         alloc: Global,
         config: Config,
         applications: Vec<MoteApp>,
-    ) -> Result<(), LineFault> {
-        let mote = match Session::boot(alloc, config) {
-            Ok(mote) => mote,
-            Err(BootFault::BadSizes) => return Err(LineFault::Malformed),
-            Err(BootFault::Memory) => return Err(LineFault::Memory),
-        };
-        let is_added = self.motes.push(mote).is_ok()
-            && self.applications.push(applications).is_ok()
-            && self.links.push(Vec::new(alloc)).is_ok();
-        if is_added {
-            Ok(())
-        } else {
-            Err(LineFault::Memory)
-        }
-    }
-
-    /// Adds a link between two motes that there are.
-    fn add_link(&mut self, from: u32, to: u32, carriage: Carriage) -> Result<(), LineFault>
-        ensures sound { IfOk result (λ _. is_fit (length self.old.links.items) from to carriage ≡ true) }
-        ensures malformed { IsErrOf result LineFault.Malformed → is_fit (length self.old.links.items) from to carriage ≡ false }
+    ) -> Result<(), LineFault>
+        ensures { IfOk result (λ _. HasOneMore config applications self.old self.new) }
     {
-        let (from, to) = (from as usize, to as usize);
-        if from == 0 || from > self.links.len() || to == 0 || to > self.links.len() {
-            return Err(LineFault::Malformed);
-        }
-        let link = Link::new(to - 1, carriage.delay, carriage.loss);
-        if !link.is_sound() {
-            return Err(LineFault::Malformed);
-        }
-        match self.links[from - 1].push(link) {
-            Ok(()) => Ok(()),
-            Err(_) => Err(LineFault::Memory),
-        }
-    }
-
-    /// Adds links both ways.
-    fn add_pair(&mut self, a: u32, b: u32, carriage: &mut Carriage) -> Result<(), LineFault> {
-        self.add_link(a, b, *carriage)?;
-        *carriage = carriage.next();
-        self.add_link(b, a, *carriage)?;
-        *carriage = carriage.next();
-        Ok(())
-    }
-
-    /// `link N N delay N ..`
-    fn add_one_link(&mut self, words: &[&str]) -> Result<(), LineFault> {
-        match (
-            number_at(words, 1),
-            number_at(words, 2),
-            Carriage::from_words(words, 3),
-        ) {
-            (Some(from), Some(to), Some(carriage)) => self.add_link(from, to, carriage),
-            _ => Err(LineFault::Malformed),
-        }
-    }
-
-    /// `line`, `ring`, `mesh` or `grid` of these motes, which are linked both ways.
-    fn add_shape(&mut self, words: &[&str]) -> Result<(), LineFault> {
-        if has_word_at(words, 0, "grid") {
-            return self.add_grid_of(words);
-        }
-        let (Some(span), Some(mut carriage)) = (span_at(words, 1), Carriage::from_words(words, 2))
-        else {
-            return Err(LineFault::Malformed);
-        };
-        if has_word_at(words, 0, "line") {
-            self.add_line(span, &mut carriage)
-        } else if has_word_at(words, 0, "ring") {
-            self.add_ring(span, &mut carriage)
-        } else if has_word_at(words, 0, "mesh") {
-            self.add_mesh(span, &mut carriage)
-        } else {
-            Err(LineFault::Malformed)
-        }
-    }
-
-    /// Links each mote and the next one.
-    fn add_line(&mut self, span: Span, carriage: &mut Carriage) -> Result<(), LineFault> {
-        self.test_span(span)?;
-        for a in span.first..span.last {
-            self.add_pair(a, a.saturating_add(1), carriage)?;
+        boot_mote(alloc, &mut self.motes, config)?;
+        if self.applications.push(applications).is_err()
+            || self.links.push(Vec::new(alloc)).is_err()
+        {
+            return Err(LineFault::Memory);
         }
         Ok(())
     }
 
-    /// Links each mote and the next one, and the last and the first.
-    fn add_ring(&mut self, span: Span, carriage: &mut Carriage) -> Result<(), LineFault> {
-        if span.last.saturating_sub(span.first) < 2 {
-            return Err(LineFault::Malformed);
-        }
-        self.add_line(span, carriage)?;
-        self.add_pair(span.last, span.first, carriage)
-    }
-
-    /// Links each two motes.
-    fn add_mesh(&mut self, span: Span, carriage: &mut Carriage) -> Result<(), LineFault> {
-        self.test_span(span)?;
-        for a in span.first..span.last {
-            self.add_pairs(a, span.last, carriage)?;
-        }
-        Ok(())
-    }
-
-    /// Links a mote and each one after it.
-    fn add_pairs(&mut self, a: u32, last: u32, carriage: &mut Carriage) -> Result<(), LineFault> {
-        for b in a.saturating_add(1)..=last {
-            self.add_pair(a, b, carriage)?;
-        }
-        Ok(())
-    }
-
-    /// `grid N..M width N delay N ..`
-    fn add_grid_of(&mut self, words: &[&str]) -> Result<(), LineFault> {
-        if !has_word_at(words, 2, "width") {
-            return Err(LineFault::Malformed);
-        }
-        match (
-            span_at(words, 1),
-            number_at(words, 3),
-            Carriage::from_words(words, 4),
-        ) {
-            (Some(span), Some(width), Some(mut carriage)) if width > 0 => {
-                self.test_span(span)?;
-                self.add_grid(span, width, &mut carriage)
-            }
-            _ => Err(LineFault::Malformed),
-        }
-    }
-
-    /// Links each mote with its neighbours in a grid: rows of `width` motes.
-    fn add_grid(&mut self, span: Span, width: u32, carriage: &mut Carriage) -> Result<(), LineFault>
-        requires { width ≢ 0 }
+    /// Sets the number of frames that can be in flight.
+    fn set_room(&mut self, room: Option<u32>) -> Result<(), LineFault>
+        ensures { Does result (with_room room self.old) self.new }
     {
-        for a in span.first..=span.last {
-            let column = a.saturating_sub(span.first) % width;
-            let is_last_column = column == width - 1;
-            if !is_last_column && a < span.last {
-                self.add_pair(a, a.saturating_add(1), carriage)?;
-            }
-            if let Some(below) = a.checked_add(width) {
-                if below <= span.last {
-                    self.add_pair(a, below, carriage)?;
-                }
-            }
-        }
-        Ok(())
-    }
-
-    /// Refuses motes that there aren't.
-    fn test_span(&self, span: Span) -> Result<(), LineFault>
-        ensures { IfOk result (λ _. span.last ≤ length self.now.motes.items) }
-    {
-        if span.last as usize <= self.motes.len() {
-            Ok(())
-        } else {
-            Err(LineFault::Malformed)
-        }
-    }
-
-    /// `room N` or `rounds N`.
-    fn set_number(&mut self, words: &[&str]) -> Result<(), LineFault> {
-        match number_at(words, 1) {
-            Some(number) if words.len() == 2 => {
-                if has_word_at(words, 0, "room") {
-                    self.room = number;
-                } else {
-                    self.rounds = number;
-                }
+        match room {
+            Some(room) => {
+                self.room = room;
                 Ok(())
             }
-            _ => Err(LineFault::Malformed),
+            None => Err(LineFault::Malformed),
         }
+    }
+
+    /// Sets the number of rounds that an input can take.
+    fn set_rounds(&mut self, rounds: Option<u32>) -> Result<(), LineFault>
+        ensures { Does result (with_rounds rounds self.old) self.new }
+    {
+        match rounds {
+            Some(rounds) => {
+                self.rounds = rounds;
+                Ok(())
+            }
+            None => Err(LineFault::Malformed),
+        }
+    }
+
+    /// Shows that the motes have just booted.
+    pub(crate) fn has_booted(&self)
+        ensures { HasBooted self.now }
+    {
+        let _ = &self.motes;
     }
 }

@@ -1,7 +1,8 @@
 //! The words of a line, and the numbers among them.
 
-ghost use Rattle.std.specs.Prelude.{◌≡◌, ◌≤◌, IfNone, IfSome, None, false, slice_get};
-ghost use Rattle.mote_text.specs.Script.{read_number};
+ghost use Rattle.std.specs.Prelude.{◌≡◌, ◌≤◌, IfErr, IfOk, IfSome, map};
+ghost use Rattle.network_setup.specs.Lines.{number_said, span_of, span_said, words_of};
+ghost use Rattle.network_setup.specs.declared.fault.LineFault.{LineFault};
 
 use crate::fault::LineFault;
 use mote_text::script::read_number;
@@ -17,7 +18,10 @@ pub(crate) struct Span {
 }
 
 /// The words of a line, which single spaces part.
-pub(crate) fn split_words<'a>(alloc: Global, line: &'a str) -> Result<Vec<&'a str>, LineFault> {
+pub(crate) fn split_words<'a>(alloc: Global, line: &'a str) -> Result<Vec<&'a str>, LineFault>
+    ensures words { IfOk result (λ words. map (λ word. word.now) words.items ≡ words_of line.now) }
+    ensures memory { IfErr result (λ fault. fault ≡ LineFault.Memory) }
+{
     let mut words = Vec::new(alloc);
     // Where memory is refused, `collect` would ask again, for less. Here that ends the run.
     for word in line.split(' ') {
@@ -28,30 +32,20 @@ pub(crate) fn split_words<'a>(alloc: Global, line: &'a str) -> Result<Vec<&'a st
     Ok(words)
 }
 
-/// The number in this position, if there is one.
-pub(crate) fn number_at(words: &[&str], at: usize) -> Option<u32>
-    ensures word { IfSome (slice_get words.now at) (λ word. result ≡ read_number word.now) }
-    ensures none { IfNone (slice_get words.now at) (result ≡ None) }
+/// The number that is the only word.
+pub(crate) fn only_number(words: &[&str]) -> Option<u32>
+    ensures { result ≡ number_said (map (λ word. word.now) words.now) }
 {
-    match words.get(at) {
-        Some(word) => read_number(word.as_bytes()),
-        None => None,
-    }
-}
-
-/// Whether the word in this position is that one.
-pub(crate) fn has_word_at(words: &[&str], at: usize, expected: &str) -> bool
-    ensures none { IfNone (slice_get words.now at) (result ≡ false) }
-{
-    match words.get(at) {
-        Some(word) => *word == expected,
-        None => false,
+    match words {
+        [number] => read_number(number.as_bytes()),
+        _ => None,
     }
 }
 
 /// The span of two numbers, if they make one.
 fn span_of(first: Option<u32>, last: Option<u32>) -> Option<Span>
-    ensures { IfSome result (λ span. (1 ≤ span.first) × (span.first ≤ span.last)) }
+    ensures span { result ≡ span_of first last }
+    ensures order { IfSome result (λ span. (1 ≤ span.first) × (span.first ≤ span.last)) }
 {
     match (first, last) {
         (Some(first), Some(last)) if 1 <= first && first <= last => Some(Span { first, last }),
@@ -61,7 +55,8 @@ fn span_of(first: Option<u32>, last: Option<u32>) -> Option<Span>
 
 /// The motes that a word says: `3` or `3..40`.
 pub(crate) fn read_span(word: &str) -> Option<Span>
-    ensures { IfSome result (λ span. (1 ≤ span.first) × (span.first ≤ span.last)) }
+    ensures span { result ≡ span_said word.now }
+    ensures order { IfSome result (λ span. (1 ≤ span.first) × (span.first ≤ span.last)) }
 {
     match word.split_once("..") {
         Some((first, last)) => span_of(read_number(first.as_bytes()), read_number(last.as_bytes())),
@@ -69,15 +64,5 @@ pub(crate) fn read_span(word: &str) -> Option<Span>
             let number = read_number(word.as_bytes());
             span_of(number, number)
         }
-    }
-}
-
-/// The motes in this position.
-pub(crate) fn span_at(words: &[&str], at: usize) -> Option<Span>
-    ensures { IfSome result (λ span. (1 ≤ span.first) × (span.first ≤ span.last)) }
-{
-    match words.get(at) {
-        Some(word) => read_span(word),
-        None => None,
     }
 }

@@ -1,0 +1,3 @@
+-- What the code keeps.
+pub mod Booting
+pub mod Linking
