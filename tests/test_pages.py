@@ -88,6 +88,18 @@ def test_definitions_of_a_network() -> None:
     assert own <= lines.keys()
 
 
+OF_A_RUN = ("mote_types", "arena_core", "mmem_core", "memb_core", "heap_core", "node_memory", "process_core", "timer_core", "device_core",
+            "kernel_core", "mote_text", "mote_run")
+
+
+@pytest.mark.parametrize("crate", OF_A_RUN)
+def test_specs_are_the_reading_list(crate: str) -> None:
+    """What a run, or a network's, doesn't reach is in specs/Code of its crate."""
+    files = {str(path.relative_to(CRATES)) for path in (CRATES / crate / "specs").rglob("*.antt")
+             if "Code" not in path.parts and path.stem not in ("Lib", "Code", "Laws")}
+    assert files <= set(re.findall(r"^- `(?:crates/)?(\w+/specs/[^`]+)` \(\d+\):", ORDER, re.M))
+
+
 # ---- Names and files ----
 
 NAME = re.compile(r"(?:\w+(?:::|\.))*[A-Za-z][a-z0-9]*(?:_[a-z0-9]+)+|(?:[A-Z][a-z]+){2,}|[A-Z]\w+::\w+")

@@ -1,7 +1,7 @@
 -- Ranges that are apart, and ranges within a span.
 use Rattle.std.proofs.Common.{ℕ, ◌+◌, ◌≤◌, ◌<◌, inl, inr, arith}
 use Rattle.arena_core.specs.declared.span.Span.{Span}
-use Rattle.arena_core.specs.Extents.{Extent, LiesIn, AreApart}
+use Rattle.arena_core.specs.Code.Extents.{Extent, LiesIn, AreApart}
 
 -- no byte is in both
 share_none : (one other : Extent) (i : ℕ) → AreApart one other → one.at ≤ i → i < one.at + one.len → other.at ≤ i

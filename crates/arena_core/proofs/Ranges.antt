@@ -11,8 +11,8 @@ use Rattle.std.proofs.Common.{◌≡◌, ℕ, ◌+◌, ◌-◌, ◌≤◌, ◌�
 use Rattle.std.proofs.lemmas.List.{drop_at, drop-drop, take-append-drop, take-take, take-append-le, take_at, append_assoc}
 use Rattle.std.proofs.lemmas.Slice.{between_is}
 use Rattle.std.proofs.Math.Seq.{take-append-add}
-use Rattle.arena_core.specs.Written.{written}
-use Rattle.arena_core.specs.Outside.{ChangesOnly}
+use Rattle.arena_core.specs.Code.Written.{written}
+use Rattle.arena_core.specs.Code.Outside.{ChangesOnly}
 pub use Rattle.arena_core.proofs.Rows.{length-written}
 use Rattle.arena_core.proofs.Rows.{written_is}
 use Rattle.arena_core.proofs.Rows.{take-written, drop-written, drop-written_in}

@@ -4,7 +4,7 @@ use Rattle.std.proofs.lemmas.List.{drop-drop, take_all, append_assoc, take-appen
 use Rattle.std.proofs.Math.Seq.{take-append-add, drop-append-add}
 use Rattle.std.proofs.lemmas.Slice.{drop-put_mid}
 use borrow.Rule.Slice.PartMut.{put_mid}
-use Rattle.arena_core.specs.Written.{written}
+use Rattle.arena_core.specs.Code.Written.{written}
 
 -- a write keeps the length
 pub length-written : (xs : List ℕ) (at : ℕ) (ws : List ℕ) → length (written xs at ws) ≡ length xs

@@ -1,7 +1,2 @@
--- what a reader must believe
-pub mod ArenaLending
-pub mod Contents
-pub mod Extents
-pub mod Outside
-pub mod PairLending
-pub mod Written
+-- What contracts of the code use: a run's promise reaches nothing here.
+pub mod Code

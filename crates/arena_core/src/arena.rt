@@ -3,8 +3,8 @@
 ghost use Rattle.std.specs.Prelude.{◌≡◌, ℕ, List, ◌+◌, ◌≤◌, ◌⊎◌, ◌<◌, ◌^◌, length, slice_range, replicate, IfOk, IfSome, IfNone, OnSome};
 ghost use Rattle.std.specs.Borrow.{sem};
 ghost use Rattle.std.specs.Int.{to_le_bytes, from_le_bytes};
-ghost use Rattle.arena_core.specs.Contents.{contents};
-ghost use Rattle.arena_core.specs.Written.{written};
+ghost use Rattle.arena_core.specs.Code.Contents.{contents};
+ghost use Rattle.arena_core.specs.Code.Written.{written};
 ghost use mir.Syntax.{w32};
 
 use crate::bytes::{fill_bytes, put_bytes, slide_bytes, word_of};
@@ -26,7 +26,7 @@ pub struct Arena {
 
 impl Model for Arena {
     ghost use Rattle.std.specs.Prelude.{◌≡◌, ◌≤◌, vec_len};
-    ghost use Rattle.arena_core.specs.Contents.{Contents, contents};
+    ghost use Rattle.arena_core.specs.Code.Contents.{Contents, contents};
 
     ghost Value = { Contents };
 
@@ -36,7 +36,7 @@ impl Model for Arena {
 }
 
 impl Arena {
-    ghost use Rattle.arena_core.specs.ArenaLending.{lends_bytes};
+    ghost use Rattle.arena_core.specs.Code.ArenaLending.{lends_bytes};
 
     /// An arena of `size` bytes, all 0, of which none is handed out.
     ///

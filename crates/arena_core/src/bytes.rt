@@ -3,7 +3,7 @@
 ghost use Rattle.std.specs.Prelude.{◌≡◌, ◌+◌, ◌≤◌, length, slice_range, replicate};
 ghost use Rattle.std.specs.Int.{from_le_bytes, to_le_bytes};
 ghost use mir.Syntax.{w32};
-ghost use Rattle.arena_core.specs.Written.{written};
+ghost use Rattle.arena_core.specs.Code.Written.{written};
 
 /// Writes one byte over all of them.
 pub(crate) fn fill_bytes(run: &mut [u8], byte: u8)

@@ -2,7 +2,7 @@
 
 ghost use Rattle.std.specs.Prelude.{◌≡◌, ◌+◌, ◌≤◌, ◌⊎◌, length, slice_range};
 ghost use Rattle.std.specs.Borrow.{sem};
-ghost use Rattle.arena_core.specs.PairLending.{lends_pair};
+ghost use Rattle.arena_core.specs.Code.PairLending.{lends_pair};
 
 use crate::span::Span;
 use std::slice;

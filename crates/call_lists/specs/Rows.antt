@@ -1,7 +1,7 @@
 -- What an application with rows says: for each stimulus its calls.
 use Rattle.std.specs.Prelude.{ℕ, ◌+◌, Bool, false, if◌then◌else◌, nat_lt, List, length, position, slice_get, slice_set, Option, Some, None}
 use Rattle.mote_types.specs.Applications.{Says}
-use Rattle.mote_types.specs.StateMachines.{fold_says}
+use Rattle.mote_types.specs.Code.StateMachines.{fold_says}
 use Rattle.mote_types.specs.declared.call.Call.{Call}
 use Rattle.mote_types.specs.declared.event.Payload.{Payload}
 use Rattle.mote_types.specs.declared.event.Stimulus.{Stimulus}

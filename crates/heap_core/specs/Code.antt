@@ -1,8 +1,15 @@
 pub mod BlockOrder
 pub mod ChunkRanges
+pub mod Chunks
+pub mod Conditions
 pub mod FreeBytes
+pub mod FreeList
+pub mod HeapBytes
 pub mod Holes
 pub mod Joins
+pub mod Layout
 pub mod Links
 pub mod Owners
 pub mod PlacedBlocks
+pub mod Places
+pub mod Separation

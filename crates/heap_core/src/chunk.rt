@@ -3,7 +3,7 @@
 ghost use Rattle.std.specs.Prelude.{◌≡◌, ◌≤◌, ◌<◌, IfSome, is_none};
 ghost use Rattle.std.specs.Option.{option_map_or};
 ghost use Rattle.heap_core.specs.HeapStore.{least_room, room_taken, shorter};
-ghost use Rattle.heap_core.specs.Chunks.{number_in, owner_in, place_in_link, size_in, is_a_name};
+ghost use Rattle.heap_core.specs.Code.Chunks.{number_in, owner_in, place_in_link, size_in, is_a_name};
 ghost use Rattle.heap_core.specs.Code.Links.{gap_count, IsLink};
 
 use mote_types::rounding::rounded;

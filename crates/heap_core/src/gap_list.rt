@@ -2,7 +2,7 @@
 
 ghost use Rattle.std.specs.Prelude.{◌≡◌};
 ghost use Rattle.std.specs.Option.{option_map};
-ghost use Rattle.heap_core.specs.FreeList.{gaps_among};
+ghost use Rattle.heap_core.specs.Code.FreeList.{gaps_among};
 ghost use Rattle.heap_core.specs.Code.Links.{HasGapList, gap_below, gap_from};
 
 use crate::chunk::{Chunk, NOWHERE, link_told, link_word};
@@ -19,7 +19,7 @@ pub struct Beside {
 }
 
 impl Region {
-    ghost use Rattle.heap_core.specs.Layout.{chunks_of};
+    ghost use Rattle.heap_core.specs.Code.Layout.{chunks_of};
     ghost use Rattle.std.specs.Prelude.{None};
 
     /// The gaps beside a position.

@@ -3,9 +3,9 @@
 ghost use Rattle.std.specs.Prelude.{◌≡◌, ◌+◌, ◌-◌, ◌≤◌, ◌<◌, ◌⊎◌, true, None, IfSome, false, length, slice_range};
 ghost use Rattle.std.specs.Int.{from_le_bytes};
 ghost use mir.Syntax.{w32};
-ghost use Rattle.arena_core.specs.Outside.{ChangesOnly};
+ghost use Rattle.arena_core.specs.Code.Outside.{ChangesOnly};
 ghost use Rattle.mote_types.specs.Bytes.{resized};
-ghost use Rattle.heap_core.specs.Chunks.{chunk_at, is_a_name, place_in_link, word_at};
+ghost use Rattle.heap_core.specs.Code.Chunks.{chunk_at, is_a_name, place_in_link, word_at};
 ghost use Rattle.heap_core.specs.Code.PlacedBlocks.{bytes_in_chunk, bytes_given};
 
 use crate::chunk::{Chunk, is_a_name, link_told, link_word, owned_word, owner_in, size_in};
@@ -40,7 +40,7 @@ fn word_in(bytes: &[u8], at: usize) -> u32
 }
 
 impl Region {
-    ghost use Rattle.heap_core.specs.HeapBytes.{IsWithin};
+    ghost use Rattle.heap_core.specs.Code.HeapBytes.{IsWithin};
     ghost use Rattle.heap_core.specs.Code.Links.{IsLink};
 
     /// The chunk at an offset, as its header describes it.

@@ -1,9 +1,9 @@
 //! The heap, and the calls on blocks.
 
 ghost use Rattle.std.specs.Prelude.{◌≡◌, ℕ, List, ◌+◌, ◌≤◌, ◌<◌, ◌↔◌, length, All, IsNone, IfNone, OnSome, IsSome, IsSomeAnd, Some, None};
-ghost use Rattle.mote_types.specs.Conditions.{IsName};
+ghost use Rattle.mote_types.specs.Code.Conditions.{IsName};
 ghost use Rattle.heap_core.specs.HeapStore.{empty_heap, least_room, block_of, place, allocated, freed, reallocated, with_bytes, stats_of, gaps};
-ghost use Rattle.heap_core.specs.Conditions.{IsHeapSize, IsHeaderLength, length_of, live_place};
+ghost use Rattle.heap_core.specs.Code.Conditions.{IsHeapSize, IsHeaderLength, length_of, live_place};
 ghost use Rattle.heap_core.specs.Code.BlockOrder.{LieApart};
 
 use crate::chunk::Place;
@@ -30,9 +30,9 @@ impl Model for Heap {
 }
 
 impl Heap {
-    ghost use Rattle.heap_core.specs.FreeList.{free_chunks};
-    ghost use Rattle.heap_core.specs.HeapBytes.{heap_of, IsWithin, IsLaidOut, linked_of, KeepsToSpan};
-    ghost use Rattle.heap_core.specs.Separation.{BlocksLieApart};
+    ghost use Rattle.heap_core.specs.Code.FreeList.{free_chunks};
+    ghost use Rattle.heap_core.specs.Code.HeapBytes.{heap_of, IsWithin, IsLaidOut, linked_of, KeepsToSpan};
+    ghost use Rattle.heap_core.specs.Code.Separation.{BlocksLieApart};
 
     /// A heap without a block, over a span of 20 to 65,536 bytes, a multiple of 4, with headers of 16 or of 8 bytes. The span's
     /// bytes may be anything.

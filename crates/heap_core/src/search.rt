@@ -2,7 +2,7 @@
 
 ghost use Rattle.std.specs.Prelude.{◌≡◌, ◌≤◌, ◌<◌, ◌+◌, find, Some, None, IsSome};
 ghost use Rattle.heap_core.specs.HeapStore.{stats_of, find_block, best_gap, gaps, place, room_in_place};
-ghost use Rattle.heap_core.specs.FreeList.{Stands, LiveIn, gaps_among};
+ghost use Rattle.heap_core.specs.Code.FreeList.{Stands, LiveIn, gaps_among};
 ghost use Rattle.heap_core.specs.Code.ChunkRanges.{chunks_behind};
 ghost use Rattle.heap_core.specs.Code.FreeBytes.{free_from, front_gap};
 ghost use Rattle.heap_core.specs.Code.Owners.{owned_by, Owned};
@@ -16,9 +16,9 @@ use arena_core::Arena;
 use mote_types::reply::HeapStats;
 
 impl Region {
-    ghost use Rattle.heap_core.specs.Layout.{chunks_of, store_of, HasChunks};
+    ghost use Rattle.heap_core.specs.Code.Layout.{chunks_of, store_of, HasChunks};
     ghost use Rattle.heap_core.specs.Code.Links.{HasGapList, gap_below, gap_from};
-    ghost use Rattle.heap_core.specs.HeapBytes.{heap_of, IsLaidOut};
+    ghost use Rattle.heap_core.specs.Code.HeapBytes.{heap_of, IsLaidOut};
 
     /// The chunk of a name's block.
     pub(crate) fn find(&self, arena: &Arena, name: u32) -> Option<Chunk>

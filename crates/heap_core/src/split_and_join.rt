@@ -3,10 +3,10 @@
 ghost use Rattle.std.specs.Prelude.{◌≡◌, ◌≢◌, ℕ, List, ◌+◌, ◌-◌, length, ◌≤◌, ◌<◌, true, Some, None, IfSome, IfNone, OnSome};
 ghost use Rattle.std.specs.Option.{option_map};
 ghost use Rattle.mote_types.specs.Bytes.{resized};
-ghost use Rattle.arena_core.specs.Outside.{ChangesOnly};
+ghost use Rattle.arena_core.specs.Code.Outside.{ChangesOnly};
 ghost use Rattle.heap_core.specs.HeapStore.{place, with_block, block_at, room_in_place};
-ghost use Rattle.heap_core.specs.Chunks.{is_a_name};
-ghost use Rattle.heap_core.specs.FreeList.{Stands, LiveIn, LinkedTo, gaps_among, FreedLinked};
+ghost use Rattle.heap_core.specs.Code.Chunks.{is_a_name};
+ghost use Rattle.heap_core.specs.Code.FreeList.{Stands, LiveIn, LinkedTo, gaps_among, FreedLinked};
 ghost use Rattle.heap_core.specs.Code.Owners.{Owned};
 ghost use Rattle.heap_core.specs.Code.PlacedBlocks.{bytes_given, without_place, place_in_chunk, at_place, bytes_in_chunk};
 
@@ -16,10 +16,10 @@ use arena_core::Arena;
 
 impl Region {
     ghost use Rattle.heap_core.specs.declared.chunk.Chunk.{Chunk as OfChunks};
-    ghost use Rattle.heap_core.specs.Layout.{chunks_of, store_of, HasChunks};
+    ghost use Rattle.heap_core.specs.Code.Layout.{chunks_of, store_of, HasChunks};
     ghost use Rattle.heap_core.specs.Code.Links.{gap_count, gap_below, gap_from, LinkChanged, HasGapList, IsDivided, IsLink, KeepsFreed};
     ghost use Rattle.heap_core.specs.Code.Holes.{Cut, EndsHole, Fits, Laid, Leaves, Left, Room, ReachesWithGaps, Cleared};
-    ghost use Rattle.heap_core.specs.HeapBytes.{heap_of, IsWithin, KeepsToSpan};
+    ghost use Rattle.heap_core.specs.Code.HeapBytes.{heap_of, IsWithin, KeepsToSpan};
     ghost use Rattle.heap_core.specs.Code.Joins.{Changed, Aside, Joins};
 
     /// Leaves free bytes: a gap up to a live chunk, which is linked to the next one, or a part of the top gap. Returns the position

@@ -36,7 +36,7 @@ pub use Rattle.mote_types.specs.Applications.{Applications, Says, says_of}
 pub use Rattle.mote_types.specs.BlockNames.{number_of}
 pub use Rattle.mote_types.specs.Codes.{is_reserved, number_event, plain_event}
 pub use Rattle.mote_types.specs.EventNumbers.{CONTINUE, EXIT, EXITED, INIT, PACKET, POLL, SERIAL_LINE, TIMER}
-pub use Rattle.mote_types.specs.StateMachines.{fold_says}
+pub use Rattle.mote_types.specs.Code.StateMachines.{fold_says}
 pub use Rattle.mote_types.specs.declared.call.Call.{Call}
 pub use Rattle.mote_types.specs.declared.entry.Entry.{Entry}
 pub use Rattle.mote_types.specs.declared.entry.Input.{Input}
@@ -47,7 +47,7 @@ pub use Rattle.mote_types.specs.declared.event.Payload.{Payload}
 pub use Rattle.mote_types.specs.declared.event.Stimulus.{Stimulus}
 pub use Rattle.mote_types.specs.declared.refusal.Refusal.{Refusal}
 pub use Rattle.mote_types.specs.declared.reply.Reply.{Reply}
-pub use Rattle.node_memory.specs.Ask.{ask}
+pub use Rattle.node_memory.specs.Code.Ask.{ask}
 pub use Rattle.node_memory.specs.Frames.{frame_dropped, frame_taken}
 pub use Rattle.node_memory.specs.BlockRefusals.{is_name}
 pub use Rattle.node_memory.specs.Memory.{Memory, fresh_memory}

@@ -2,12 +2,12 @@
 use Rattle.kernel_core.proofs.Common.{decide, list_any, list_any-append, AllByRecursion, IsDistinct, option_map, get_or-replicate, IsDistinct-head, Call, Memory, fresh_memory, HoldsFrames}
 use Rattle.std.proofs.Common.{◌≡◌, ◌≢◌, ◌∙◌, ℕ, Bool, true, false, List, [], ◌∷◌, ◌++◌, ap, arith, refl, if◌then◌else◌, ◌<◌, ◌≤◌, Option, Some, None, eqb, map, is_some, ◌==◌, slice_get, drop}
 use Rattle.device_core.specs.declared.frame.Frame.{Frame}
-use Rattle.node_memory.specs.Conditions.{frame_in}
+use Rattle.node_memory.specs.Code.Conditions.{frame_in}
 use Rattle.node_memory.specs.declared.sizes.Sizes.{Sizes}
 use Rattle.mote_types.specs.declared.reply.Reply.{Reply}
 use Rattle.node_memory.proofs.Others.{leaves-asked}
-use Rattle.node_memory.specs.Ask.{ask}
-use Rattle.node_memory.specs.Separation.{BlockName, LeavesOthers, changed_block, frame_block}
+use Rattle.node_memory.specs.Code.Ask.{ask}
+use Rattle.node_memory.specs.Code.Separation.{BlockName, LeavesOthers, changed_block, frame_block}
 
 abbrev has_slot : ℕ → Frame → Bool
 has_slot slot frame = frame.slot == slot

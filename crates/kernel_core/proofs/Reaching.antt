@@ -7,7 +7,7 @@ use Rattle.process_core.specs.Code.Yields.{Yields}
 use Rattle.kernel_core.specs.Code.OpenTurns.{HasWorked}
 use Rattle.kernel_core.specs.Code.Steps.{GoesOn, stepped}
 use Rattle.kernel_core.specs.Code.View.{entries_left_in, mote_of, pending_count}
-use Rattle.kernel_core.specs.Conditions.{TakesEntry}
+use Rattle.kernel_core.specs.Code.Conditions.{TakesEntry}
 use Rattle.kernel_core.specs.Mote.{Mote}
 use Rattle.kernel_core.specs.declared.step.Step.{Step}
 use Rattle.kernel_core.specs.declared.step.StepOutcome.{StepOutcome}

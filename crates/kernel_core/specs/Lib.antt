@@ -1,6 +1,5 @@
 -- The definitions that a reader must believe.
 pub mod Calls
-pub mod Conditions
 pub mod Expiries
 pub mod Inputs
 pub mod KernelProcesses

@@ -3,18 +3,18 @@
 ghost use Rattle.std.specs.Prelude.{◌≡◌, ◌≢◌, ◌<◌, ◌≤◌, ◌+◌, ◌^◌, ◌&&◌, ◌||◌, ◌↔◌, ℕ, [], true, false, None, Some, is_none, IfOk, IsErrOf};
 ghost use Rattle.std.specs.List.{list_any};
 ghost use Rattle.mote_types.specs.Entries.{is_halt};
-ghost use Rattle.process_core.specs.Conditions.{IsApplication};
+ghost use Rattle.process_core.specs.Code.Conditions.{IsApplication};
 ghost use Rattle.node_memory.specs.Memory.{fresh_memory};
-ghost use Rattle.node_memory.specs.Placed.{last_owner};
+ghost use Rattle.node_memory.specs.Code.Placed.{last_owner};
 ghost use Rattle.timer_core.specs.Code.NumberedTimers.{at_boot as timers_at_boot};
 ghost use Rattle.kernel_core.specs.Code.View.{machine_of, IsInOrder};
 ghost use Rattle.kernel_core.specs.Calls.{after_call};
 ghost use Rattle.kernel_core.specs.Code.OpenTurns.{AwaitsCall};
 ghost use Rattle.kernel_core.specs.Code.Steps.{GoesOn, made as made_by, stepped};
 ghost use Rattle.kernel_core.specs.Inputs.{fed};
-ghost use Rattle.kernel_core.specs.Conditions.{has_bytes, ticks_of};
+ghost use Rattle.kernel_core.specs.Code.Conditions.{has_bytes, ticks_of};
 ghost use Rattle.kernel_core.specs.Machine.{is_bootable, booted, sizes_of};
-ghost use Rattle.kernel_core.specs.Conditions.{TakesEntry};
+ghost use Rattle.kernel_core.specs.Code.Conditions.{TakesEntry};
 ghost use Rattle.kernel_core.specs.Run.{Answers, heard, is_at_rest};
 ghost use Rattle.timer_core.specs.Deadlines.{next_deadline};
 

@@ -3,7 +3,7 @@
 ghost use Rattle.std.specs.Prelude.{◌≡◌, ◌≤◌, ◌+◌, ◌↔◌, false, IfOk, IsErrOf};
 ghost use Rattle.device_core.specs.SerialLine.{quiet_line};
 ghost use Rattle.node_memory.specs.Memory.{fresh_memory};
-ghost use Rattle.node_memory.specs.Placed.{last_owner};
+ghost use Rattle.node_memory.specs.Code.Placed.{last_owner};
 ghost use Rattle.node_memory.specs.Sizes.{are_sizes};
 ghost use Rattle.process_core.specs.Code.SchedulerView.{awaiting_nothing};
 ghost use Rattle.process_core.specs.Scheduler.{at_boot as scheduler_at_boot};

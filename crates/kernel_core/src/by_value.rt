@@ -6,7 +6,7 @@ ghost use Rattle.mote_types.specs.Applications.{says_of};
 ghost use Rattle.mote_types.specs.Entries.{is_halt};
 ghost use Rattle.mote_types.specs.declared.event.Stimulus.{Stimulus as ToldStimulus};
 ghost use Rattle.kernel_core.specs.Inputs.{fed};
-ghost use Rattle.kernel_core.specs.Conditions.{TakesEntry, has_bytes, ticks_of};
+ghost use Rattle.kernel_core.specs.Code.Conditions.{TakesEntry, has_bytes, ticks_of};
 ghost use Rattle.kernel_core.specs.Run.{heard, is_at_rest};
 ghost use Rattle.kernel_core.specs.Code.Steps.{GoesOn, entry_of, made};
 

@@ -4,7 +4,7 @@ ghost use Rattle.std.specs.Prelude.{◌≡◌, ◌≤◌, ◌<◌, ◌+◌, ◌^
 ghost use Rattle.timer_core.specs.Timers.{first_due};
 ghost use Rattle.kernel_core.specs.Code.View.{machine_of, IsAtWork, IsInOrder};
 ghost use Rattle.kernel_core.specs.Code.IdleRound.{is_idle_tick, RestsAfter};
-ghost use Rattle.kernel_core.specs.Conditions.{ticks_of};
+ghost use Rattle.kernel_core.specs.Code.Conditions.{ticks_of};
 ghost use Rattle.kernel_core.specs.Run.{Answers, is_at_rest};
 ghost use Rattle.kernel_core.specs.Code.Steps.{GoesSilently};
 

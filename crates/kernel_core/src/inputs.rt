@@ -3,11 +3,11 @@
 ghost use Rattle.std.specs.Prelude.{◌≡◌, ◌<◌, ◌≤◌, ◌+◌, ◌^◌, true, length, None, Some, IfErr, IfOk};
 ghost use Rattle.mmem_core.specs.ManagedStore.{free};
 ghost use Rattle.kernel_core.specs.Inputs.{effect, fed, frame_arrived, frame_held, frame_refusal};
-ghost use Rattle.kernel_core.specs.Conditions.{has_bytes, ticks_of};
+ghost use Rattle.kernel_core.specs.Code.Conditions.{has_bytes, ticks_of};
 ghost use Rattle.kernel_core.specs.Code.View.{machine_of, no_pending_entries, HoldsFrames, IsInOrder, IsTakenIn};
 ghost use Rattle.kernel_core.specs.Run.{is_at_rest};
 ghost use Rattle.device_core.specs.PacketQueue.{free_slot};
-ghost use Rattle.node_memory.specs.Placed.{last_owner};
+ghost use Rattle.node_memory.specs.Code.Placed.{last_owner};
 
 use crate::fields::KernelFields;
 use device_core::packet_queue::MOST_FRAMES;

@@ -8,10 +8,10 @@ ghost use Rattle.mote_types.specs.declared.event.Stimulus.{Stimulus as ToldStimu
 ghost use Rattle.kernel_core.specs.Machine.{is_bootable, booted};
 ghost use Rattle.kernel_core.specs.Code.IdleRound.{is_idle_tick, RestsAfter};
 ghost use Rattle.kernel_core.specs.Inputs.{fed};
-ghost use Rattle.kernel_core.specs.Conditions.{has_bytes, ticks_of};
+ghost use Rattle.kernel_core.specs.Code.Conditions.{has_bytes, ticks_of};
 ghost use Rattle.kernel_core.specs.Run.{Answers, heard, is_at_rest};
 ghost use Rattle.kernel_core.specs.Code.Steps.{GoesOn, made as made_by, stepped};
-ghost use Rattle.kernel_core.specs.Conditions.{TakesEntry};
+ghost use Rattle.kernel_core.specs.Code.Conditions.{TakesEntry};
 
 use crate::boot::tables_at_boot;
 use crate::config::Config;

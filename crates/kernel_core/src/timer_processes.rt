@@ -2,7 +2,7 @@
 
 ghost use Rattle.std.specs.Prelude.{◌≡◌, ◌<◌, ◌+◌, ◌^◌, true, false, length, None, Some};
 ghost use Rattle.process_core.specs.Scheduler.{has_room};
-ghost use Rattle.timer_core.specs.Conditions.{IsNamed};
+ghost use Rattle.timer_core.specs.Code.Conditions.{IsNamed};
 ghost use Rattle.timer_core.specs.declared.timer.Timer.{Timer};
 ghost use Rattle.mote_types.specs.Codes.{number_event};
 ghost use Rattle.kernel_core.specs.Code.Draws.{HasQueueableEvents};

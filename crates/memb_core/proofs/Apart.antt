@@ -1,6 +1,6 @@
 -- The blocks of a pool share no byte of the arena.
 use Rattle.memb_core.proofs.Words.{◌≡◌, ℕ, ◌+◌, List, [], true, slice_range, sym, ap, ◌∙◌, arith, Option, Some, None, IfSome, is_some, unwrap_or, PoolTable, block_of, is_live, place_of, pool_of, usable_bytes, region_of, IsWithin, is_used, FillsSpan}
-use Rattle.memb_core.specs.Separation.{BlocksLieApart}
+use Rattle.memb_core.specs.Code.Separation.{BlocksLieApart}
 use Rattle.memb_core.proofs.Blocks.{live_is}
 use Rattle.memb_core.proofs.Bytes.{block_inside, blocks_apart, block_is, bytes_read, live_below}
 

@@ -1,7 +1,7 @@
 -- For those that keep a pool, its lists and their arena together: after a call the span is still in the arena, and what the pool
 -- and the lists show depends only on the span's bytes, so it is unchanged when only bytes of another span changed.
 use Rattle.memb_core.proofs.Words.{◌≡◌, ℕ, ◌+◌, ◌≤◌, ◌⊎◌, List, arith, Contents, PoolTable, ListHeads, ListName, region_of, pool_of, IsWithin, KeepsToSpan, link_of, list_of, AreLinked}
-use Rattle.arena_core.specs.Outside.{ChangesOnly}
+use Rattle.arena_core.specs.Code.Outside.{ChangesOnly}
 use Rattle.memb_core.proofs.Linked.{still_linked}
 
 pub IsWithin-kept : {old new : PoolTable} {before after : Contents} → KeepsToSpan old new before after → IsWithin old before.bytes

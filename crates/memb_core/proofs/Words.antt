@@ -9,16 +9,16 @@ pub use Rattle.std.specs.List.{position, position_or_len}
 pub use Rattle.std.specs.Prelude.{IfSome, IsSomeAnd, None, Option, Some, filter, if◌then◌else◌, is_none, is_some, slice_get, unwrap_or}
 pub use mir.Syntax.{w32}
 pub use Rattle.arena_core.proofs.Ranges.{changes_only, length-range, length-written, range-range, range-written, range-written_apart, written-range}
-pub use Rattle.arena_core.specs.Contents.{Contents, contents}
-pub use Rattle.arena_core.specs.Written.{written}
+pub use Rattle.arena_core.specs.Code.Contents.{Contents, contents}
+pub use Rattle.arena_core.specs.Code.Written.{written}
 pub use Rattle.mote_types.specs.Bytes.{overwritten, zeros}
 pub use Rattle.memb_core.specs.BlockLists.{chopped, has_number, head_of, next_of, popped, put_behind, tail_of, without}
 pub use Rattle.memb_core.specs.BlockPool.{BlockPool, allocated, block_of, first_unused, freed, unused_count, with_block, with_bytes}
 pub use Rattle.memb_core.specs.Code.Changes.{with_start, with_used}
 pub use Rattle.memb_core.specs.Code.Sizes.{FillsSpan}
-pub use Rattle.memb_core.specs.Links.{AreDistinct, AreLinked, IsLinked, KeepsLists, LeavesOthers, Names, along, is_used, list_of, named_by, start_of}
-unfoldable pub use Rattle.memb_core.specs.Links.{all_along, link_of}
-pub use Rattle.memb_core.specs.PoolBytes.{IsWithin, KeepsToSpan, blocks_from, is_live, place_of, region_of, usable_bytes}
-unfoldable pub use Rattle.memb_core.specs.PoolBytes.{pool_of}
-pub use Rattle.memb_core.specs.PoolTable.{ListHeads, PoolTable}
+pub use Rattle.memb_core.specs.Code.Links.{AreDistinct, AreLinked, IsLinked, KeepsLists, LeavesOthers, Names, along, is_used, list_of, named_by, start_of}
+unfoldable pub use Rattle.memb_core.specs.Code.Links.{all_along, link_of}
+pub use Rattle.memb_core.specs.Code.PoolBytes.{IsWithin, KeepsToSpan, blocks_from, is_live, place_of, region_of, usable_bytes}
+unfoldable pub use Rattle.memb_core.specs.Code.PoolBytes.{pool_of}
+pub use Rattle.memb_core.specs.Code.PoolTable.{ListHeads, PoolTable}
 pub use Rattle.memb_core.specs.declared.list_name.ListName.{ListName}

@@ -1,7 +1,7 @@
 //! How a link is written as a word: 0 for none, otherwise the number of the block and 1.
 
 ghost use Rattle.std.specs.Prelude.{◌≡◌, ◌<◌, IfSome};
-ghost use Rattle.memb_core.specs.Links.{named_by};
+ghost use Rattle.memb_core.specs.Code.Links.{named_by};
 
 /// The word for a link.
 pub(crate) fn word_of(next: Option<u8>) -> u32

@@ -1,7 +1,7 @@
 //! The two lists of a pool.
 
 ghost use Rattle.std.specs.Prelude.{◌≡◌, ◌≢◌, ℕ, List, [], ◌∷◌, ◌≤◌, length, true, false, IfNone};
-ghost use Rattle.memb_core.specs.PoolBytes.{is_live};
+ghost use Rattle.memb_core.specs.Code.PoolBytes.{is_live};
 ghost use Rattle.memb_core.specs.BlockLists.{has_number, without, head_of, tail_of, next_of, put_behind, added, pushed, inserted, popped, chopped};
 ghost use Rattle.memb_core.specs.Code.Holders.{holder_of};
 ghost use Rattle.memb_core.specs.declared.list_name.ListName.{ListName as Name};
@@ -25,7 +25,7 @@ pub struct Lists {
 }
 
 impl Model for Lists {
-    ghost use Rattle.memb_core.specs.PoolTable.{ListHeads};
+    ghost use Rattle.memb_core.specs.Code.PoolTable.{ListHeads};
 
     ghost Value = { ListHeads };
 
@@ -33,9 +33,9 @@ impl Model for Lists {
 }
 
 impl Lists {
-    ghost use Rattle.memb_core.specs.PoolTable.{PoolTable};
-    ghost use Rattle.memb_core.specs.PoolBytes.{pool_of, IsWithin, KeepsToSpan};
-    ghost use Rattle.memb_core.specs.Links.{start_of, list_of, AreLinked, LeavesOthers};
+    ghost use Rattle.memb_core.specs.Code.PoolTable.{PoolTable};
+    ghost use Rattle.memb_core.specs.Code.PoolBytes.{pool_of, IsWithin, KeepsToSpan};
+    ghost use Rattle.memb_core.specs.Code.Links.{start_of, list_of, AreLinked, LeavesOthers};
     ghost use Rattle.memb_core.specs.Code.Changes.{with_start};
 
     /// Two lists without a block.

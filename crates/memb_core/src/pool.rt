@@ -28,7 +28,7 @@ pub struct Pool {
 }
 
 impl Model for Pool {
-    ghost use Rattle.memb_core.specs.PoolTable.{PoolTable};
+    ghost use Rattle.memb_core.specs.Code.PoolTable.{PoolTable};
     ghost use Rattle.memb_core.specs.Code.Sizes.{FillsSpan};
 
     ghost Value = { PoolTable };
@@ -39,14 +39,14 @@ impl Model for Pool {
 }
 
 impl Pool {
-    ghost use Rattle.memb_core.specs.PoolTable.{ListHeads};
+    ghost use Rattle.memb_core.specs.Code.PoolTable.{ListHeads};
     ghost use Rattle.memb_core.specs.Code.Changes.{with_used};
     ghost use Rattle.memb_core.specs.declared.list_name.ListName.{ListName as Name};
     ghost use Rattle.memb_core.specs.BlockLists.{has_number};
-    ghost use Rattle.memb_core.specs.PoolBytes.{is_live, place_of, pool_of, IsWithin, KeepsToSpan};
-    ghost use Rattle.memb_core.specs.Separation.{BlocksLieApart};
+    ghost use Rattle.memb_core.specs.Code.PoolBytes.{is_live, place_of, pool_of, IsWithin, KeepsToSpan};
+    ghost use Rattle.memb_core.specs.Code.Separation.{BlocksLieApart};
     ghost use Rattle.memb_core.specs.Code.Sizes.{FillsSpan};
-    ghost use Rattle.memb_core.specs.Links.{link_of, list_of, AreLinked, KeepsLists};
+    ghost use Rattle.memb_core.specs.Code.Links.{link_of, list_of, AreLinked, KeepsLists};
 
     /// A pool over a span, none of whose blocks is used. There are at most 16 blocks, and each takes 4 bytes more than its
     /// usable ones.

@@ -1,6 +1,6 @@
 -- Blocks that are apart share no byte of the arena, and each one's bytes are read from its part.
 use Rattle.mmem_core.proofs.Words.{◌≡◌, ◌≢◌, ℕ, ◌⊎◌, List, Option, Some, None, refl, ap, ◌∙◌, arith, option_map, cases_lt, IsName, number_of, Place, place_in, LieApart, extent_of, bytes_at_place, BlocksLieApart, HandleTable, IsWithin, region_of}
-use Rattle.arena_core.specs.Extents.{LiesIn, AreApart}
+use Rattle.arena_core.specs.Code.Extents.{LiesIn, AreApart}
 use Rattle.mmem_core.proofs.PlaceLemmas.{some_size}
 use Rattle.mmem_core.proofs.StoreLemmas.{block_in, get_or-blocks}
 use Rattle.mmem_core.proofs.TableLemmas.{bytes_are}

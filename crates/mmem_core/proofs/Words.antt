@@ -11,12 +11,12 @@ pub use Rattle.std.specs.List.{range_with_len}
 pub use Rattle.std.specs.Option.{option_map}
 pub use Rattle.std.specs.Prelude.{IfSome, IsSome}
 pub use Rattle.arena_core.proofs.Ranges.{changes_only, length-range, range-range, range-written, range-written_apart, written-range}
-pub use Rattle.arena_core.specs.Contents.{Contents, contents}
-pub use Rattle.arena_core.specs.Outside.{ChangesOnly}
-pub use Rattle.arena_core.specs.Written.{written}
+pub use Rattle.arena_core.specs.Code.Contents.{Contents, contents}
+pub use Rattle.arena_core.specs.Code.Outside.{ChangesOnly}
+pub use Rattle.arena_core.specs.Code.Written.{written}
 pub use Rattle.arena_core.specs.declared.span.Span.{Span}
 pub use Rattle.mote_types.specs.BlockNames.{number_of}
-pub use Rattle.mote_types.specs.Conditions.{IsName}
+pub use Rattle.mote_types.specs.Code.Conditions.{IsName}
 pub use Rattle.mote_types.specs.Bytes.{overwritten, zeros}
 pub use Rattle.mote_types.specs.Rounding.{up4}
 pub use Rattle.mmem_core.specs.Code.Laid.{LieApart, at_of, end_at, room_of}
@@ -25,9 +25,9 @@ unfoldable pub use Rattle.mmem_core.specs.Code.Ring.{AreLinked}
 pub use Rattle.mmem_core.specs.Code.Shares.{Shares, room_by, share}
 unfoldable pub use Rattle.mmem_core.specs.Code.Shares.{AreShared}
 pub use Rattle.mmem_core.specs.ManagedStore.{ManagedStore, allocated, block_of, free, freed, size_of, taken_by, unused}
-pub use Rattle.mmem_core.specs.Places.{bytes_moved, end_of, last_end, place_in, room_moved}
-pub use Rattle.mmem_core.specs.Separation.{BlocksLieApart, bytes_at_place, extent_of}
-pub use Rattle.mmem_core.specs.HandleTable.{CountsMoved, HandleTable, IsWithin, KeepsToSpan, bytes_at, region_of, store_of}
+pub use Rattle.mmem_core.specs.Code.Places.{bytes_moved, end_of, last_end, place_in, room_moved}
+pub use Rattle.mmem_core.specs.Code.Separation.{BlocksLieApart, bytes_at_place, extent_of}
+pub use Rattle.mmem_core.specs.Code.HandleTable.{CountsMoved, HandleTable, IsWithin, KeepsToSpan, bytes_at, region_of, store_of}
 pub use Rattle.mmem_core.specs.declared.order.Order.{Order}
 pub use Rattle.mmem_core.specs.declared.place.Place.{Place}
 pub use Rattle.mmem_core.specs.declared.quotas.Quotas.{Quotas}

@@ -4,9 +4,9 @@ ghost use Rattle.std.specs.Prelude.{◌≡◌, ℕ, List, ◌+◌, ◌-◌, ◌*
 ghost use Rattle.std.specs.Option.{option_map_or};
 ghost use Rattle.mote_types.specs.Rounding.{up4};
 ghost use Rattle.mote_types.specs.BlockNames as names;
-ghost use Rattle.mote_types.specs.Conditions.{IsName};
+ghost use Rattle.mote_types.specs.Code.Conditions.{IsName};
 ghost use Rattle.mmem_core.specs.ManagedStore.{empty_store, block_of, unused, free, shortage, allocated, freed, with_bytes, copied};
-ghost use Rattle.mmem_core.specs.Conditions.{IsManagedSize, length_of};
+ghost use Rattle.mmem_core.specs.Code.Conditions.{IsManagedSize, length_of};
 
 use crate::order::Order;
 use crate::place::Place;
@@ -51,7 +51,7 @@ impl Model for Mmem {
     ghost use Rattle.mmem_core.specs.Code.Laid.{LieApart};
     ghost use Rattle.mmem_core.specs.Code.Ring.{IsLaidOut};
     ghost use Rattle.mmem_core.specs.Code.Shares.{AreShared};
-    ghost use Rattle.mmem_core.specs.HandleTable.{HandleTable};
+    ghost use Rattle.mmem_core.specs.Code.HandleTable.{HandleTable};
 
     ghost Value = { HandleTable };
 
@@ -62,10 +62,10 @@ impl Model for Mmem {
 }
 
 impl Mmem {
-    ghost use Rattle.mmem_core.specs.Places.{bytes_moved, last_end};
-    ghost use Rattle.mmem_core.specs.HandleTable.{store_of, IsWithin, KeepsToSpan, CountsMoved};
+    ghost use Rattle.mmem_core.specs.Code.Places.{bytes_moved, last_end};
+    ghost use Rattle.mmem_core.specs.Code.HandleTable.{store_of, IsWithin, KeepsToSpan, CountsMoved};
     ghost use Rattle.mmem_core.specs.Code.Room.{MayFollow};
-    ghost use Rattle.mmem_core.specs.Separation.{BlocksLieApart, place_of, end_of_others};
+    ghost use Rattle.mmem_core.specs.Code.Separation.{BlocksLieApart, place_of, end_of_others};
 
     /// Managed memory without a block, over a span of 4 to 65,536 bytes, a multiple of 4.
     ///

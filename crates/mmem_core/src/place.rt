@@ -1,8 +1,8 @@
 //! The position of a block, and how it moves.
 
 ghost use Rattle.std.specs.Prelude.{◌≡◌, ◌+◌, ◌≤◌, length, slice_range, Some};
-ghost use Rattle.arena_core.specs.Contents.{contents};
-ghost use Rattle.arena_core.specs.Written.{written};
+ghost use Rattle.arena_core.specs.Code.Contents.{contents};
+ghost use Rattle.arena_core.specs.Code.Written.{written};
 
 use arena_core::{Arena, Span};
 use mote_types::rounding::rounded;
@@ -15,7 +15,7 @@ pub struct Place {
 }
 
 impl Place {
-    ghost use Rattle.mmem_core.specs.Places.{room_moved};
+    ghost use Rattle.mmem_core.specs.Code.Places.{room_moved};
 
     /// The same block at another offset.
     pub(crate) fn moved_to(self, at: u32) -> Place

@@ -6,7 +6,7 @@ use Rattle.std.proofs.lemmas.Bool.{cases_Bool, eq-eqb, lt-ltb, le-ltb}
 use Rattle.std.proofs.lemmas.List.{take-take, take_at, take_all, drop_all, take_more, drop-take, length-take-le, length-append, append_assoc, append-nil, set_at, length-drop, map-append}
 use Rattle.std.proofs.lemmas.List.Elements.{filter-append}
 use Rattle.std.proofs.lemmas.List.Folds.{find-append}
-use Rattle.arena_core.specs.Written.{written}
+use Rattle.arena_core.specs.Code.Written.{written}
 use Rattle.arena_core.proofs.Ranges.{range-written_apart}
 use Rattle.heap_core.specs.HeapStore.{Block, placed, has_name}
 use Rattle.heap_core.proofs.Lemmas.Names.{count_absent, filter_unnamed}

@@ -1,6 +1,6 @@
 -- The heap with a new block, and without one.
 use Rattle.std.proofs.Common.{◌≡◌, ℕ, ◌≤◌, ◌<◌, List, length, map, arith}
-use Rattle.arena_core.specs.Written.{written}
+use Rattle.arena_core.specs.Code.Written.{written}
 use Rattle.arena_core.proofs.Ranges.{range-written, length-written}
 use Rattle.mote_types.specs.Bytes.{range_of}
 use Rattle.heap_core.specs.HeapStore.{Block, HeapStore, placed, without_block}

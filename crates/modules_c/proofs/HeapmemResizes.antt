@@ -6,7 +6,7 @@ use Rattle.std.proofs.Common.{length-append}
 use Rattle.std.proofs.lemmas.Bool.{eq-eqb}
 use Rattle.std.proofs.lemmas.List.{append_assoc, take_at, drop_at, drop-drop, length-take-le, length-replicate, map-append, set_at}
 use Rattle.std.proofs.lemmas.List.Sums.{fold-append}
-use Rattle.arena_core.specs.Written.{written}
+use Rattle.arena_core.specs.Code.Written.{written}
 use Rattle.arena_core.proofs.Ranges.{length-written}
 use Rattle.arena_core.proofs.Rows.{written_is}
 use Rattle.mote_types.specs.Bytes.{range_of, resized}

@@ -2,7 +2,7 @@
 use Rattle.std.proofs.Common.{◌≡◌, true, false, [], ◌∷◌, ap, sym, refl}
 use Rattle.std.specs.Prelude.{Some, None}
 use Rattle.std.proofs.lemmas.Bool.{false≢true}
-use Rattle.memb_core.specs.PoolBytes.{is_live}
+use Rattle.memb_core.specs.Code.PoolBytes.{is_live}
 use Rattle.memb_core.specs.BlockPool.{BlockPool, first_unused, unused_count, unused_pool}
 use Rattle.modules_c.specs.Memb.Flags.{flagged}
 

@@ -3,7 +3,7 @@ use Rattle.mmem_core.proofs.Words.{◌≡◌, ◌≢◌, ℕ, ◌+◌, ◌≤◌
 use Rattle.mmem_core.specs.declared.place.Place.{Place}
 use Rattle.std.proofs.Math.ListN.{get_or-map}
 use Rattle.std.proofs.lemmas.List.{get_or_past}
-use Rattle.mmem_core.specs.Places.{last_end}
+use Rattle.mmem_core.specs.Code.Places.{last_end}
 use Rattle.mmem_core.proofs.PlaceLemmas.{placed, end_le_last, last_le}
 use Rattle.modules_c.specs.declared.mmem.block.Block.{Block}
 use Rattle.modules_c.specs.Mmem.Stored.{place_told, places_told, IsTable, process_of, handle_of}

@@ -3,7 +3,7 @@ use Rattle.mmem_core.proofs.Words.{◌≡◌, ◌≢◌, ℕ, zero, suc, ◌+◌
 use Rattle.std.specs.Prelude.{is_some}
 use Rattle.std.proofs.lemmas.Bool.{false≢true}
 use Rattle.mote_types.specs.Bytes.{range_of}
-use Rattle.mmem_core.specs.Conditions.{length_of}
+use Rattle.mmem_core.specs.Code.Conditions.{length_of}
 use Rattle.mmem_core.specs.declared.place.Place.{Place}
 use Rattle.arena_core.proofs.Ranges.{length-written}
 use Rattle.mmem_core.proofs.PlaceLemmas.{placed, len_le_room, end_le_last, last_end-added, LieApart-added, LieApart-freed, LieApart-none}

@@ -2,7 +2,7 @@
 
 ghost use Rattle.std.specs.Prelude.{◌≡◌, ◌+◌, ◌≤◌, length, slice_range};
 ghost use Rattle.mote_types.specs.Bytes.{zeros};
-ghost use Rattle.arena_core.specs.Written.{written};
+ghost use Rattle.arena_core.specs.Code.Written.{written};
 
 /// Writes zeros over a range.
 pub fn clear(bytes: &mut [u8], at: usize, len: usize)

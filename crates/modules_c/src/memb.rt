@@ -8,7 +8,7 @@ mod flags;
 
 ghost use Rattle.std.specs.Prelude.{◌≡◌, ℕ, List, ◌≤◌, ◌<◌, length, true, false, Some, None};
 ghost use Rattle.mote_types.specs.Bytes.{zeros};
-ghost use Rattle.memb_core.specs.PoolBytes.{is_live};
+ghost use Rattle.memb_core.specs.Code.PoolBytes.{is_live};
 ghost use Rattle.memb_core.specs.BlockPool.{unused_pool, first_unused, unused_count, allocated, freed};
 ghost use Rattle.modules_c.specs.Memb.Flags.{flagged};
 

@@ -1,7 +1,7 @@
 -- What the application says that goes through all kinds of memory.
 use Rattle.std.specs.Prelude.{ℕ, ◌+◌, List, [], ◌∷◌, length, slice_index_or, codes, ◌==◌, if◌then◌else◌, nat_lt}
 use Rattle.mote_types.specs.Applications.{Says}
-use Rattle.mote_types.specs.StateMachines.{fold_says}
+use Rattle.mote_types.specs.Code.StateMachines.{fold_says}
 use Rattle.mote_types.specs.declared.call.Call.{Call}
 use Rattle.mote_types.specs.declared.event.Stimulus.{Stimulus}
 use Rattle.mote_types.specs.EventNumbers.{INIT}

@@ -1,7 +1,7 @@
 -- What the greeting application says.
 use Rattle.std.specs.Prelude.{ℕ, List, [], ◌∷◌, ◌==◌, if◌then◌else◌}
 use Rattle.mote_types.specs.Applications.{Says}
-use Rattle.mote_types.specs.StateMachines.{fold_says}
+use Rattle.mote_types.specs.Code.StateMachines.{fold_says}
 use Rattle.mote_types.specs.declared.call.Call.{Call}
 use Rattle.mote_types.specs.declared.event.Stimulus.{Stimulus}
 use Rattle.mote_types.specs.EventNumbers.{INIT}

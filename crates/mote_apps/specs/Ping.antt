@@ -1,7 +1,7 @@
 -- What the application says that broadcasts a count by an event timer, under an event number of its own.
 use Rattle.std.specs.Prelude.{ℕ, ◌+◌, ◌++◌, List, [], ◌∷◌, ◌==◌, if◌then◌else◌, nat_le, nat_lt, Option, Some, None, decimal}
 use Rattle.mote_types.specs.Applications.{Says}
-use Rattle.mote_types.specs.StateMachines.{fold_says}
+use Rattle.mote_types.specs.Code.StateMachines.{fold_says}
 use Rattle.mote_types.specs.declared.call.Call.{Call}
 use Rattle.mote_types.specs.declared.event.Payload.{Payload}
 use Rattle.mote_types.specs.declared.event.Stimulus.{Stimulus}

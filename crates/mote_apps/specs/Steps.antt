@@ -1,7 +1,7 @@
 -- What an application says that goes through a list of calls.
 use Rattle.std.specs.Prelude.{List, [], ◌∷◌}
 use Rattle.mote_types.specs.Applications.{Says}
-use Rattle.mote_types.specs.StateMachines.{fold_says}
+use Rattle.mote_types.specs.Code.StateMachines.{fold_says}
 use Rattle.mote_types.specs.declared.call.Call.{Call}
 use Rattle.mote_types.specs.declared.event.Stimulus.{Stimulus}
 

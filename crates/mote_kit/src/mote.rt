@@ -4,7 +4,7 @@ ghost use Rattle.std.specs.Prelude.{◌≡◌, ◌≢◌, ◌↔◌, false, List
 ghost use Rattle.mote_types.specs.Applications.{says_of};
 ghost use Rattle.kernel_core.specs.Machine.{is_bootable};
 ghost use Rattle.mote_run.specs.RunText.{IsRunText};
-ghost use Rattle.mote_run.specs.Runs.{config_of};
+ghost use Rattle.mote_run.specs.Code.Runs.{config_of};
 
 use crate::script::Script;
 use crate::transcript::Transcript;

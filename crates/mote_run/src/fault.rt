@@ -25,7 +25,7 @@ pub enum MoteFault {
 }
 
 impl From<BootFault> for MoteFault {
-    ghost use Rattle.mote_run.specs.Faults.{fault_at_boot};
+    ghost use Rattle.mote_run.specs.Code.Faults.{fault_at_boot};
 
     ghost from_gives = { λ boot fault. fault ≡ fault_at_boot boot };
 
@@ -38,7 +38,7 @@ impl From<BootFault> for MoteFault {
 }
 
 impl From<RunFault> for MoteFault {
-    ghost use Rattle.mote_run.specs.Faults.{fault_in_run};
+    ghost use Rattle.mote_run.specs.Code.Faults.{fault_in_run};
 
     ghost from_gives = { λ run fault. fault ≡ fault_in_run run };
 

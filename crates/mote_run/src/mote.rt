@@ -4,7 +4,7 @@ ghost use Rattle.std.specs.Prelude.{◌≡◌, ◌<◌, ◌-◌, ◌^◌, ◌↔
 ghost use Rattle.mote_types.specs.Applications.{says_of};
 ghost use Rattle.kernel_core.specs.Machine.{is_bootable};
 ghost use Rattle.mote_run.specs.RunText.{Exchanged, HasRunTo};
-ghost use Rattle.mote_run.specs.Runs.{OfRun, config_of};
+ghost use Rattle.mote_run.specs.Code.Runs.{OfRun, config_of};
 ghost use Rattle.mote_run.specs.Trace.{RunPromise};
 
 use crate::fault::MoteFault;

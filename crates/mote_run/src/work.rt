@@ -2,7 +2,7 @@
 
 ghost use Rattle.std.specs.Prelude.{◌≡◌, ◌<◌, ◌≤◌, ◌+◌, ◌-◌, ◌^◌, ◌∷◌, [], true, false, length, OnOk};
 ghost use Rattle.mote_types.specs.Applications.{says_of};
-ghost use Rattle.kernel_core.specs.Conditions.{has_bytes, ticks_of};
+ghost use Rattle.kernel_core.specs.Code.Conditions.{has_bytes, ticks_of};
 ghost use Rattle.kernel_core.specs.Run.{is_still};
 ghost use Rattle.mote_run.specs.Code.Way.{Goes, place};
 ghost use Rattle.mote_run.specs.Code.Writing.{CountsFailure};

@@ -3,7 +3,7 @@ use Rattle.std.specs.Prelude.{ℕ, ◌+◌, ◌^◌, Bool, true, not, ◌||◌, 
 use Rattle.std.specs.Option.{option_or}
 use Rattle.mote_types.specs.Kinds.{Ticks}
 use Rattle.mote_types.specs.declared.entry.Input.{Input}
-use Rattle.kernel_core.specs.Conditions.{ticks_of}
+use Rattle.kernel_core.specs.Code.Conditions.{ticks_of}
 use Rattle.kernel_core.specs.Run.{is_at_rest}
 use Rattle.mote_session.specs.SessionView.{SessionView}
 use Rattle.mote_session.specs.declared.refusal.SessionRefusal.{SessionRefusal}

@@ -4,7 +4,7 @@ use Rattle.mote_types.specs.declared.call.Call.{Call}
 use Rattle.mote_types.specs.declared.entry.Entry.{Entry}
 use Rattle.mote_types.specs.declared.entry.Input.{Input}
 use Rattle.mote_types.specs.Entries.{is_halt}
-use Rattle.process_core.specs.Conditions.{IsApplication}
+use Rattle.process_core.specs.Code.Conditions.{IsApplication}
 use Rattle.kernel_core.specs.Calls.{after_call}
 use Rattle.kernel_core.specs.Code.OpenTurns.{AwaitsCall}
 use Rattle.kernel_core.specs.Code.Steps.{GoesToRest, MakesEntry}

@@ -7,7 +7,7 @@ ghost use Rattle.mote_text.specs.Code.EntryLines.{entry_line_limit};
 ghost use Rattle.mote_text.specs.Script.{read_line};
 ghost use Rattle.mote_types.specs.declared.entry.Entry.{Entry as Made};
 ghost use Rattle.kernel_core.specs.Calls.{after_call};
-ghost use Rattle.kernel_core.specs.Conditions.{ticks_of};
+ghost use Rattle.kernel_core.specs.Code.Conditions.{ticks_of};
 ghost use Rattle.kernel_core.specs.Machine.{booted, is_bootable};
 ghost use Rattle.kernel_core.specs.declared.turn.Turn.{Turn as Taken};
 ghost use Rattle.timer_core.specs.Deadlines.{next_deadline};

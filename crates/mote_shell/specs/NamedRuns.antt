@@ -8,7 +8,7 @@ use Rattle.mote_text.specs.declared.script.End.{End}
 use Rattle.mote_run.specs.RunText.{Exchange, HasRunTo}
 use Rattle.mote_run.specs.Trace.{RunPromise}
 use Rattle.mote_run.specs.declared.run.RunFault.{RunFault}
-use Rattle.mote_run.specs.Runs as of_boxes
+use Rattle.mote_run.specs.Code.Runs as of_boxes
 use Rattle.command_line.specs.CommandLine.{AsksForText, NamesApplications, named_in}
 use Rattle.command_line.specs.CommandLine as of_words
 use Rattle.command_line.specs.Statuses.{status_of_outcome}

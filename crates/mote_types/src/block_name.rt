@@ -2,7 +2,7 @@
 
 ghost use Rattle.std.specs.Prelude.{◌≡◌, ◌<◌};
 ghost use Rattle.mote_types.specs.BlockNames as names;
-ghost use Rattle.mote_types.specs.Conditions.{IsName};
+ghost use Rattle.mote_types.specs.Code.Conditions.{IsName};
 
 use crate::event::Pid;
 

@@ -4,7 +4,7 @@ use Rattle.std.proofs.lemmas.Bool.Decides.{nat_tests}
 use Rattle.alarm_core.specs.Alarms.{earliest_by, earliest_in, first_alarm, first_come, sooner}
 use Rattle.alarm_core.specs.declared.alarm.Alarm.{Alarm}
 use Rattle.arrayvec.specs.ArrayVec.{ArrayVec}
-use Rattle.kernel_core.specs.Conditions.{ticks_of}
+use Rattle.kernel_core.specs.Code.Conditions.{ticks_of}
 use Rattle.kernel_core.specs.Inputs.{fed, frame_held, frame_refusal, held_unless_lost}
 use Rattle.mote_types.specs.declared.refusal.Refusal.{Refusal}
 use Rattle.device_core.specs.PacketQueue.{free_slot}

@@ -10,7 +10,7 @@ use Rattle.mote_session.specs.Sent.{sent_in}
 use Rattle.mote_session.specs.SessionView.{SessionView, rests}
 use Rattle.mote_session.specs.Steps.{Advances, HasSameInputs, IsSubmitted, IsFed}
 use Rattle.mote_session.specs.declared.session.Next.{Next}
-use Rattle.kernel_core.specs.Conditions.{ticks_of}
+use Rattle.kernel_core.specs.Code.Conditions.{ticks_of}
 use Rattle.network_session.specs.Network.{NetworkView, wakes_of}
 use Rattle.network_session.specs.Waking.{due_ticks}
 use Rattle.network_session.specs.declared.outcome.Outcome.{Outcome}

@@ -11,7 +11,7 @@ ghost use Rattle.network_session.specs.Steps.{SubmittedIn, HandedIn, IsNetworkSu
 ghost use Rattle.network_session.specs.Code.Wakes.{AreWakes, IsSteady};
 ghost use Rattle.mote_session.specs.Code.Speaking.{SpeaksBy};
 ghost use Rattle.network_session.specs.Code.Working.{Works, WorksIn};
-ghost use Rattle.kernel_core.specs.Conditions.{ticks_of};
+ghost use Rattle.kernel_core.specs.Code.Conditions.{ticks_of};
 ghost use Rattle.network_session.specs.Time.{is_work};
 ghost use Rattle.network_session.specs.Waking.{due_ticks, wake};
 ghost use Rattle.network_session.specs.declared.fault.NetworkFault.{NetworkFault};

@@ -1,16 +1,16 @@
 -- The live blocks of all kinds are apart, and each is read from its own part of the arena.
-use Rattle.arena_core.specs.Extents.{Extent, LiesIn, AreApart}
+use Rattle.arena_core.specs.Code.Extents.{Extent, LiesIn, AreApart}
 use Rattle.heap_core.proofs.Callers.{IsLaidOut-apart}
-use Rattle.memb_core.specs.PoolBytes.{pool_of, place_of, IsWithin}
-use Rattle.memb_core.specs.PoolTable.{PoolTable}
+use Rattle.memb_core.specs.Code.PoolBytes.{pool_of, place_of, IsWithin}
+use Rattle.memb_core.specs.Code.PoolTable.{PoolTable}
 use Rattle.mote_types.specs.Bytes.{range_of}
 use Rattle.node_memory.specs.Code.Layout.{IsLaidOut, LieBehind, end_of}
 use Rattle.node_memory.specs.ListedPools.{unused_pool_of}
-use Rattle.node_memory.specs.Placed.{Layout, contents_of, seen, placed}
-use Rattle.node_memory.specs.Separation.{BlockName, IsBlockName, block_named, extent_in_pool, extent_named, header_of, IsReadFrom, BlocksLieApart}
+use Rattle.node_memory.specs.Code.Placed.{Layout, contents_of, seen, placed}
+use Rattle.node_memory.specs.Code.Separation.{BlockName, IsBlockName, block_named, extent_in_pool, extent_named, header_of, IsReadFrom, BlocksLieApart}
 use Rattle.std.proofs.Common.{◌≡◌, ◌≢◌, ℕ, zero, suc, ◌+◌, ◌≤◌, ◌⊎◌, inl, inr, List, [], ◌∷◌, length, map, refl, sym, ap, ◌∙◌, arith, subst, Option, Some, None, slice_get, is_some, unwrap_or, get_or, ◌<◌}
 use Rattle.std.specs.Option.{option_map}
-use Rattle.heap_core.specs.HeapBytes.{heap_of}
+use Rattle.heap_core.specs.Code.HeapBytes.{heap_of}
 use Rattle.memb_core.specs.BlockPool.{block_of}
 use Rattle.node_memory.specs.declared.listed_pool.ListedPool.{ListedPool}
 use Rattle.std.proofs.lemmas.List.{get_or-replicate, get_or_default}
@@ -20,9 +20,9 @@ use Rattle.arena_core.proofs.Ranges.{length-range}
 use Rattle.mmem_core.proofs.PlaceLemmas.{len_le_room}
 use Rattle.memb_core.proofs.Blocks.{live_is, used_below}
 use Rattle.node_memory.proofs.LaidOut.{pool-at}
-use Rattle.mmem_core.specs.Separation as managed
-use Rattle.heap_core.specs.Separation as heap
-use Rattle.memb_core.specs.Separation as pools
+use Rattle.mmem_core.specs.Code.Separation as managed
+use Rattle.heap_core.specs.Code.Separation as heap
+use Rattle.memb_core.specs.Code.Separation as pools
 
 -- two pools
 two-pools : (j k from : ℕ) (listed : List ListedPool) (l m : ListedPool) (bytes : List ℕ) → j ≢ k → LieBehind from listed bytes

@@ -1,9 +1,9 @@
 -- Blocks that are apart, and what a refused call leaves.
 use Rattle.mote_types.specs.Bytes.{range_of}
-use Rattle.node_memory.specs.Conditions.{IfRefused}
+use Rattle.node_memory.specs.Code.Conditions.{IfRefused}
 use Rattle.node_memory.specs.Memory.{Memory}
-use Rattle.node_memory.specs.Placed.{PlacedMemory}
-use Rattle.node_memory.specs.Separation.{BlockName, IsBlockName, block_named, changed_block, extent_named, header_of, IsReadFrom, BlocksLieApart, LeavesAll, LeavesOthers, StaysInPlace}
+use Rattle.node_memory.specs.Code.Placed.{PlacedMemory}
+use Rattle.node_memory.specs.Code.Separation.{BlockName, IsBlockName, block_named, changed_block, extent_named, header_of, IsReadFrom, BlocksLieApart, LeavesAll, LeavesOthers, StaysInPlace}
 use Rattle.std.proofs.Common.{◌≡◌, ◌≢◌, ℕ, ◌+◌, ◌≤◌, ◌<◌, inl, inr, List, [], ◌∷◌, length, map, refl, arith, Some, None, replicate}
 use Rattle.mote_types.specs.declared.call.Call.{Call}
 use Rattle.mote_types.specs.declared.refusal.Refusal.{Refusal}

@@ -1,42 +1,42 @@
 -- What a pool with its lists shows after a call on one of the two.
-use Rattle.arena_core.specs.Contents.{Contents}
+use Rattle.arena_core.specs.Code.Contents.{Contents}
 use Rattle.heap_core.proofs.Callers.{heap_of-elsewhere, IsLaidOut-elsewhere}
 use Rattle.heap_core.specs.HeapStore.{HeapStore}
 use Rattle.heap_core.specs.declared.region.Region.{Region}
 use Rattle.memb_core.specs.Code.Holders.{holder_of}
-use Rattle.memb_core.specs.PoolBytes.{pool_of}
-use Rattle.memb_core.specs.PoolTable.{PoolTable, ListHeads}
+use Rattle.memb_core.specs.Code.PoolBytes.{pool_of}
+use Rattle.memb_core.specs.Code.PoolTable.{PoolTable, ListHeads}
 use Rattle.memb_core.specs.declared.list_name.ListName.{ListName}
 use Rattle.mmem_core.proofs.StoreLemmas.{block_in}
-use Rattle.mmem_core.specs.HandleTable.{HandleTable, store_of}
+use Rattle.mmem_core.specs.Code.HandleTable.{HandleTable, store_of}
 use Rattle.mote_types.specs.Bytes.{zeros}
 use Rattle.node_memory.specs.Code.Layout.{LieBehind, IsLaidOut, end_of}
-use Rattle.node_memory.specs.Conditions.{frame_in}
+use Rattle.node_memory.specs.Code.Conditions.{frame_in}
 use Rattle.node_memory.specs.Frames.{frame_taken}
 use Rattle.node_memory.specs.ListedPools.{PoolWithLists, list_in, with_list, with_blocks, unused_pool_of}
 use Rattle.node_memory.specs.Memory.{Memory, with_pool, with_managed, with_heap}
-use Rattle.node_memory.specs.Placed.{PlacedMemory, seen, Layout, contents_of, placed}
+use Rattle.node_memory.specs.Code.Placed.{PlacedMemory, seen, Layout, contents_of, placed}
 use Rattle.std.proofs.Common.{◌≡◌, ℕ, arith, false, List, [], ◌∷◌, length, refl, sym, ap, ap₂, ◌∙◌, slice_get, Some, None, zero, suc, ◌+◌, ◌≤◌, ◌<◌, ◌⊎◌, inl, inr, map, set, get_or, Option, nat_lt}
-use Rattle.heap_core.specs.HeapBytes.{heap_of}
+use Rattle.heap_core.specs.Code.HeapBytes.{heap_of}
 use Rattle.memb_core.specs.BlockLists.{has_number}
 use Rattle.memb_core.specs.BlockPool.{BlockPool}
 use Rattle.mote_types.specs.BlockNames.{number_of}
 use Rattle.mote_types.specs.declared.call.Call.{Call}
 use Rattle.mote_types.specs.declared.reply.Reply.{Reply}
 use Rattle.node_memory.specs.Answered.{Asked}
-use Rattle.node_memory.specs.Ask.{ask}
+use Rattle.node_memory.specs.Code.Ask.{ask}
 use Rattle.node_memory.specs.declared.listed_pool.ListedPool.{ListedPool}
 use Rattle.std.proofs.lemmas.List.{get_or-map, length-map, length-set, set-get_or, append-nil, drop-replicate, get_or-set_same, set-set}
 use Rattle.std.proofs.lemmas.Option.{slice_get-get_or}
-use Rattle.memb_core.specs.Links.{LeavesOthers, list_of, AreLinked}
+use Rattle.memb_core.specs.Code.Links.{LeavesOthers, list_of, AreLinked}
 use Rattle.node_memory.specs.Code.ListCalls.{IsAnswered, is_holder, pool_called}
-use Rattle.arena_core.specs.Outside.{ChangesOnly}
+use Rattle.arena_core.specs.Code.Outside.{ChangesOnly}
 use Rattle.memb_core.proofs.Callers.{pool_of-elsewhere, list_of-elsewhere, AreLinked-elsewhere}
-use Rattle.heap_core.specs.HeapBytes as heap
-use Rattle.mmem_core.specs.HandleTable as managed
+use Rattle.heap_core.specs.Code.HeapBytes as heap
+use Rattle.mmem_core.specs.Code.HandleTable as managed
 use Rattle.mmem_core.proofs.Callers as managed_calls
 use Rattle.mmem_core.specs.ManagedStore.{block_of, ManagedStore, with_block, with_bytes}
-use Rattle.memb_core.specs.PoolBytes as pools
+use Rattle.memb_core.specs.Code.PoolBytes as pools
 
 abbrev pub listed_of : PoolTable → ListHeads → ListedPool
 listed_of pool lists = record { pool = pool; lists = lists }

@@ -1,11 +1,11 @@
 -- A call leaves every block that it does not name.
 use Rattle.mmem_core.specs.ManagedStore.{with_block}
 use Rattle.mote_types.specs.Bytes.{zeros, overwritten, resized}
-use Rattle.mote_types.specs.Conditions.{IsName}
+use Rattle.mote_types.specs.Code.Conditions.{IsName}
 use Rattle.node_memory.specs.Answered.{unless_refused}
-use Rattle.node_memory.specs.Conditions.{MayAsk, IfRefused}
+use Rattle.node_memory.specs.Code.Conditions.{MayAsk, IfRefused}
 use Rattle.node_memory.specs.Memory.{Memory, with_managed}
-use Rattle.node_memory.specs.Separation.{BlockName, changed_block, frame_block, LeavesOthers}
+use Rattle.node_memory.specs.Code.Separation.{BlockName, changed_block, frame_block, LeavesOthers}
 use Rattle.std.proofs.Common.{arith, ◌≡◌, ◌≢◌, ◌⊎◌, inl, inr, ℕ, zero, suc, true, List, [], ◌∷◌, set, get_or, refl, ap₂, ◌≤◌, Option, Some, None, length, subst}
 use Rattle.std.proofs.lemmas.Bool.Decides.{nat_tests}
 use Rattle.std.proofs.lemmas.List.{get_or-set_other}
@@ -15,7 +15,7 @@ use Rattle.mote_types.specs.declared.call.Call.{Call}
 use Rattle.mote_types.specs.declared.refusal.Refusal.{Refusal}
 use Rattle.mote_types.specs.declared.reply.Reply.{Reply}
 use Rattle.node_memory.specs.Answered.{Asked}
-use Rattle.node_memory.specs.Ask.{ask}
+use Rattle.node_memory.specs.Code.Ask.{ask}
 use Rattle.node_memory.proofs.HeapBlocks.{Results, alloc-results, realloc-results, free-results, write-results}
 use Rattle.node_memory.specs.BlockRefusals.{is_name, alloc_refusal, live_refusal, write_refusal, realloc_refusal}
 use Rattle.heap_core.specs.HeapStore.{allocated, block_of, freed, reallocated, with_bytes, HeapStore}

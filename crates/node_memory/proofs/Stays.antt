@@ -1,21 +1,21 @@
 -- What a refused call leaves as it is and where it is.
-use Rattle.arena_core.specs.Extents.{Extent}
+use Rattle.arena_core.specs.Code.Extents.{Extent}
 use Rattle.arena_core.specs.declared.span.Span.{Span}
 use Rattle.heap_core.specs.HeapStore.{HeapStore, Block}
 use Rattle.heap_core.specs.declared.region.Region.{Region}
-use Rattle.mmem_core.specs.HandleTable.{HandleTable}
+use Rattle.mmem_core.specs.Code.HandleTable.{HandleTable}
 use Rattle.node_memory.specs.Memory.{Memory}
-use Rattle.node_memory.specs.Placed.{PlacedMemory, contents_of, placed}
-use Rattle.node_memory.specs.Conditions.{IfRefused}
-use Rattle.node_memory.specs.Separation.{BlockName, extent_named, extent_in_pool, LeavesAll, lacks_place}
+use Rattle.node_memory.specs.Code.Placed.{PlacedMemory, contents_of, placed}
+use Rattle.node_memory.specs.Code.Conditions.{IfRefused}
+use Rattle.node_memory.specs.Code.Separation.{BlockName, extent_named, extent_in_pool, LeavesAll, lacks_place}
 use Rattle.std.proofs.Common.{Option, ◌≡◌, ℕ, zero, suc, ◌+◌, true, List, [], ◌∷◌, map, drop, refl, ap, ◌∙◌, arith, slice_get, sym}
 use Rattle.std.specs.Option.{option_map}
-use Rattle.heap_core.specs.HeapBytes.{heap_of}
+use Rattle.heap_core.specs.Code.HeapBytes.{heap_of}
 use Rattle.mote_types.specs.declared.call.Call.{Call}
 use Rattle.mote_types.specs.declared.refusal.Refusal.{Refusal}
 use Rattle.mote_types.specs.declared.reply.Reply.{Reply}
 use Rattle.node_memory.specs.declared.listed_pool.ListedPool.{ListedPool}
-use Rattle.heap_core.specs.Separation.{live_block}
+use Rattle.heap_core.specs.Code.Separation.{live_block}
 use Rattle.node_memory.proofs.LaidOut.{layout_of, seen_by}
 
 pools_stay : (listed : List ListedPool) (before after : List ℕ) (b k : ℕ) → map (seen_by after) listed ≡ map (seen_by before) listed

@@ -1,10 +1,10 @@
 //! The calls on a pool's blocks, each with its refusals. A call that is refused changes nothing.
 
 ghost use Rattle.std.specs.Prelude.{◌≡◌};
-ghost use Rattle.memb_core.specs.Links.{AreLinked};
-ghost use Rattle.memb_core.specs.PoolBytes.{KeepsToSpan};
-ghost use Rattle.node_memory.specs.Conditions.{IfRefused};
-ghost use Rattle.node_memory.specs.Placed.{seen};
+ghost use Rattle.memb_core.specs.Code.Links.{AreLinked};
+ghost use Rattle.memb_core.specs.Code.PoolBytes.{KeepsToSpan};
+ghost use Rattle.node_memory.specs.Code.Conditions.{IfRefused};
+ghost use Rattle.node_memory.specs.Code.Placed.{seen};
 ghost use Rattle.node_memory.specs.PoolCalls as calls;
 
 use crate::listed_pool::ListedPool;

@@ -4,9 +4,9 @@ ghost use Rattle.std.specs.Prelude.{◌≡◌, ◌≤◌, ◌<◌, true, false, 
 ghost use Rattle.mmem_core.specs.ManagedStore as store;
 ghost use Rattle.mmem_core.specs.ManagedStore.{fits, shortage};
 ghost use Rattle.node_memory.specs.Frames.{frame_holder, frame_taken, frame_dropped, send_refusal};
-ghost use Rattle.node_memory.specs.Conditions.{frame_in};
-ghost use Rattle.node_memory.specs.Placed.{last_owner};
-ghost use Rattle.node_memory.specs.Separation.{LeavesOthers, frame_block};
+ghost use Rattle.node_memory.specs.Code.Conditions.{frame_in};
+ghost use Rattle.node_memory.specs.Code.Placed.{last_owner};
+ghost use Rattle.node_memory.specs.Code.Separation.{LeavesOthers, frame_block};
 
 use crate::managed::LAST_HANDLE;
 use crate::memory::NodeMemory;

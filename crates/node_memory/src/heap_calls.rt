@@ -1,16 +1,16 @@
 //! The calls on heap memory, each with its refusals. A call that is refused changes no block.
 
 ghost use Rattle.std.specs.Prelude.{◌≡◌, ◌≤◌, length, IfOk, IfErr};
-ghost use Rattle.mote_types.specs.Conditions.{IsName};
+ghost use Rattle.mote_types.specs.Code.Conditions.{IsName};
 ghost use Rattle.mote_types.specs.declared.call.Call.{Call};
 ghost use Rattle.mote_types.specs.declared.reply.Reply.{Reply as Answer};
 ghost use Rattle.heap_core.specs.HeapStore as store;
-ghost use Rattle.heap_core.specs.Conditions as store_conditions;
-ghost use Rattle.node_memory.specs.Ask.{ask};
+ghost use Rattle.heap_core.specs.Code.Conditions as store_conditions;
+ghost use Rattle.node_memory.specs.Code.Ask.{ask};
 ghost use Rattle.node_memory.specs.Code.Outcomes.{reply_to};
-ghost use Rattle.node_memory.specs.Conditions.{IfRefused};
-ghost use Rattle.node_memory.specs.Placed.{last_owner};
-ghost use Rattle.node_memory.specs.Separation.{LeavesAll};
+ghost use Rattle.node_memory.specs.Code.Conditions.{IfRefused};
+ghost use Rattle.node_memory.specs.Code.Placed.{last_owner};
+ghost use Rattle.node_memory.specs.Code.Separation.{LeavesAll};
 
 use crate::memory::NodeMemory;
 use crate::ranges::{LONGEST_READ, chunk_of, is_outside, range_in};

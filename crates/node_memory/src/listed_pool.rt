@@ -1,14 +1,14 @@
 //! A pool with its two lists.
 
 ghost use Rattle.std.specs.Prelude.{◌≡◌, ◌+◌, ◌*◌, ◌≤◌, length, IsSome};
-ghost use Rattle.arena_core.specs.Contents.{contents};
+ghost use Rattle.arena_core.specs.Code.Contents.{contents};
 ghost use Rattle.memb_core.specs.BlockLists.{has_number};
-ghost use Rattle.memb_core.specs.Links.{AreLinked, list_of};
-ghost use Rattle.memb_core.specs.PoolBytes.{KeepsToSpan};
-ghost use Rattle.node_memory.specs.Conditions.{IfRefused};
+ghost use Rattle.memb_core.specs.Code.Links.{AreLinked, list_of};
+ghost use Rattle.memb_core.specs.Code.PoolBytes.{KeepsToSpan};
+ghost use Rattle.node_memory.specs.Code.Conditions.{IfRefused};
 ghost use Rattle.node_memory.specs.ListedPools as specs;
 ghost use Rattle.node_memory.specs.ListedPools.{unused_pool_of};
-ghost use Rattle.node_memory.specs.Placed.{seen};
+ghost use Rattle.node_memory.specs.Code.Placed.{seen};
 ghost use Rattle.node_memory.specs.Code.ListCalls as code;
 ghost use Rattle.node_memory.specs.Code.ListCalls.{IsAnswered, pool_called};
 

@@ -2,16 +2,16 @@
 
 ghost use Rattle.std.specs.Prelude.{◌≡◌, ◌≤◌, None, Some, length, IfOk, IfErr};
 ghost use Rattle.mmem_core.specs.ManagedStore as store;
-ghost use Rattle.mmem_core.specs.Conditions as store_conditions;
+ghost use Rattle.mmem_core.specs.Code.Conditions as store_conditions;
 ghost use Rattle.mote_types.specs.Bytes.{range_of};
-ghost use Rattle.mote_types.specs.Conditions.{IsName};
+ghost use Rattle.mote_types.specs.Code.Conditions.{IsName};
 ghost use Rattle.mote_types.specs.declared.call.Call.{Call};
-ghost use Rattle.node_memory.specs.Ask.{ask};
+ghost use Rattle.node_memory.specs.Code.Ask.{ask};
 ghost use Rattle.node_memory.specs.BlockRefusals as block;
 ghost use Rattle.node_memory.specs.ManagedCalls as calls;
 ghost use Rattle.node_memory.specs.Memory.{with_managed};
-ghost use Rattle.node_memory.specs.Placed.{last_owner};
-ghost use Rattle.node_memory.specs.Separation.{BlockName, LeavesOthers};
+ghost use Rattle.node_memory.specs.Code.Placed.{last_owner};
+ghost use Rattle.node_memory.specs.Code.Separation.{BlockName, LeavesOthers};
 
 use crate::memory::NodeMemory;
 use crate::ranges::{LONGEST_READ, chunk_of, is_outside, range_in};

@@ -3,14 +3,14 @@
 ghost use Rattle.std.specs.Prelude.{◌≡◌, ℕ, ◌↔◌, ◌≤◌, ◌+◌, ◌*◌, true, false, length, map, sum_by, Some, IfOk, IsErrOf};
 ghost use Rattle.node_memory.specs.Memory.{usable_sizes};
 ghost use Rattle.node_memory.specs.ListedPools.{unused_pool_of};
-ghost use Rattle.node_memory.specs.Placed.{seen};
+ghost use Rattle.node_memory.specs.Code.Placed.{seen};
 ghost use Rattle.node_memory.specs.Code.Layout.{LieBehind};
 ghost use Rattle.node_memory.specs.Sizes.{are_sizes};
-ghost use Rattle.node_memory.specs.Ask as asking;
-ghost use Rattle.node_memory.specs.Conditions as asking_conditions;
-ghost use Rattle.node_memory.specs.Conditions.{IfRefused};
-ghost use Rattle.node_memory.specs.Conditions.{is_memory_call};
-ghost use Rattle.node_memory.specs.Parts as parts;
+ghost use Rattle.node_memory.specs.Code.Ask as asking;
+ghost use Rattle.node_memory.specs.Code.Conditions as asking_conditions;
+ghost use Rattle.node_memory.specs.Code.Conditions.{IfRefused};
+ghost use Rattle.node_memory.specs.Code.Conditions.{is_memory_call};
+ghost use Rattle.node_memory.specs.Code.Parts as parts;
 ghost use Rattle.node_memory.specs.declared.parts.Part as part;
 
 use crate::listed_pool::{ListedPool, pool_size};
@@ -67,7 +67,7 @@ pub struct NodeMemory {
 
 impl Model for NodeMemory {
     ghost use Rattle.node_memory.specs.Code.Layout.{IsLaidOut};
-    ghost use Rattle.node_memory.specs.Placed.{PlacedMemory, placed};
+    ghost use Rattle.node_memory.specs.Code.Placed.{PlacedMemory, placed};
 
     ghost Value = { PlacedMemory };
 
@@ -78,8 +78,8 @@ impl Model for NodeMemory {
 
 impl NodeMemory {
     ghost use Rattle.node_memory.specs.Memory.{fresh_memory};
-    ghost use Rattle.node_memory.specs.Placed.{last_owner};
-    ghost use Rattle.node_memory.specs.Separation.{BlocksLieApart, LeavesAll, LeavesOthers, changed_block};
+    ghost use Rattle.node_memory.specs.Code.Placed.{last_owner};
+    ghost use Rattle.node_memory.specs.Code.Separation.{BlocksLieApart, LeavesAll, LeavesOthers, changed_block};
 
     /// The memory of a node with that number of applications, without a block. All memory is allocated here.
     ///

@@ -1,8 +1,8 @@
 //! The part of memory that a call is on.
 
 ghost use Rattle.std.specs.Prelude.{◌≡◌};
-ghost use Rattle.node_memory.specs.Parts as specs;
-ghost use Rattle.node_memory.specs.Conditions as specs_conditions;
+ghost use Rattle.node_memory.specs.Code.Parts as specs;
+ghost use Rattle.node_memory.specs.Code.Conditions as specs_conditions;
 
 use mote_types::call::Call;
 

@@ -19,7 +19,7 @@ pub use Rattle.process_core.specs.Code.Walks.{from_application, from_marked, is_
 pub use Rattle.process_core.specs.Code.Yields.{Yields}
 pub use Rattle.process_core.specs.Idle.{is_empty, is_idle}
 pub use Rattle.process_core.specs.Processes.{at_first, changed, is_any_marked, is_ending, is_kernel_process, is_marked, numbers, state_of, with_mark, with_state, without}
-pub use Rattle.process_core.specs.Conditions.{IsApplication}
+pub use Rattle.process_core.specs.Code.Conditions.{IsApplication}
 pub use Rattle.process_core.specs.Code.Invariant.{IsOfMote}
 pub use Rattle.process_core.specs.Code.Invariant.{is_in_activation}
 pub use Rattle.process_core.specs.Scheduler.{Scheduler, after_front, after_front_of, at_boot, in_front, job, marked, state_in, wants_round}

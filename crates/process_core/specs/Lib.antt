@@ -1,6 +1,5 @@
 -- what a reader must believe
 pub mod Agenda
-pub mod Conditions
 pub mod Idle
 pub mod Processes
 pub mod Requests

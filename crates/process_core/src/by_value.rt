@@ -3,7 +3,7 @@
 ghost use Rattle.std.specs.Prelude.{◌≡◌, ◌<◌, None, IfSome, [], true, false};
 ghost use Rattle.mote_types.specs.declared.event.Event.{Event as Received};
 ghost use Rattle.mote_types.specs.declared.event.Pid.{Pid as Process};
-ghost use Rattle.process_core.specs.Conditions.{IsApplication};
+ghost use Rattle.process_core.specs.Code.Conditions.{IsApplication};
 ghost use Rattle.process_core.specs.Scheduler.{state_in, wants_round};
 ghost use Rattle.process_core.specs.Code.ByValue as by_value;
 ghost use Rattle.process_core.specs.Code.Invariant.{IsWellFormed, is_in_activation};

@@ -6,7 +6,7 @@ ghost use Rattle.mote_types.specs.declared.event.Pid.{Pid};
 ghost use Rattle.mote_types.specs.declared.event.Stimulus.{Stimulus as ToldStimulus};
 ghost use Rattle.process_core.specs.Code.OpenWork.{agenda_of};
 ghost use Rattle.process_core.specs.Code.SchedulerView.{awaiting_nothing, job_of, turn_of, callback_of};
-ghost use Rattle.process_core.specs.Conditions.{IsApplication};
+ghost use Rattle.process_core.specs.Code.Conditions.{IsApplication};
 ghost use Rattle.process_core.specs.Code.Invariant.{is_in_activation};
 ghost use Rattle.process_core.specs.Scheduler.{at_boot, state_in, wants_round};
 ghost use Rattle.process_core.specs.Code.Items.{ComesTo};

@@ -1,7 +1,7 @@
 //! An application that beats.
 
 ghost use Rattle.std.specs.Prelude.{◌≡◌, false};
-ghost use Rattle.mote_types.specs.StateMachines.{fold_says};
+ghost use Rattle.mote_types.specs.Code.StateMachines.{fold_says};
 ghost use Rattle.template_app.specs.Beat.{beat_answer, beat_next, by_name};
 
 use mote_kit::{FromName, chunk_of};

@@ -1,7 +1,7 @@
 //! An application that averages measurements.
 
 ghost use Rattle.std.specs.Prelude.{◌≡◌, ◌≤◌, ◌++◌, [], ◌∷◌, drop, length, sum};
-ghost use Rattle.mote_types.specs.StateMachines.{fold_says};
+ghost use Rattle.mote_types.specs.Code.StateMachines.{fold_says};
 ghost use Rattle.mote_text.specs.Script.{read_number};
 ghost use Rattle.template_averager.specs.Averager.{averager_answer, averager_next, average_of, by_name, command_answer, command_next, fresh, limit_answer, limit_next, measured, reply_answer, reply_next, sending_answer, sending_next};
 

@@ -1,7 +1,7 @@
 -- What the application says that makes calls by the numbers of a generator, whatever it receives.
 use Rattle.std.specs.Prelude.{ℕ, Bool, ◌+◌, ◌*◌, ◌/◌, ◌%◌, ◌^◌, List, [], ◌∷◌, slice_index_or, if◌then◌else◌}
 use Rattle.mote_types.specs.Applications.{Says}
-use Rattle.mote_types.specs.StateMachines.{fold_says}
+use Rattle.mote_types.specs.Code.StateMachines.{fold_says}
 use Rattle.mote_types.specs.declared.call.Call.{Call}
 use Rattle.mote_types.specs.declared.event.Payload.{Payload}
 use Rattle.mote_types.specs.declared.event.Stimulus.{Stimulus}

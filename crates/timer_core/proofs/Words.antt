@@ -15,7 +15,7 @@ pub use Rattle.timer_core.specs.Code.Neighbours.{EndsWith, StandsBehind}
 pub use Rattle.timer_core.specs.Code.Numbered.{IsNumbered}
 pub use Rattle.timer_core.specs.Code.Places.{are_placed, is_named, place_of, timer_at}
 pub use Rattle.timer_core.specs.Names.{is_callback_timer_of, is_event_timer_of, is_timer}
-pub use Rattle.timer_core.specs.Conditions.{IsNamed}
+pub use Rattle.timer_core.specs.Code.Conditions.{IsNamed}
 unfoldable pub use Rattle.timer_core.specs.Names.{all_timers}
 pub use Rattle.timer_core.specs.Timers.{NamedCell, Timers, armed_with, cell_of, deadline, first_due, is_armed, is_due, no_timers, stop_timer, with_cell, zero_cell}
 pub use Rattle.timer_core.specs.declared.table.LinkedCell.{LinkedCell}

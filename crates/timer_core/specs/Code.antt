@@ -1,5 +1,6 @@
 -- Invariants of the code.
 pub mod Armings
+pub mod Conditions
 pub mod DueTimers
 pub mod Earliest
 pub mod Links

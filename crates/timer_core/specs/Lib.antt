@@ -1,5 +1,4 @@
 -- what a reader must believe
-pub mod Conditions
 pub mod Deadlines
 pub mod Names
 pub mod Timers

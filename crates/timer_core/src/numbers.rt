@@ -2,7 +2,7 @@
 
 ghost use Rattle.std.specs.Prelude.{◌≡◌, ◌<◌, ◌≤◌, ◌^◌, ℕ, false};
 ghost use Rattle.timer_core.specs.Code.Armings.{no_armings, callback_place, present_arming, is_present_arming, renumbered, all_renumbered};
-ghost use Rattle.timer_core.specs.Conditions.{IsNamed};
+ghost use Rattle.timer_core.specs.Code.Conditions.{IsNamed};
 ghost use Rattle.timer_core.specs.declared.timer.Timer.{Timer};
 
 use mote_types::event::Pid;

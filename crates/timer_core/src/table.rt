@@ -4,7 +4,7 @@ ghost use Rattle.std.specs.Prelude.{◌≡◌, ◌≤◌, ◌^◌, true};
 ghost use Rattle.timer_core.specs.Code.Neighbours.{StandsBehind};
 ghost use Rattle.timer_core.specs.Code.Outlooks.{IsOutlook, IsPassed};
 ghost use Rattle.timer_core.specs.Code.Places.{timer_at};
-ghost use Rattle.timer_core.specs.Conditions.{IsNamed};
+ghost use Rattle.timer_core.specs.Code.Conditions.{IsNamed};
 ghost use Rattle.timer_core.specs.Deadlines.{earlier_of, next_deadline};
 ghost use Rattle.timer_core.specs.Timers.{no_timers, cell_of, is_armed, armed_with, stop_timer, without_event_timers, without_callback_timers};
 

@@ -5,7 +5,7 @@ ghost use Rattle.std.specs.Option.{option_map};
 ghost use Rattle.mote_types.specs.declared.refusal.Refusal.{Refusal};
 ghost use Rattle.timer_core.specs.declared.timer.Timer.{Timer};
 ghost use Rattle.timer_core.specs.Code.Armings.{present_arming, is_present_arming, renumbered, all_renumbered};
-ghost use Rattle.timer_core.specs.Conditions.{IsNamed};
+ghost use Rattle.timer_core.specs.Code.Conditions.{IsNamed};
 ghost use Rattle.timer_core.specs.Code.NumberedTimers.{at_boot, due_of, IsDue};
 ghost use Rattle.timer_core.specs.Deadlines.{next_deadline};
 ghost use Rattle.timer_core.specs.Timers.{is_armed, set_timer, restart_timer, reset_timer, can_reset, stop_timer, first_due, without_event_timers, without_callback_timers};

@@ -1,7 +1,7 @@
 //! The timer table, the moment from which on one of its timers may be due, and how far the search for one has got.
 
 ghost use Rattle.std.specs.Prelude.{◌≡◌, ◌≤◌, ◌^◌, is_some, IfSome};
-ghost use Rattle.timer_core.specs.Conditions.{IsNamed};
+ghost use Rattle.timer_core.specs.Code.Conditions.{IsNamed};
 ghost use Rattle.timer_core.specs.Code.DueTimers.{without_first_due};
 ghost use Rattle.timer_core.specs.Deadlines.{next_deadline};
 ghost use Rattle.timer_core.specs.Timers.{no_timers, cell_of, is_armed, armed_with, stop_timer, first_due, without_event_timers, without_callback_timers};

@@ -14,7 +14,7 @@ use Rattle.mote_run.specs.RunText.{IsRunText}
 use Rattle.toarmuts.specs.declared.refusal.LineReason.{LineReason}
 use Rattle.toarmuts.specs.declared.refusal.Refusal.{Refusal}
 use Rattle.call_lists.specs.Applications.{application_says}
-use Rattle.mote_run.specs.Runs.{config_of}
+use Rattle.mote_run.specs.Code.Runs.{config_of}
 use Rattle.std.specs.Str.Lines.{lines}
 use Rattle.mote_types.specs.Applications.{says_of}
 use Rattle.node_memory.specs.declared.sizes.Sizes.{Sizes}

@@ -7,7 +7,7 @@ use Rattle.mote_text.specs.declared.script.End.{End}
 use Rattle.call_lists.specs.Applications.{application_says, IsListed, IsNamed}
 use Rattle.call_lists.specs.declared.applications.Application.{Application}
 use Rattle.kernel_core.specs.Machine.{is_bootable}
-use Rattle.mote_run.specs.Runs.{config_of}
+use Rattle.mote_run.specs.Code.Runs.{config_of}
 use Rattle.mote_run.specs.RunText.{IsRunText}
 use Rattle.toarmuts.specs.Configurations.{is_quiet, sizes_of}
 use Rattle.toarmuts.specs.Reasons.{HasCalls, IsLineReason, IsNoApplication, call_of_list, line_reason_number, size_reason, size_reason_number}

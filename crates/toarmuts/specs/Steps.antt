@@ -8,7 +8,7 @@ use Rattle.mote_text.specs.Script.{read_line}
 use Rattle.kernel_core.specs.declared.config.Config.{Config}
 use Rattle.timer_core.specs.Deadlines.{next_deadline}
 use Rattle.kernel_core.specs.Machine.{booted, is_bootable}
-use Rattle.mote_run.specs.Runs.{config_of}
+use Rattle.mote_run.specs.Code.Runs.{config_of}
 use Rattle.mote_session.specs.History.{History, at_boot, with_call, with_input, with_said}
 use Rattle.mote_session.specs.Refusals.{input_refusal, line_refusal}
 use Rattle.mote_session.specs.SessionRuns.{IsHistoryOf, SessionPromise}

@@ -3,7 +3,7 @@
 ghost use Rattle.std.specs.Prelude.{◌≡◌, length, IfErr, IfOk};
 ghost use Rattle.mote_types.specs.Applications.{says_of};
 ghost use Rattle.call_lists.specs.Applications.{application_says};
-ghost use Rattle.mote_run.specs.Runs.{config_of};
+ghost use Rattle.mote_run.specs.Code.Runs.{config_of};
 ghost use Rattle.mote_run.specs.RunText.{IsRunText};
 ghost use Rattle.toarmuts.specs.Outcomes.{HasRun, Refuses};
 ghost use Rattle.toarmuts.specs.declared.refusal.Refusal.TheVariants.{OutOfMemory};

@@ -2,7 +2,7 @@
 use Rattle.std.specs.Prelude.{ℕ, List}
 use Rattle.heap_core.specs.declared.chunk.Chunk.{Chunk}
 use Rattle.heap_core.specs.declared.region.Region.{Region}
-use Rattle.heap_core.specs.Chunks.{chunks_from}
+use Rattle.heap_core.specs.Code.Chunks.{chunks_from}
 
 -- the chunks from a position on
 unfoldable pub chunks_behind : Region → List ℕ → ℕ → List Chunk

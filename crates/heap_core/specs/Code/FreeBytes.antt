@@ -1,8 +1,8 @@
 -- Where free bytes begin and end beside chunks, and what a chunk that is put into them may leave.
 use Rattle.std.specs.Prelude.{◌≡◌, ℕ, ◌+◌, ◌-◌, ◌%◌, ◌≤◌, ◌⊎◌, List, [], ◌∷◌, Option, Some, None, if◌then◌else◌, ◌==◌}
 use Rattle.heap_core.specs.declared.chunk.Chunk.{Chunk}
-use Rattle.heap_core.specs.Chunks.{shortest}
-use Rattle.heap_core.specs.FreeList.{Stands}
+use Rattle.heap_core.specs.Code.Chunks.{shortest}
+use Rattle.heap_core.specs.Code.FreeList.{Stands}
 
 -- what is between two positions is as long as a whole gap
 abbrev pub LeavesGap : ℕ → ℕ → ℕ → Type 0

@@ -1,13 +1,13 @@
 -- Chunks that go and chunks that replace them, and bytes between chunks into which a live chunk may be put.
 use Rattle.std.specs.Prelude.{◌≡◌, ◌≢◌, ℕ, ◌+◌, ◌-◌, ◌%◌, ◌≤◌, ◌<◌, ◌⊎◌, List, [], ◌∷◌, ◌++◌, length, Option, Some, None, IsSomeAnd}
-use Rattle.arena_core.specs.Outside.{ChangesOnly}
+use Rattle.arena_core.specs.Code.Outside.{ChangesOnly}
 use Rattle.heap_core.specs.declared.chunk.Chunk.{Chunk}
 use Rattle.heap_core.specs.declared.chunk.Place.{Place}
 use Rattle.heap_core.specs.declared.region.Region.{Region}
 use Rattle.heap_core.specs.HeapStore.{Block}
-use Rattle.heap_core.specs.Chunks.{Tell, BeginsLive, IsWhole, AreJoined, with_chunk, blocks_in, shortest}
-use Rattle.heap_core.specs.Layout.{chunks_of, store_of, HasChunks}
-use Rattle.heap_core.specs.FreeList.{LinkedTo, gaps_among, LiveIn}
+use Rattle.heap_core.specs.Code.Chunks.{Tell, BeginsLive, IsWhole, AreJoined, with_chunk, blocks_in, shortest}
+use Rattle.heap_core.specs.Code.Layout.{chunks_of, store_of, HasChunks}
+use Rattle.heap_core.specs.Code.FreeList.{LinkedTo, gaps_among, LiveIn}
 use Rattle.heap_core.specs.Code.Links.{gap_count, gap_from}
 use Rattle.heap_core.specs.Code.FreeBytes.{LeavesGap, IsWholeRoom}
 use Rattle.heap_core.specs.Code.PlacedBlocks.{without_place}

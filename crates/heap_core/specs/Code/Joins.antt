@@ -1,12 +1,12 @@
 -- What setting a chunk aside keeps, and what joining those that were freed with the gaps beside them keeps.
 use Rattle.std.specs.Prelude.{◌≡◌, ◌≢◌, ℕ, List}
-use Rattle.arena_core.specs.Contents.{Contents}
+use Rattle.arena_core.specs.Code.Contents.{Contents}
 use Rattle.heap_core.specs.declared.chunk.Chunk.{Chunk}
 use Rattle.heap_core.specs.declared.region.Region.{Region}
 use Rattle.heap_core.specs.HeapStore.{HeapStore}
-use Rattle.heap_core.specs.HeapBytes.{heap_of, KeepsToSpan}
-use Rattle.heap_core.specs.Layout.{chunks_of, store_of, HasChunks}
-use Rattle.heap_core.specs.FreeList.{LiveIn, GapsLinked, FreedLinked}
+use Rattle.heap_core.specs.Code.HeapBytes.{heap_of, KeepsToSpan}
+use Rattle.heap_core.specs.Code.Layout.{chunks_of, store_of, HasChunks}
+use Rattle.heap_core.specs.Code.FreeList.{LiveIn, GapsLinked, FreedLinked}
 use Rattle.heap_core.specs.Code.Links.{KeepsFreed}
 use Rattle.heap_core.specs.Code.PlacedBlocks.{without_place}
 

@@ -2,9 +2,9 @@
 use Rattle.std.specs.Prelude.{◌≡◌, ℕ, ◌+◌, ◌≤◌, ◌<◌, List, [], ◌∷◌, ◌++◌, length, fold, Option, Some, None, IfSome, if◌then◌else◌, ◌==◌, nat_lt}
 use Rattle.heap_core.specs.declared.chunk.Chunk.{Chunk}
 use Rattle.heap_core.specs.declared.region.Region.{Region}
-use Rattle.heap_core.specs.Chunks.{chunk_at}
-use Rattle.heap_core.specs.FreeList.{GapsLinked, gaps_among, LinkedTo, LiveIn}
-use Rattle.heap_core.specs.Layout.{chunks_of, store_of, HasChunks}
+use Rattle.heap_core.specs.Code.Chunks.{chunk_at}
+use Rattle.heap_core.specs.Code.FreeList.{GapsLinked, gaps_among, LinkedTo, LiveIn}
+use Rattle.heap_core.specs.Code.Layout.{chunks_of, store_of, HasChunks}
 
 -- the number of gaps that n free bytes make
 abbrev pub gap_count : ℕ → ℕ

@@ -1,7 +1,7 @@
 -- Which chunk is the block of a name.
 use Rattle.std.specs.Prelude.{◌≡◌, ℕ, Bool, false, List, Option, Some, None, ◌==◌}
 use Rattle.heap_core.specs.declared.chunk.Chunk.{Chunk}
-use Rattle.heap_core.specs.FreeList.{Stands}
+use Rattle.heap_core.specs.Code.FreeList.{Stands}
 
 abbrev pub is_owner : ℕ → Option ℕ → Bool
 is_owner name None = false

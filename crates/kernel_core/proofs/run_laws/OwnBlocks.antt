@@ -7,7 +7,7 @@ use Rattle.node_memory.specs.MemoryCalls.{on_heap, on_managed}
 use Rattle.node_memory.specs.BlockRefusals.{alloc_refusal, realloc_refusal}
 use Rattle.node_memory.specs.HeapCalls.{done_or_no_room}
 use Rattle.node_memory.specs.Memory.{with_heap, with_managed}
-use Rattle.node_memory.specs.Conditions.{is_memory_call}
+use Rattle.node_memory.specs.Code.Conditions.{is_memory_call}
 use Rattle.kernel_core.specs.Laws.BlockHistory.{over_accepted, touched}
 use Rattle.std.proofs.lemmas.List.{get_or-set_other, get_or-set_same, length-set}
 use Rattle.std.proofs.lemmas.List.Sums.{sum_by-cons, sum_by-set}

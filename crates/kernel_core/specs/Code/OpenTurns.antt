@@ -6,11 +6,11 @@ use Rattle.mote_types.specs.declared.entry.Entry.{Entry}
 use Rattle.mote_types.specs.declared.event.Stimulus.{Stimulus}
 use Rattle.mote_types.specs.declared.event.Origin.{Origin}
 use Rattle.mote_types.specs.declared.event.Pid.{Pid}
-use Rattle.node_memory.specs.Placed.{last_owner}
+use Rattle.node_memory.specs.Code.Placed.{last_owner}
 use Rattle.kernel_core.specs.declared.fields.KernelFields.{KernelFields}
 use Rattle.kernel_core.specs.declared.step.StepOutcome.{StepOutcome}
 use Rattle.kernel_core.specs.declared.turn.Turn.{Turn}
-use Rattle.kernel_core.specs.Conditions.{TakesEntry}
+use Rattle.kernel_core.specs.Code.Conditions.{TakesEntry}
 use Rattle.kernel_core.specs.Machine.{Machine}
 use Rattle.kernel_core.specs.Calls.{after_call}
 use Rattle.kernel_core.specs.Mote.{Mote}

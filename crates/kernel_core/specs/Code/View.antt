@@ -6,13 +6,13 @@ use Rattle.mote_types.specs.declared.entry.Input.{Input}
 use Rattle.mote_types.specs.declared.entry.Note.{Note}
 use Rattle.mote_types.specs.declared.event.Pid.{Pid}
 use Rattle.device_core.specs.declared.frame.Frame.{Frame}
-use Rattle.node_memory.specs.Conditions.{frame_in}
+use Rattle.node_memory.specs.Code.Conditions.{frame_in}
 use Rattle.node_memory.specs.Memory.{Memory}
-use Rattle.node_memory.specs.Placed.{last_owner}
+use Rattle.node_memory.specs.Code.Placed.{last_owner}
 use Rattle.process_core.specs.Agenda.{Item, Job}
 use Rattle.process_core.specs.Code.Invariant.{IsWellFormed}
 use Rattle.process_core.specs.Code.SchedulerView.{turn_of, callback_of}
-use Rattle.process_core.specs.Conditions.{IsApplication}
+use Rattle.process_core.specs.Code.Conditions.{IsApplication}
 use Rattle.process_core.specs.declared.next_job.NextJob.{NextJob as Taken}
 use Rattle.kernel_core.specs.Code.Carrying.{job_carrying, carrying}
 use Rattle.process_core.specs.Processes.{numbers}

@@ -1,7 +1,7 @@
 -- How the code changes what a pool and its lists keep.
 use Rattle.std.specs.Prelude.{ℕ, Bool, Option, slice_set}
 use Rattle.memb_core.specs.declared.list_name.ListName.{ListName}
-use Rattle.memb_core.specs.PoolTable.{PoolTable, ListHeads}
+use Rattle.memb_core.specs.Code.PoolTable.{PoolTable, ListHeads}
 
 -- the lists with another head stored for one of them
 abbrev pub with_start : ListName → Option ℕ → ListHeads → ListHeads

@@ -2,7 +2,7 @@
 use Rattle.std.specs.Prelude.{◌≢◌, ℕ, ◌+◌, ◌≤◌, ◌<◌, List, Option, Some, None}
 use Rattle.mote_types.specs.Rounding.{up4}
 use Rattle.mmem_core.specs.declared.place.Place.{Place}
-use Rattle.mmem_core.specs.Places.{place_in}
+use Rattle.mmem_core.specs.Code.Places.{place_in}
 
 abbrev pub at_of : Option Place → ℕ
 at_of None = 0

@@ -2,7 +2,7 @@
 use Rattle.std.specs.Prelude.{◌≡◌, ◌≢◌, ℕ, ◌≤◌, ◌<◌, ◌⊎◌, List, length, get_or, set, sum_by, Option, Some, None}
 use Rattle.mmem_core.specs.declared.order.Order.{Order}
 use Rattle.mmem_core.specs.declared.place.Place.{Place}
-use Rattle.mmem_core.specs.Places.{place_in}
+use Rattle.mmem_core.specs.Code.Places.{place_in}
 use Rattle.mmem_core.specs.Code.Laid.{at_of, room_of, end_at}
 
 -- what a link names: the number of a block, or an end

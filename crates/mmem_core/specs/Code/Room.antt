@@ -1,10 +1,10 @@
 -- When a new block may be put after the last one.
 use Rattle.std.specs.Prelude.{◌≡◌, ℕ, ◌+◌, ◌≤◌, List, None}
-use Rattle.mote_types.specs.Conditions.{IsName}
+use Rattle.mote_types.specs.Code.Conditions.{IsName}
 use Rattle.mote_types.specs.Rounding.{up4}
 use Rattle.mmem_core.specs.ManagedStore.{block_of, free, unused}
-use Rattle.mmem_core.specs.Places.{last_end}
-use Rattle.mmem_core.specs.HandleTable.{HandleTable, store_of, IsWithin}
+use Rattle.mmem_core.specs.Code.Places.{last_end}
+use Rattle.mmem_core.specs.Code.HandleTable.{HandleTable, store_of, IsWithin}
 
 -- p has no block under this handle, may have n bytes more, and n bytes are free after the last block
 pub record MayFollow (table : HandleTable) (bytes : List ℕ) (p handle n : ℕ) : Type 0 where

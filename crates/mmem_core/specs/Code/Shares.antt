@@ -4,7 +4,7 @@ use Rattle.mote_types.specs.BlockNames.{number_of}
 use Rattle.mmem_core.specs.declared.place.Place.{Place}
 use Rattle.mmem_core.specs.declared.quotas.Quotas.{Quotas}
 use Rattle.mmem_core.specs.ManagedStore.{handles}
-use Rattle.mmem_core.specs.Places.{place_in}
+use Rattle.mmem_core.specs.Code.Places.{place_in}
 use Rattle.mmem_core.specs.Code.Laid.{room_of}
 
 -- what the blocks of p take

@@ -1,7 +1,7 @@
 -- What the code computes of the rows of a table.
 use Rattle.std.specs.Prelude.{◌≡◌, ◌≢◌, ℕ, ◌+◌, ◌≤◌, ◌<◌, List, length, slice_index_or, Option, Some, None}
 use Rattle.mote_types.specs.Rounding.{up4}
-use Rattle.mmem_core.specs.Places.{place_in, last_end}
+use Rattle.mmem_core.specs.Code.Places.{place_in, last_end}
 use Rattle.mmem_core.specs.Code.Laid.{at_of, room_of}
 use Rattle.modules_c.specs.declared.mmem.block.Block.{Block}
 use Rattle.modules_c.specs.Mmem.Stored.{places_told}

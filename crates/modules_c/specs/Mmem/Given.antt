@@ -2,7 +2,7 @@
 use Rattle.std.specs.Prelude.{◌≡◌, ℕ, ◌+◌, ◌≤◌, ◌<◌, List, length, slice_set, IsSomeAnd}
 use Rattle.mote_types.specs.Rounding.{up4}
 use Rattle.mmem_core.specs.ManagedStore.{unused, allocated}
-use Rattle.mmem_core.specs.Places.{place_in, last_end}
+use Rattle.mmem_core.specs.Code.Places.{place_in, last_end}
 use Rattle.modules_c.specs.declared.mmem.block.Block.{Block}
 use Rattle.modules_c.specs.Mmem.Stored.{places_told, stored, IsTable, LieNoHigher, KeepOrder, process_of, handle_of}
 

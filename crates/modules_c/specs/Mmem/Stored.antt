@@ -2,11 +2,11 @@
 use Rattle.std.specs.Prelude.{◌≡◌, ◌≢◌, ℕ, ◌≤◌, ◌<◌, ◌+◌, ◌/◌, ◌%◌, ◌==◌, List, length, map, replicate, Option, Some, None, if◌then◌else◌}
 use Rattle.std.specs.Option.{option_map}
 use Rattle.mote_types.specs.Rounding.{up4}
-use Rattle.arena_core.specs.Extents.{Extent, AreApart}
+use Rattle.arena_core.specs.Code.Extents.{Extent, AreApart}
 use Rattle.mmem_core.specs.declared.place.Place.{Place}
 use Rattle.mmem_core.specs.ManagedStore.{ManagedStore, empty_store}
-use Rattle.mmem_core.specs.HandleTable.{bytes_at}
-use Rattle.mmem_core.specs.Places.{place_in}
+use Rattle.mmem_core.specs.Code.HandleTable.{bytes_at}
+use Rattle.mmem_core.specs.Code.Places.{place_in}
 use Rattle.modules_c.specs.declared.mmem.block.Block.{Block}
 
 -- where a row says that a block is, if it has one

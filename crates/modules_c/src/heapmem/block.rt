@@ -2,7 +2,7 @@
 
 ghost use Rattle.std.specs.Prelude.{◌≡◌, ◌≢◌, ◌+◌, ◌≤◌, ◌<◌, length, IsSomeAnd, Some};
 ghost use Rattle.mote_types.specs.Bytes.{range_of, resized};
-ghost use Rattle.arena_core.specs.Written.{written};
+ghost use Rattle.arena_core.specs.Code.Written.{written};
 ghost use Rattle.heap_core.specs.HeapStore.{place, place_of, new_place, room_in_place, find_block, without_block};
 ghost use Rattle.modules_c.specs.Heapmem.Heaps.{block_told, heap_of, row_limit, IsTable, front, with_new, with_resized};
 ghost use Rattle.modules_c.specs.Heapmem.Answers.{AllocTold, FreeTold, ReallocTold};

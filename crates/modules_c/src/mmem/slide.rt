@@ -3,7 +3,7 @@
 ghost use Rattle.std.specs.Prelude.{◌≡◌, ◌+◌, ◌-◌, ◌≤◌, ◌<◌, length, sum_by, slice_set, IsSomeAnd};
 ghost use Rattle.mote_types.specs.Rounding.{up4};
 ghost use Rattle.mmem_core.specs.ManagedStore.{allocated};
-ghost use Rattle.mmem_core.specs.Places.{place_in, last_end};
+ghost use Rattle.mmem_core.specs.Code.Places.{place_in, last_end};
 ghost use Rattle.mmem_core.specs.Code.Laid.{room_of};
 ghost use Rattle.modules_c.specs.Mmem.Stored.{places_told, stored, IsTable, process_of, handle_of};
 ghost use Rattle.modules_c.specs.Code.MmemRows.{row_of, IsNext, MovesDown, LiesBehind};

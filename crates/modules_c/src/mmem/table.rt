@@ -2,7 +2,7 @@
 
 ghost use Rattle.std.specs.Prelude.{◌≡◌, ◌+◌, ◌-◌, ◌^◌, ◌≤◌, ◌<◌, ◌↔◌, IsTrue, true, false, length, sum_by};
 ghost use Rattle.mote_types.specs.Rounding.{up4};
-ghost use Rattle.mmem_core.specs.Places.{last_end};
+ghost use Rattle.mmem_core.specs.Code.Places.{last_end};
 ghost use Rattle.mmem_core.specs.Code.Laid.{room_of};
 ghost use Rattle.modules_c.specs.Mmem.Stored.{places_told, IsTable};
 ghost use Rattle.modules_c.specs.Code.MmemRows.{row_of, EndsBefore, IsClear};

@@ -8,7 +8,7 @@ use Rattle.mote_text.specs.Code.Reading.{Before}
 use Rattle.mote_text.specs.Script.{inputs, line_limit, read_line}
 use Rattle.mote_text.specs.Code.LineAnswers.{line_said}
 use Rattle.mote_text.specs.declared.script_lines.Taken.{Taken}
-use Rattle.kernel_core.specs.Conditions.{has_bytes, ticks_of}
+use Rattle.kernel_core.specs.Code.Conditions.{has_bytes, ticks_of}
 use Rattle.mote_run.specs.declared.script.Script.{Script}
 
 -- a line says what it is read as, bytes before a line's end say nothing, and a line that is too wide has no form

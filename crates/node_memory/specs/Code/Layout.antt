@@ -1,11 +1,11 @@
 -- How managed memory, the heap and the pools are laid out in the arena.
 use Rattle.std.specs.Prelude.{◌≡◌, ℕ, ◌+◌, ◌≤◌, List, [], ◌∷◌, length}
 use Rattle.arena_core.specs.declared.span.Span.{Span}
-use Rattle.mmem_core.specs.HandleTable.{IsWithin}
-use Rattle.heap_core.specs.HeapBytes as heap
-use Rattle.memb_core.specs.Links.{AreLinked}
+use Rattle.mmem_core.specs.Code.HandleTable.{IsWithin}
+use Rattle.heap_core.specs.Code.HeapBytes as heap
+use Rattle.memb_core.specs.Code.Links.{AreLinked}
 use Rattle.node_memory.specs.declared.listed_pool.ListedPool.{ListedPool}
-use Rattle.node_memory.specs.Placed.{Layout}
+use Rattle.node_memory.specs.Code.Placed.{Layout}
 
 abbrev pub end_of : Span → ℕ
 end_of span = span.at + span.len

@@ -2,11 +2,11 @@
 use Rattle.std.specs.Prelude.{◌≡◌, ℕ, Bool, true, false, nat_lt, Option, Some, None}
 use Rattle.mote_types.specs.declared.call.Call.{Call}
 use Rattle.mote_types.specs.declared.reply.Reply.{Reply}
-use Rattle.node_memory.specs.Ask.{ask}
+use Rattle.node_memory.specs.Code.Ask.{ask}
 use Rattle.node_memory.specs.ListedPools.{PoolWithLists}
 use Rattle.node_memory.specs.Memory.{Memory, pool_in, with_pool}
 use Rattle.node_memory.specs.declared.parts.Part.{Part}
-use Rattle.node_memory.specs.Parts.{part_called}
+use Rattle.node_memory.specs.Code.Parts.{part_called}
 use Rattle.memb_core.specs.declared.list_name.ListName.{ListName}
 
 abbrev pub pool_in_part : Option Part → Option ℕ

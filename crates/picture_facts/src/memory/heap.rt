@@ -2,9 +2,9 @@
 
 ghost use Rattle.std.specs.Prelude.{◌≡◌, ◌⊎◌, ◌≤◌, Some, None, IsSome, IfSome, IfOk};
 ghost use Rattle.std.specs.Bool.{OnTrue, OnFalse};
-ghost use Rattle.mote_types.specs.Conditions.{IsName};
+ghost use Rattle.mote_types.specs.Code.Conditions.{IsName};
 ghost use Rattle.heap_core.specs.HeapStore.{empty_heap, allocated, reallocated, freed, place, stats_of};
-ghost use Rattle.heap_core.specs.Conditions.{IsHeapSize, IsHeaderLength, length_of, live_place};
+ghost use Rattle.heap_core.specs.Code.Conditions.{IsHeapSize, IsHeaderLength, length_of, live_place};
 
 use arena_core::Arena;
 use heap_core::{Heap, Key, Place};
@@ -21,7 +21,7 @@ pub struct LiveHeap {
 
 impl Model for LiveHeap {
     ghost use Rattle.heap_core.specs.HeapStore.{HeapStore};
-    ghost use Rattle.heap_core.specs.HeapBytes.{heap_of, IsLaidOut};
+    ghost use Rattle.heap_core.specs.Code.HeapBytes.{heap_of, IsLaidOut};
 
     ghost Value = { HeapStore };
 

@@ -1,8 +1,8 @@
 //! The map of the heap: where its blocks are, by a heap in which the accepted calls of the transcript are executed.
 
 ghost use Rattle.std.specs.Prelude.{◌≡◌, All, IfSome};
-ghost use Rattle.mote_types.specs.Conditions.{IsName};
-ghost use Rattle.heap_core.specs.Conditions.{IsHeaderLength};
+ghost use Rattle.mote_types.specs.Code.Conditions.{IsName};
+ghost use Rattle.heap_core.specs.Code.Conditions.{IsHeaderLength};
 ghost use Rattle.picture_facts.specs.Spans.{StayEndsLater};
 
 use crate::memory::Answered;

@@ -7,7 +7,7 @@ use Rattle.timer_core.specs.declared.timer.Timer.{Timer}
 use Rattle.timer_core.specs.declared.table.LinkedCell.{LinkedCell}
 use Rattle.timer_core.specs.declared.table.TimerTable.TheInside.{Inside}
 use Rattle.timer_core.specs.Names.{all_timers, is_timer}
-use Rattle.timer_core.specs.Conditions.{IsNamed}
+use Rattle.timer_core.specs.Code.Conditions.{IsNamed}
 use Rattle.timer_core.specs.Code.Places.{place_of, timer_at}
 use Rattle.timer_core.specs.Timers.{NamedCell, Timers, zero_cell}
 

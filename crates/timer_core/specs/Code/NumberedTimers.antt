@@ -3,7 +3,7 @@ use Rattle.std.specs.Prelude.{◌<◌}
 use Rattle.timer_core.specs.declared.due.Due.{Due}
 use Rattle.timer_core.specs.declared.timer.Timer.{Timer}
 use Rattle.timer_core.specs.Code.Armings.{Armings, no_armings, present_arming}
-use Rattle.timer_core.specs.Conditions.{IsNamed}
+use Rattle.timer_core.specs.Code.Conditions.{IsNamed}
 use Rattle.timer_core.specs.Timers.{Timers, no_timers}
 
 pub record NumberedTimers : Type 0 where

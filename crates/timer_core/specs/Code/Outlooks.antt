@@ -4,7 +4,7 @@ use Rattle.std.specs.List.{list_any}
 use Rattle.timer_core.specs.declared.table.Outlook.{Outlook}
 use Rattle.timer_core.specs.declared.table.Passed.{Passed}
 use Rattle.timer_core.specs.declared.timer.Timer.{Timer}
-use Rattle.timer_core.specs.Conditions.{IsNamed}
+use Rattle.timer_core.specs.Code.Conditions.{IsNamed}
 use Rattle.timer_core.specs.Code.Neighbours.{EndsWith}
 use Rattle.timer_core.specs.Code.Places.{timer_at}
 use Rattle.timer_core.specs.Code.Watched.{NoneDueBefore}

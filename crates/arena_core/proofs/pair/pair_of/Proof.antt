@@ -4,7 +4,7 @@
 --     two_runs             two runs that do not meet are taken out, and bytes as many are put in the place of each
 --     lends_two            two runs that a `&mut S` owns leave the function, and S's last value follows theirs
 use seplogic.Ra.Ura.{Ura}
-use Rattle.arena_core.specs.Written.{written}
+use Rattle.arena_core.specs.Code.Written.{written}
 use Rattle.core.proofs.alloc.Shapes.{after}
 use Rattle.std.proofs.Common.{List, MutBor, [], ap, arith, inl, inr, length, refl, sym, take, w64, ℕ, ◌*◌, ◌++◌, ◌+◌, ◌-◌, ◌<◌, ◌^◌, ◌∙◌, ◌∷◌, ◌≡◌, ◌≤◌, ◌⊎◌}
 use Rattle.std.proofs.lemmas.List.{drop-take, take-take}

@@ -6,11 +6,11 @@ use Rattle.mote_types.specs.declared.fault.BootFault.{BootFault}
 use Rattle.mote_text.specs.declared.script.End.{End}
 use Rattle.mote_run.specs.declared.run.RunFault.{RunFault}
 use Rattle.mote_run.specs.declared.fault.MoteFault.{MoteFault}
-use Rattle.mote_run.specs.Faults.{fault_at_boot, fault_in_run}
+use Rattle.mote_run.specs.Code.Faults.{fault_at_boot, fault_in_run}
 use Rattle.kernel_core.specs.declared.config.Config.{Config}
 use Rattle.kernel_core.specs.Machine.{Machine, booted, is_bootable}
 use Rattle.node_memory.specs.declared.sizes.Sizes.{Sizes}
-use Rattle.mote_run.specs.Runs.{OfRun, config_of}
+use Rattle.mote_run.specs.Code.Runs.{OfRun, config_of}
 use Rattle.mote_run.proofs.HandedOn.{ended, fault_handed_on, nothing_ran}
 use Rattle.mote_run.proofs.mote.run_boxes.Goals as goal
 

@@ -4,7 +4,7 @@ use Rattle.std.proofs.lemmas.Bool.{true_from_ne_false}
 use Rattle.kernel_core.specs.Machine.{booted, is_bootable}
 use Rattle.kernel_core.specs.declared.config.Config.{Config}
 use Rattle.mote_types.specs.declared.fault.BootFault.{BootFault}
-use Rattle.mote_run.specs.Runs as of_boxes
+use Rattle.mote_run.specs.Code.Runs as of_boxes
 use Rattle.command_line.specs.CommandLine.{NamesApplications, named_in, texts}
 use Rattle.command_line.specs.declared.failure.Failure.{Failure}
 use Rattle.command_line.specs.declared.named.Named.{Named}

@@ -2,7 +2,7 @@ use Rattle.std.proofs.Common.{◌≡◌, ◌∙◌, ℕ, List, false, sym, ap, l
 use Rattle.std.proofs.lemmas.Bool.Decides.{nat_tests}
 use Rattle.std.specs.Str.{IsUtf8}
 use Rattle.std.specs.Str.Lines.{lines}
-use Rattle.mote_run.specs.Runs.{config_of}
+use Rattle.mote_run.specs.Code.Runs.{config_of}
 use Rattle.toarmuts.specs.Outcomes.{AreOfLines, AreRefused, Refuses}
 use Rattle.toarmuts.specs.declared.refusal.Refusal.{Refusal}
 use Rattle.kernel_core.specs.Machine.{is_bootable}

@@ -1,6 +1,6 @@
 use Rattle.std.proofs.Common.{◌≡◌, ◌+◌, slice_range, ap, ◌∙◌}
-use Rattle.arena_core.specs.Written.{written}
-use Rattle.arena_core.specs.Contents.{contents}
+use Rattle.arena_core.specs.Code.Written.{written}
+use Rattle.arena_core.specs.Code.Contents.{contents}
 use Rattle.arena_core.proofs.Ranges.{length-written, written-same}
 use Rattle.arena_core.proofs.arena.Arena.copy.Goals as goal
 

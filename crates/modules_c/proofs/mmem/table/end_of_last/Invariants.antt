@@ -1,6 +1,6 @@
 use Rattle.std.proofs.Common.{ℕ, ◌+◌, ◌<◌, ◌≤◌}
 use Rattle.mote_types.specs.Rounding.{up4}
-use Rattle.mmem_core.specs.Places.{last_end}
+use Rattle.mmem_core.specs.Code.Places.{last_end}
 use Rattle.modules_c.specs.Mmem.Stored.{places_told}
 use Rattle.modules_c.specs.Code.MmemRows.{row_of}
 use Rattle.modules_c.proofs.mmem.table.end_of_last.Given as goal

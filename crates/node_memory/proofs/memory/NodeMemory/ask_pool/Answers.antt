@@ -1,10 +1,10 @@
 use Rattle.node_memory.proofs.LaidOut.{after-pool, asked-pool, refused-pool, pool-at}
 use Rattle.node_memory.proofs.Others.{refused-then}
 use Rattle.node_memory.specs.Code.Layout.{end_of}
-use Rattle.node_memory.specs.Placed.{PlacedMemory}
+use Rattle.node_memory.specs.Code.Placed.{PlacedMemory}
 use Rattle.std.proofs.Common.{arith, length, ◌<◌, ap, ◌∙◌, sym}
 use Rattle.std.proofs.lemmas.Option.{slice_get-get_or}
-use Rattle.node_memory.specs.Ask.{ask}
+use Rattle.node_memory.specs.Code.Ask.{ask}
 use Rattle.node_memory.specs.Code.ListCalls.{pool_in_part}
 use Rattle.node_memory.proofs.memory.NodeMemory.ask_pool.Goals as goal
 

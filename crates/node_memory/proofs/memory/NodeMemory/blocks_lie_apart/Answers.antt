@@ -1,6 +1,6 @@
 use Rattle.node_memory.proofs.Apart.{PoolApart, of-four, all-apart}
 use Rattle.node_memory.proofs.LaidOut.{layout_of}
-use Rattle.node_memory.specs.Separation.{BlocksLieApart}
+use Rattle.node_memory.specs.Code.Separation.{BlocksLieApart}
 use Rattle.std.proofs.Common.{subst}
 use Rattle.node_memory.proofs.memory.NodeMemory.blocks_lie_apart.Goals as goal
 

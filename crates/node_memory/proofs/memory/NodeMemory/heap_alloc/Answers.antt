@@ -5,7 +5,7 @@ use Rattle.node_memory.proofs.Stays.{heap_leaves}
 use Rattle.node_memory.specs.BlockRefusals.{alloc_refusal}
 use Rattle.std.proofs.Common.{rules, arith, ap, sym, ◌∙◌, ◌≡◌, refl, None}
 use Rattle.std.specs.Option.{option_map}
-use Rattle.heap_core.specs.HeapBytes.{heap_of}
+use Rattle.heap_core.specs.Code.HeapBytes.{heap_of}
 use Rattle.mote_types.specs.BlockNames.{number_of}
 use Rattle.mote_types.specs.declared.call.Call.{Call}
 use Rattle.heap_core.specs.HeapStore.{block_of, with_block, block_at, allocated}

@@ -4,7 +4,7 @@ use Rattle.node_memory.proofs.LaidOut.{heap-shown}
 use Rattle.node_memory.proofs.Stays.{heap_leaves}
 use Rattle.node_memory.specs.BlockRefusals.{realloc_refusal}
 use Rattle.std.proofs.Common.{rules, arith, ap, sym, ◌∙◌, ◌≡◌, refl, None}
-use Rattle.heap_core.specs.HeapBytes.{heap_of}
+use Rattle.heap_core.specs.Code.HeapBytes.{heap_of}
 use Rattle.mote_types.specs.declared.call.Call.{Call}
 use Rattle.node_memory.proofs.memory.NodeMemory.heap_realloc.Goals as goal
 

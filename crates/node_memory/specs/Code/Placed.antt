@@ -1,10 +1,10 @@
 -- The memory of a node together with the positions of its blocks in the arena.
 use Rattle.std.specs.Prelude.{ℕ, ◌+◌, List, map}
-use Rattle.mmem_core.specs.HandleTable.{HandleTable, store_of}
+use Rattle.mmem_core.specs.Code.HandleTable.{HandleTable, store_of}
 use Rattle.heap_core.specs.declared.region.Region.{Region}
-use Rattle.heap_core.specs.HeapBytes.{heap_of}
-use Rattle.memb_core.specs.Links.{list_of}
-use Rattle.memb_core.specs.PoolBytes.{pool_of}
+use Rattle.heap_core.specs.Code.HeapBytes.{heap_of}
+use Rattle.memb_core.specs.Code.Links.{list_of}
+use Rattle.memb_core.specs.Code.PoolBytes.{pool_of}
 use Rattle.memb_core.specs.declared.list_name.ListName.{ListName}
 use Rattle.node_memory.specs.declared.listed_pool.ListedPool.{ListedPool}
 use Rattle.node_memory.specs.ListedPools.{PoolWithLists}

@@ -1,8 +1,8 @@
 -- What an arena ends as, once a `&mut` into it has ended.
 use Rattle.std.specs.Prelude.{ℕ, List}
 use Rattle.std.specs.Borrow.{Fml, MutBor, Array, u8, Lends}
-use Rattle.arena_core.specs.Contents.{Contents, contents}
-use Rattle.arena_core.specs.Written.{written}
+use Rattle.arena_core.specs.Code.Contents.{Contents, contents}
+use Rattle.arena_core.specs.Code.Written.{written}
 use Rattle.arena_core.specs.contracts.arena.Arena.{the_row}
 
 -- a ends with its bytes from at on those last written through r

@@ -3,14 +3,14 @@ use Rattle.std.specs.Prelude.{◌≡◌, ◌≢◌, ℕ, ◌+◌, ◌⊎◌, sli
 use Rattle.std.specs.Option.{option_map}
 use Rattle.mote_types.specs.Kinds.{ProcessNumber, Handle, Bytes}
 use Rattle.mote_types.specs.BlockNames.{number_of}
-use Rattle.mote_types.specs.Conditions.{IsName}
+use Rattle.mote_types.specs.Code.Conditions.{IsName}
 use Rattle.mote_types.specs.Bytes.{range_of}
 use Rattle.mote_types.specs.Rounding.{up4}
-use Rattle.arena_core.specs.Extents.{Extent, LiesIn, AreApart}
+use Rattle.arena_core.specs.Code.Extents.{Extent, LiesIn, AreApart}
 use Rattle.mmem_core.specs.declared.place.Place.{Place}
 use Rattle.mmem_core.specs.ManagedStore.{block_of}
-use Rattle.mmem_core.specs.Places.{place_in, last_end}
-use Rattle.mmem_core.specs.HandleTable.{HandleTable, store_of}
+use Rattle.mmem_core.specs.Code.Places.{place_in, last_end}
+use Rattle.mmem_core.specs.Code.HandleTable.{HandleTable, store_of}
 
 -- the position of p's block in the span, if it is live
 abbrev pub place_of : ProcessNumber → Handle → HandleTable → Option Place

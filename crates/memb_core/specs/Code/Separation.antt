@@ -1,10 +1,10 @@
 -- Where the blocks of a pool are in the arena.
 use Rattle.std.specs.Prelude.{◌≡◌, ◌≢◌, ℕ, ◌+◌, ◌<◌, List, length, IfSome}
 use Rattle.mote_types.specs.Bytes.{range_of}
-use Rattle.arena_core.specs.Extents.{Extent, LiesIn, AreApart}
-use Rattle.memb_core.specs.PoolTable.{PoolTable}
+use Rattle.arena_core.specs.Code.Extents.{Extent, LiesIn, AreApart}
+use Rattle.memb_core.specs.Code.PoolTable.{PoolTable}
 use Rattle.memb_core.specs.BlockPool.{block_of}
-use Rattle.memb_core.specs.PoolBytes.{place_of, pool_of}
+use Rattle.memb_core.specs.Code.PoolBytes.{place_of, pool_of}
 
 -- the part of the arena that block b takes: its link, and after it the usable bytes
 abbrev pub extent_of : PoolTable → ℕ → Extent

@@ -1,13 +1,13 @@
 -- What the bytes of a heap's span stand for.
 use Rattle.std.specs.Prelude.{◌≡◌, ℕ, ◌+◌, ◌≤◌, List, length, filter}
-use Rattle.arena_core.specs.Contents.{Contents}
-use Rattle.arena_core.specs.Outside.{ChangesOnly}
+use Rattle.arena_core.specs.Code.Contents.{Contents}
+use Rattle.arena_core.specs.Code.Outside.{ChangesOnly}
 use Rattle.heap_core.specs.declared.heap.Heap.{Heap}
 use Rattle.heap_core.specs.HeapStore.{HeapStore, has_name}
-use Rattle.heap_core.specs.Chunks.{is_named}
-use Rattle.heap_core.specs.Layout.{store_of, HasChunks}
-use Rattle.heap_core.specs.FreeList.{GapsLinked, FreedLinked}
-use Rattle.heap_core.specs.Places.{ArePlaced}
+use Rattle.heap_core.specs.Code.Chunks.{is_named}
+use Rattle.heap_core.specs.Code.Layout.{store_of, HasChunks}
+use Rattle.heap_core.specs.Code.FreeList.{GapsLinked, FreedLinked}
+use Rattle.heap_core.specs.Code.Places.{ArePlaced}
 
 -- The live blocks and where they are; freed chunks are not among them. Of the arena's bytes it reads only the span's.
 abbrev pub heap_of : Heap → List ℕ → HeapStore

@@ -2,12 +2,12 @@
 use Rattle.std.specs.Prelude.{◌≡◌, ◌≢◌, ℕ, ◌+◌, ◌≤◌, ◌⊎◌, List, length, Option, Some}
 use Rattle.std.specs.Option.{option_map}
 use Rattle.mote_types.specs.BlockNames.{number_of}
-use Rattle.mote_types.specs.Conditions.{IsName}
+use Rattle.mote_types.specs.Code.Conditions.{IsName}
 use Rattle.mote_types.specs.Bytes.{range_of}
-use Rattle.arena_core.specs.Extents.{Extent, LiesIn, AreApart}
+use Rattle.arena_core.specs.Code.Extents.{Extent, LiesIn, AreApart}
 use Rattle.heap_core.specs.declared.heap.Heap.{Heap}
 use Rattle.heap_core.specs.HeapStore.{Block, HeapStore, find_block, block_of}
-use Rattle.heap_core.specs.HeapBytes.{heap_of}
+use Rattle.heap_core.specs.Code.HeapBytes.{heap_of}
 
 -- p's block, if it is live
 abbrev pub live_block : ℕ → ℕ → HeapStore → Option Block

@@ -6,7 +6,7 @@ use Rattle.mote_types.specs.declared.call.Call.{Call}
 use Rattle.mote_types.specs.declared.reply.Reply.{Reply}
 use Rattle.mmem_core.specs.ManagedStore.{block_of}
 use Rattle.node_memory.specs.Memory.{Memory}
-use Rattle.node_memory.specs.Parts.{part_called}
+use Rattle.node_memory.specs.Code.Parts.{part_called}
 use Rattle.node_memory.specs.Frames.{frame_holder}
 
 -- the processes that may make a call: the applications, and process 3

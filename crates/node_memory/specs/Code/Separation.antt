@@ -4,26 +4,26 @@ use Rattle.std.specs.Option.{option_map}
 use Rattle.mote_types.specs.declared.call.Call.{Call}
 use Rattle.mote_types.specs.declared.refusal.Refusal.{Refusal}
 use Rattle.mote_types.specs.declared.reply.Reply.{Reply}
-use Rattle.mote_types.specs.Conditions.{IsName}
+use Rattle.mote_types.specs.Code.Conditions.{IsName}
 use Rattle.mmem_core.specs.ManagedStore as managed
 use Rattle.heap_core.specs.HeapStore as heap
 use Rattle.memb_core.specs.BlockPool as pools
 use Rattle.memb_core.specs.BlockPool.{first_unused}
 use Rattle.mote_types.specs.Bytes.{range_of}
-use Rattle.arena_core.specs.Extents.{Extent, AreApart}
-use Rattle.mmem_core.specs.Separation as managed_places
-use Rattle.mmem_core.specs.Separation.{place_of}
-use Rattle.heap_core.specs.HeapBytes.{heap_of}
-use Rattle.heap_core.specs.Separation as heap_places
-use Rattle.heap_core.specs.Separation.{live_block}
-use Rattle.memb_core.specs.PoolBytes.{pool_of}
-use Rattle.memb_core.specs.Separation as places_in_pool
+use Rattle.arena_core.specs.Code.Extents.{Extent, AreApart}
+use Rattle.mmem_core.specs.Code.Separation as managed_places
+use Rattle.mmem_core.specs.Code.Separation.{place_of}
+use Rattle.heap_core.specs.Code.HeapBytes.{heap_of}
+use Rattle.heap_core.specs.Code.Separation as heap_places
+use Rattle.heap_core.specs.Code.Separation.{live_block}
+use Rattle.memb_core.specs.Code.PoolBytes.{pool_of}
+use Rattle.memb_core.specs.Code.Separation as places_in_pool
 use Rattle.node_memory.specs.declared.listed_pool.ListedPool.{ListedPool}
 use Rattle.node_memory.specs.Frames.{frame_holder}
 use Rattle.node_memory.specs.Memory.{Memory, pool_in}
 use Rattle.node_memory.specs.declared.parts.Part.{Part}
-use Rattle.node_memory.specs.Parts.{part_called}
-use Rattle.node_memory.specs.Placed.{Layout, PlacedMemory}
+use Rattle.node_memory.specs.Code.Parts.{part_called}
+use Rattle.node_memory.specs.Code.Placed.{Layout, PlacedMemory}
 
 -- the name of a block of memory
 pub data BlockName : Type 0 where

@@ -1,8 +1,8 @@
 -- Where the blocks of a pool are, and what they stand for.
 use Rattle.std.specs.Prelude.{◌≡◌, ℕ, ◌+◌, ◌*◌, ◌≤◌, Bool, List, [], ◌∷◌, length, slice_range, Option, Some, None, is_some, if◌then◌else◌}
-use Rattle.arena_core.specs.Contents.{Contents}
-use Rattle.arena_core.specs.Outside.{ChangesOnly}
-use Rattle.memb_core.specs.PoolTable.{PoolTable}
+use Rattle.arena_core.specs.Code.Contents.{Contents}
+use Rattle.arena_core.specs.Code.Outside.{ChangesOnly}
+use Rattle.memb_core.specs.Code.PoolTable.{PoolTable}
 use Rattle.memb_core.specs.BlockPool.{BlockPool, block_of}
 
 -- where block b begins in the pool's span. Its link takes 4 bytes, and its usable bytes follow

@@ -3,7 +3,7 @@ use Rattle.std.specs.Prelude.{ℕ, ◌+◌, ◌≤◌, List, length}
 use Rattle.heap_core.specs.declared.chunk.Chunk.{Chunk}
 use Rattle.heap_core.specs.declared.region.Region.{Region}
 use Rattle.heap_core.specs.HeapStore.{HeapStore}
-use Rattle.heap_core.specs.Chunks.{chunks_from, Tell, AreJoined, blocks_in}
+use Rattle.heap_core.specs.Code.Chunks.{chunks_from, Tell, AreJoined, blocks_in}
 
 -- all chunks, up to the footprint
 unfoldable pub chunks_of : Region → List ℕ → List Chunk

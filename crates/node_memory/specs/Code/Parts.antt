@@ -2,7 +2,7 @@
 use Rattle.std.specs.Prelude.{Option}
 use Rattle.std.specs.Option.{option_map}
 use Rattle.mote_types.specs.declared.call.Call.{Call}
-use Rattle.node_memory.specs.Ask.{requested}
+use Rattle.node_memory.specs.Code.Ask.{requested}
 use Rattle.node_memory.specs.declared.parts.Part.{Part}
 
 -- the part of memory that a call is on, if it is one on memory; whose call it is makes no difference

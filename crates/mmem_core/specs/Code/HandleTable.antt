@@ -3,12 +3,12 @@ use Rattle.std.specs.Prelude.{◌≡◌, ℕ, ◌+◌, ◌-◌, ◌^◌, ◌≤�
 use Rattle.std.specs.Option.{option_map}
 use Rattle.mote_types.specs.Kinds.{Bytes}
 use Rattle.arena_core.specs.declared.span.Span.{Span}
-use Rattle.arena_core.specs.Contents.{Contents}
-use Rattle.arena_core.specs.Outside.{ChangesOnly}
+use Rattle.arena_core.specs.Code.Contents.{Contents}
+use Rattle.arena_core.specs.Code.Outside.{ChangesOnly}
 use Rattle.mmem_core.specs.declared.place.Place.{Place}
 use Rattle.mmem_core.specs.declared.quotas.Quotas.{Quotas}
 use Rattle.mmem_core.specs.ManagedStore.{ManagedStore}
-use Rattle.mmem_core.specs.Places.{bytes_moved}
+use Rattle.mmem_core.specs.Code.Places.{bytes_moved}
 
 pub record HandleTable : Type 0 where
   -- the part of the arena that the blocks are in

@@ -3,8 +3,8 @@ use Rattle.std.specs.Prelude.{◌≡◌, ◌≢◌, ℕ, not, List, [], ◌∷�
 use Rattle.heap_core.specs.declared.chunk.Chunk.{Chunk}
 use Rattle.heap_core.specs.declared.region.Region.{Region}
 use Rattle.heap_core.specs.HeapStore.{Block}
-use Rattle.heap_core.specs.Chunks.{FREED, is_a_name, is_named}
-use Rattle.heap_core.specs.Layout.{chunks_of, store_of}
+use Rattle.heap_core.specs.Code.Chunks.{FREED, is_a_name, is_named}
+use Rattle.heap_core.specs.Code.Layout.{chunks_of, store_of}
 
 -- it is one of these chunks
 pub record Stands (chunk : Chunk) (chunks : List Chunk) : Type 0 where

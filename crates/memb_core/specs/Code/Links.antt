@@ -2,10 +2,10 @@
 use Rattle.std.specs.Prelude.{◌≡◌, ◌≢◌, ℕ, zero, suc, ◌+◌, ◌-◌, ◌≤◌, Bool, true, false, List, [], ◌∷◌, length, slice_range, slice_index_or, Option, Some, None, if◌then◌else◌, ◌==◌}
 use Rattle.std.specs.Int.{from_le_bytes}
 use mir.Syntax.{w32}
-use Rattle.memb_core.specs.PoolTable.{PoolTable, ListHeads}
+use Rattle.memb_core.specs.Code.PoolTable.{PoolTable, ListHeads}
 use Rattle.memb_core.specs.declared.list_name.ListName.{ListName}
 use Rattle.memb_core.specs.BlockLists.{has_number}
-use Rattle.memb_core.specs.PoolBytes.{place_of, region_of, pool_of, IsWithin}
+use Rattle.memb_core.specs.Code.PoolBytes.{place_of, region_of, pool_of, IsWithin}
 
 -- the stored head of a list
 abbrev pub start_of : ListName → ListHeads → Option ℕ

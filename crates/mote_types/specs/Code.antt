@@ -1,0 +1,3 @@
+-- Words for contracts of the code: a run's promise doesn't reach them.
+pub mod Conditions
+pub mod StateMachines
