@@ -58,7 +58,8 @@ pub fn read_setup<'a>(
     Ok(Inputs::none())
 }
 
-/// Boots the network that was set up, and runs it on the lines from the first input on.
+/// Boots the network that was set up, and runs it on the lines from the first input on. The network has just booted, so what happens in
+/// its run keeps the promise of a network.
 ///
 /// # Errors
 ///

@@ -199,6 +199,10 @@ impl Setup {
     }
 
     /// Does what a line says before the first input.
+    ///
+    /// # Errors
+    ///
+    /// `Malformed` exactly where a line that doesn't say motes says nothing that can be set up, and `Memory` where memory is refused.
     pub fn take_line(&mut self, alloc: Global, line: &str) -> Result<(), LineFault>
         ensures { argument_of (codes "mote ") line.now ≡ None → Does result (line_said (words_of line.now) self.old) self.new }
     {
@@ -207,13 +211,13 @@ impl Setup {
         }
         let words = split_words(alloc, line)?;
         match words.as_slice() {
-            [word, rest @ ..] => self.take_words(word, rest),
+            [word, rest @ ..] => self.take_other_line(word, rest),
             [] => Err(LineFault::Malformed),
         }
     }
 
     /// Does what the words of a line say of links, of the room, or of rounds.
-    fn take_words(&mut self, word: &str, rest: &[&str]) -> Result<(), LineFault>
+    fn take_other_line(&mut self, word: &str, rest: &[&str]) -> Result<(), LineFault>
         ensures { Does result (words_said word.now (map (λ word. word.now) rest.now) self.old) self.new }
     {
         match word {
