@@ -5,7 +5,7 @@ ghost use Rattle.mote_text.specs.Script.{argument_of};
 ghost use Rattle.network_setup.specs.Code.Booting.{HasOneMore, IsAdded};
 ghost use Rattle.network_setup.specs.Lines.{line_said, with_links_said, with_room, with_rounds, words_of, words_said};
 ghost use Rattle.network_setup.specs.SetUpRuns.{HasBooted};
-ghost use Rattle.network_setup.specs.SetupView.{empty_setup};
+ghost use Rattle.network_setup.specs.SetupView.{HasJustBooted, empty_setup};
 ghost use Rattle.network_setup.specs.Setting.{Does};
 
 use crate::carriage::Carriage;
@@ -168,15 +168,25 @@ fn read_mote(
     Ok((config, applications))
 }
 
+/// A mote that has just booted.
+fn boot(alloc: Global, config: Config) -> Result<Session, LineFault>
+    ensures booted { IfOk result (λ mote. HasJustBooted config mote) }
+{
+    match Session::boot(alloc, config) {
+        Ok(mote) => Ok(mote),
+        Err(BootFault::BadSizes) => Err(LineFault::Malformed),
+        Err(BootFault::Memory) => Err(LineFault::Memory),
+    }
+}
+
 /// Boots one more mote.
 fn boot_mote(alloc: Global, motes: &mut Vec<Session>, config: Config) -> Result<(), LineFault>
     ensures added { IfOk result (λ _. IsAdded config motes.old.items motes.new.items) }
     ensures err { OnErr result (motes.new.items ≡ motes.old.items) }
 {
-    let mote = match Session::boot(alloc, config) {
+    let mote = match boot(alloc, config) {
         Ok(mote) => mote,
-        Err(BootFault::BadSizes) => return Err(LineFault::Malformed),
-        Err(BootFault::Memory) => return Err(LineFault::Memory),
+        Err(fault) => return Err(fault),
     };
     match motes.push(mote) {
         Ok(()) => Ok(()),

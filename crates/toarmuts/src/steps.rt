@@ -52,7 +52,10 @@ fn boot(alloc: Global, config: Config) -> Result<Box<OpenMote>, BootFault>
 {
     // No `?`: it would take room on the stack for two sessions more.
     match Session::boot(alloc, config) {
-        Ok(session) => held(alloc, session),
+        Ok(session) => match held(alloc, session) {
+            Ok(open_mote) => Ok(open_mote),
+            Err(fault) => Err(fault),
+        },
         Err(fault) => Err(fault),
     }
 }
