@@ -1,7 +1,7 @@
 //! The heap with its arena: the conditions of each call are looked at before it, as the kernel does.
 
 ghost use Rattle.std.specs.Prelude.{◌≤◌, ◌≡◌};
-ghost use Rattle.heap_core.specs.Conditions.{IsHeapSize};
+ghost use Rattle.heap_core.specs.Code.Conditions.{IsHeapSize};
 
 use crate::examples::report::Report;
 use anyhow::{Context, Result};
@@ -19,7 +19,7 @@ struct Memory {
 
 impl Model for Memory {
     ghost use Rattle.heap_core.specs.HeapStore.{HeapStore};
-    ghost use Rattle.heap_core.specs.HeapBytes.{heap_of, IsLaidOut};
+    ghost use Rattle.heap_core.specs.Code.HeapBytes.{heap_of, IsLaidOut};
 
     ghost Value = { HeapStore };
 

@@ -1,8 +1,8 @@
 //! Managed memory with its arena: the conditions of each call are looked at before it, as the kernel does.
 
 ghost use Rattle.std.specs.Prelude.{◌≤◌, ◌≡◌};
-ghost use Rattle.mote_types.specs.Conditions.{IsName};
-ghost use Rattle.mmem_core.specs.Conditions.{IsManagedSize};
+ghost use Rattle.mote_types.specs.Code.Conditions.{IsName};
+ghost use Rattle.mmem_core.specs.Code.Conditions.{IsManagedSize};
 
 use crate::examples::report::Report;
 use anyhow::{Context, Result};
@@ -21,7 +21,7 @@ struct Memory {
 impl Model for Memory {
     ghost use Rattle.mmem_core.specs.ManagedStore.{ManagedStore};
     ghost use Rattle.std.specs.Prelude.{◌≤◌};
-    ghost use Rattle.mmem_core.specs.HandleTable.{store_of, IsWithin};
+    ghost use Rattle.mmem_core.specs.Code.HandleTable.{store_of, IsWithin};
 
     ghost Value = { ManagedStore };
 

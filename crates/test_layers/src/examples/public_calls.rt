@@ -2,7 +2,7 @@
 //! the pages on the profile and on transcripts.
 
 ghost use Rattle.std.specs.Prelude.{◌≡◌, ◌<◌, ◌≤◌, ◌+◌, None, true, length, IfOk};
-ghost use Rattle.kernel_core.specs.Conditions.{has_bytes, ticks_of};
+ghost use Rattle.kernel_core.specs.Code.Conditions.{has_bytes, ticks_of};
 ghost use Rattle.mote_types.specs.declared.call.Call.{Call as Answer};
 
 use crate::examples::report::Report;
