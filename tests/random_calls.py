@@ -1,6 +1,7 @@
 """Random calls, as lists of calls have them: names mostly within bounds, sizes and places small."""
 
 import random
+from typing import Any, Sequence
 
 from call_rules import RULES
 
@@ -17,8 +18,8 @@ def random_bytes(chance: random.Random, most: int) -> str:
     return chance.randbytes(chance.choice([0, 1, 5, most])).hex()
 
 
-def random_call(chance: random.Random) -> str:
-    rule = chance.choice(RULES["calls"])
+def random_call(chance: random.Random, rules: Sequence[dict[str, Any]] = RULES["calls"]) -> str:
+    rule = chance.choice(rules)
     words = [str(rule["name"])]
     for argument in rule["arguments"]:
         if argument == "data":

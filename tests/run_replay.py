@@ -9,9 +9,12 @@ import dataclasses
 import re
 from typing import Iterator
 
+from plain_memory import Memory
+
 TURN = re.compile(r"(\d+) (event|synch|poll|callback|answer) (.*) -> (.*)")
 FRAMES = 3
 QUEUE_PLACES = 32
+ROOM = 1 << 32
 
 
 @dataclasses.dataclass
@@ -22,15 +25,6 @@ class Turn:
     origin: str
     stimulus: str
     call: str
-
-
-@dataclasses.dataclass
-class Block:
-    """A live block: its process (that of the frames is 3), its handle or name, and the length that was asked for."""
-
-    pid: int
-    name: int
-    size: int
 
 
 @dataclasses.dataclass
@@ -64,10 +58,8 @@ class State:
     alive: list[int] = dataclasses.field(default_factory=list)
     queue: list[int] = dataclasses.field(default_factory=list)
     timers: dict[TimerName, Timer] = dataclasses.field(default_factory=dict)
-    managed: list[Block] = dataclasses.field(default_factory=list)
-    heap: list[Block] = dataclasses.field(default_factory=list)
-    used: dict[tuple[int, int], int] = dataclasses.field(default_factory=dict)
-    lists: dict[int, list[int]] = dataclasses.field(default_factory=dict)
+    # It has room for each call that was accepted.
+    memory: Memory = dataclasses.field(default_factory=lambda: Memory(ROOM, ROOM, 16, None))
     # What the line tells a process: who gives it at once, or in which line it was posted.
     giver: int | None = None
     posted: int | None = None
@@ -102,6 +94,7 @@ class Replay:
         # The process whose activation ends with the line before, and the broadcast that is being told.
         self.ending: int | None = None
         self.broadcast: Broadcast | None = None
+        self.frames = 0
 
     def states(self) -> Iterator[State]:
         for number, line in enumerate(self.lines):
@@ -135,7 +128,8 @@ class Replay:
         if kind == "tick":
             state.clock += int(value)
         elif kind == "frame" and not behind.startswith("note lost"):
-            state.managed.append(Block(FRAMES, 0, len(value) // 2))
+            self.frames += 1
+            state.memory.managed.blocks[FRAMES, self.frames] = bytearray(len(value) // 2)
 
     def take_turn(self, number: int, turn: Turn) -> None:
         state = self.state
@@ -153,7 +147,7 @@ class Replay:
         answer = self.answers[number]
         told = turn_in(self.lines[answer]) if answer is not None else None
         if told and not told.stimulus.startswith("refused "):
-            self.carry_out(number, turn, told.stimulus)
+            self.carry_out(number, turn)
 
     def take_stimulus(self, turn: Turn) -> None:
         state = self.state
@@ -200,7 +194,7 @@ class Replay:
             if owner == pid:
                 timer.is_armed = False
 
-    def carry_out(self, number: int, turn: Turn, answer: str) -> None:
+    def carry_out(self, number: int, turn: Turn) -> None:
         word, *arguments = turn.call.split(" ")
         numbers = [int(argument) for argument in arguments if argument.isdigit()]
         if word in ("post", "broadcast"):
@@ -210,10 +204,11 @@ class Replay:
             self.end_process(numbers[0])
         elif word.startswith(("timer-", "callback-")):
             self.set_timer(word, turn.pid, numbers)
-        elif word.startswith(("mmem-", "heap-", "packet-")):
-            self.change_memory(word, turn.pid, numbers)
-        elif word.startswith(("memb-", "list-")):
-            self.change_pools(word, turn.pid, numbers, answer)
+        elif word == "packet-done":
+            managed = self.state.memory.managed.blocks
+            del managed[next(key for key in managed if key[0] == FRAMES)]
+        else:
+            self.state.memory.reply(turn.pid, turn.call)
 
     def exits_itself(self, number: int, pid: int) -> bool:
         """Whether a process that is killed in a line calls `exit` at its EXIT event: then it ends there."""
@@ -232,39 +227,6 @@ class Replay:
             timer.start = timer.due
         if what != "expired":
             timer.is_armed = what != "stop"
-
-    def change_memory(self, word: str, pid: int, numbers: list[int]) -> None:
-        state = self.state
-        kind, _, what = word.partition("-")
-        blocks = state.heap if kind == "heap" else state.managed
-        if what in ("alloc", "realloc"):
-            if what == "realloc":
-                state.heap = blocks = [block for block in blocks if (block.pid, block.name) != (pid, numbers[0])]
-            blocks.append(Block(pid, numbers[0], numbers[1]))
-        elif what == "free":
-            blocks[:] = [block for block in blocks if (block.pid, block.name) != (pid, numbers[0])]
-        elif word == "packet-done":
-            blocks.remove(next(block for block in blocks if block.pid == FRAMES))
-
-    def change_pools(self, word: str, pid: int, numbers: list[int], answer: str) -> None:
-        state = self.state
-        if word == "memb-alloc":
-            state.used[numbers[0], int(answer.partition(" ")[2])] = pid
-            return
-        if word == "memb-free":
-            del state.used[numbers[0], numbers[1]]
-            return
-        blocks = state.lists.setdefault(numbers[0], [])
-        if word in ("list-add", "list-push", "list-insert"):
-            block = numbers[-1]
-            if block in blocks:
-                blocks.remove(block)
-            place = {"list-add": len(blocks), "list-push": 0}.get(word)
-            blocks.insert(blocks.index(numbers[1]) + 1 if place is None else place, block)
-        elif word == "list-remove":
-            blocks.remove(numbers[1])
-        elif word in ("list-pop", "list-chop"):
-            blocks.remove(int(answer.partition(" ")[2]))
 
 
 def states_of(lines: list[str]) -> list[State]:

@@ -1,2 +1,0 @@
--- for the examples of the kernel's calls
-pub mod Fed

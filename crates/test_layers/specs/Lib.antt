@@ -1,2 +1,0 @@
-pub mod Chaos
-pub mod Examples
