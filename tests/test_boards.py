@@ -188,12 +188,12 @@ def test_few_blocks(room: Path, core: str) -> None:
     ((), 4096, 64, 4), (("-DHEAPMEM_CONF_ARENA_SIZE=8192",), 8192, 512, 8),
     (("-DHEAPMEM_CONF_ARENA_SIZE=8192", "-DHEAPMEM_CONF_MAX_BLOCKS=64"), 8192, 64, 8)])
 def test_memory_of_a_heap(tmp_path: Path, options: tuple[str, ...], size: int, blocks: int, zones: int) -> None:
-    """A heap takes its bytes, a row of 12 bytes for each block, the zone of each 16 bytes, and 12 bytes for each zone."""
+    """A heap takes its bytes, a row of 8 bytes for each block, the zone of each 16 bytes, and 12 bytes for each zone."""
     built = tmp_path / "memory.o"
     succeed("arm-none-eabi-gcc", *PROCESSOR["cortex-m3"], *options, f"-I{MODULES}/include", "-c", MODULES / "src/heapmem-memory.c",
             "-o", built)
     _, data, bss = succeed("arm-none-eabi-size", built).splitlines()[1].split()[:3]
-    assert int(data) + int(bss) == size + 12 * blocks + size // 16 + 12 * zones
+    assert int(data) + int(bss) == size + 8 * blocks + size // 16 + 12 * zones
 
 
 @pytest.mark.parametrize("core", PROCESSOR)

@@ -153,9 +153,9 @@ def test_sizes_of_its_own(prefix: Path, tmp_path: Path) -> None:
     succeed(tmp_path / "sizes")
 
 
-@pytest.mark.parametrize("size, is_built", [("0xfffffff0", True), ("0xfffffff1", False), ("0x100000000", False), ("0", False)])
+@pytest.mark.parametrize("size, is_built", [("0x7fffff0", True), ("0x7fffff1", False), ("0x8000000", False), ("0", False)])
 def test_size_of_a_heap(tmp_path: Path, size: str, is_built: bool) -> None:
-    """A heap has at least 1 byte, and less than 4 GB, rounded up: its rows have numbers of 32 bits."""
+    """A heap has at least 1 byte, and less than 128 MB, rounded up: its rows have 27 bits for a size."""
     words = (f"-DHEAPMEM_CONF_ARENA_SIZE={size}", "-DHEAPMEM_CONF_MAX_BLOCKS=1", "-c", MODULES / "src/heapmem-memory.c")
     made = run("gcc", "-std=c11", f"-I{MODULES}/include", *words, "-o", tmp_path / "none.o")
     assert (made.returncode == 0) == is_built, told(made)

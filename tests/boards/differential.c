@@ -94,12 +94,11 @@ make_heap(uint64_t size, bool is_spoilt)
   for(size_t i = 0; i < ROWS; i++) {
     struct toarmuts_heap_row *row = &heap_rows[i];
     row->place = (uint32_t)(from + below(8));
-    row->room = 1 + (uint32_t)below(24);
-    row->size = 1 + (uint32_t)below(row->room);
+    row->extent = 32 * (1 + (uint32_t)below(16)) + (uint32_t)below(25);
     if(is_spoilt && one_in(8)) {
-      *row = (struct toarmuts_heap_row){(uint32_t)odd_number(size), (uint32_t)odd_number(size), (uint32_t)odd_number(size)};
+      *row = (struct toarmuts_heap_row){(uint32_t)odd_number(size), (uint32_t)odd_number(32 * size)};
     }
-    from = (uint64_t)row->place + row->room;
+    from = (uint64_t)row->place + toarmuts_heap_row_room(row);
   }
 }
 
@@ -132,12 +131,12 @@ make_managed(uint64_t size, bool is_spoilt)
   uint64_t from = 0;
   for(size_t i = 0; i < ROWS; i++) {
     struct toarmuts_managed_row *row = &managed_rows[i];
-    row->place = from + 4 * below(3);
-    row->size = one_in(3) ? 0 : below(24);
+    row->place = (uint32_t)(from + 4 * below(3));
+    row->size = one_in(3) ? 0 : (uint32_t)below(24);
     if(is_spoilt && one_in(8)) {
-      *row = (struct toarmuts_managed_row){odd_number(size), odd_number(size)};
+      *row = (struct toarmuts_managed_row){(uint32_t)odd_number(size), (uint32_t)odd_number(size)};
     }
-    from = (row->place + row->size + 3) / 4 * 4;
+    from = ((uint64_t)row->place + row->size + 3) / 4 * 4;
   }
 }
 

@@ -9,8 +9,8 @@ print_chunks_in_order(void)
 {
   struct toarmuts_heap_row row;
   for(size_t i = 0; toarmuts_heap_row_at(i, &row); i++) {
-    printf("chunk %lu: place %lu, size %lu, room %lu\n", (unsigned long)i, (unsigned long)row.place, (unsigned long)row.size,
-           (unsigned long)row.room);
+    printf("chunk %lu: place %lu, size %lu, room %lu\n", (unsigned long)i, (unsigned long)row.place,
+           (unsigned long)toarmuts_heap_row_size(&row), (unsigned long)toarmuts_heap_row_room(&row));
   }
 }
 

@@ -1,7 +1,7 @@
 /*
  * The memory of lib/heapmem.h. A program that needs another size compiles this file with HEAPMEM_CONF_ARENA_SIZE, as it would have
  * compiled heapmem.c; PROJECT_CONF_PATH may name a header that defines it. HEAPMEM_CONF_MAX_BLOCKS is this project's: the most
- * blocks at once. Each block takes a row of 12 bytes beside the heap.
+ * blocks at once. Each block takes a row of 8 bytes beside the heap.
  */
 #ifdef PROJECT_CONF_PATH
 #include PROJECT_CONF_PATH
@@ -34,8 +34,8 @@
 #endif
 
 TOARMUTS_ASSERT((HEAPMEM_CONF_ARENA_SIZE) >= 1, "HEAPMEM_CONF_ARENA_SIZE: at least 1 byte");
-TOARMUTS_ASSERT((HEAPMEM_CONF_ARENA_SIZE) <= UINT32_MAX / TOARMUTS_ALIGNMENT * TOARMUTS_ALIGNMENT,
-                "HEAPMEM_CONF_ARENA_SIZE: less than 4 GB, since a row has numbers of 32 bits");
+TOARMUTS_ASSERT((HEAPMEM_CONF_ARENA_SIZE) <= UINT32_MAX / 32 / TOARMUTS_ALIGNMENT * TOARMUTS_ALIGNMENT,
+                "HEAPMEM_CONF_ARENA_SIZE: less than 128 MB, since a row has 27 bits for a block's size");
 TOARMUTS_ASSERT((HEAPMEM_CONF_MAX_BLOCKS) >= 1, "HEAPMEM_CONF_MAX_BLOCKS: at least 1 block");
 TOARMUTS_ASSERT((HEAPMEM_CONF_MAX_ZONES) >= 1 && (HEAPMEM_CONF_MAX_ZONES) <= 255, "HEAPMEM_CONF_MAX_ZONES: 1 to 255");
 

@@ -63,7 +63,7 @@ size_at(size_t place)
       high = middle;
     }
   }
-  return low < used && rows[low].place == wanted ? rows[low].size : 0;
+  return low < used && rows[low].place == wanted ? toarmuts_heap_row_size(&rows[low]) : 0;
 }
 
 /* A block of a zone has another size now. */
@@ -94,12 +94,13 @@ mark_gaps(void (*mark)(const void *place, size_t size))
   }
   for(size_t i = 0; i < used; i++) {
     const struct toarmuts_heap_row *row = &toarmuts_heap_memory.rows[i];
-    if(row->place < end || row->place > toarmuts_heap_memory.size || row->size > toarmuts_heap_memory.size - row->place) {
+    size_t size = toarmuts_heap_row_size(row);
+    if(row->place < end || row->place > toarmuts_heap_memory.size || size > toarmuts_heap_memory.size - row->place) {
       /* Somebody wrote to the rows, and the calls refuse them. */
       return;
     }
     mark(toarmuts_heap_memory.bytes + end, row->place - end);
-    end = (size_t)row->place + row->size;
+    end = row->place + size;
   }
   mark(toarmuts_heap_memory.bytes + end, toarmuts_heap_memory.size - end);
 }

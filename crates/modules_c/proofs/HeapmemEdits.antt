@@ -11,7 +11,7 @@ use Rattle.arena_core.proofs.Ranges.{range-written_apart}
 use Rattle.heap_core.specs.HeapStore.{Block, placed, has_name}
 use Rattle.heap_core.proofs.Lemmas.Names.{count_absent, filter_unnamed}
 use Rattle.modules_c.specs.declared.heapmem.row.Row.{Row}
-use Rattle.modules_c.specs.Heapmem.Heaps.{block_told, LieFrom, IsTable, front}
+use Rattle.modules_c.specs.Heapmem.Heaps.{block_told, room_of, LieFrom, IsTable, front}
 use Rattle.modules_c.specs.Code.HeapmemRows.{row_of, with_row, without_row, IsFree, BeginBelow}
 use Rattle.modules_c.proofs.HeapmemTables.{lie_le, lie_append, between, among, with_row_between}
 
@@ -29,19 +29,19 @@ pub free_inside : (rows : List Row) (capacity at len : ℕ) → IsTable rows cap
 free_inside rows capacity at len lie free = let b = between 0 rows capacity at len lie free in lie_le (at + len) b.behind capacity b.back
 
 -- a row for a block at such a position keeps the table
-pub table_with : (rows : List Row) (capacity : ℕ) (row : Row) → 1 ≤ row.room → row.size ≤ row.room → IsTable rows capacity
-    → IsFree 0 rows capacity row.place row.room → IsTable (with_row row rows) capacity
-table_with rows capacity row some fits lie free = let b = between 0 rows capacity row.place row.room lie free in
-    let is = with_row_between 0 b.before b.behind (row.place + row.room) capacity row b.front b.back (omega arith) in
-    let all = lie_append 0 row.place b.before (row ∷ b.behind) capacity b.front (omega arith, some, fits, b.back) in grind arith
+pub table_with : (rows : List Row) (capacity : ℕ) (row : Row) → 1 ≤ room_of row → IsTable rows capacity
+    → IsFree 0 rows capacity row.place (room_of row) → IsTable (with_row row rows) capacity
+table_with rows capacity row some lie free = let b = between 0 rows capacity row.place (room_of row) lie free in
+    let is = with_row_between 0 b.before b.behind (row.place + room_of row) capacity row b.front b.back (omega arith) in
+    let all = lie_append 0 row.place b.before (row ∷ b.behind) capacity b.front (omega arith, some, b.back) in grind arith
 
 -- bytes that are written between the blocks are no block's
 module _ (bytes : List ℕ) (at : ℕ) (ws : List ℕ) (inside : at + length ws ≤ length bytes) where
   kept_beside : (from : ℕ) (rows : List Row) (capacity : ℕ) → LieFrom from rows capacity → (capacity ≤ at) ⊎ (at + length ws ≤ from)
       → map (block_told (written bytes at ws)) rows ≡ map (block_told bytes) rows
   kept_beside from [] capacity lie side = refl
-  kept_beside from (row ∷ rows) capacity lie side = let le = lie_le (row.place + row.room) rows capacity lie.3 in
-      let later = kept_beside (row.place + row.room) rows capacity lie.3 (grind arith) in grind (arith, range-written_apart)
+  kept_beside from (row ∷ rows) capacity lie side = let le = lie_le (row.place + room_of row) rows capacity lie.2 in
+      let later = kept_beside (row.place + room_of row) rows capacity lie.2 (grind arith) in grind (arith, range-written_apart)
 
   pub kept : (rows : List Row) (capacity len : ℕ) → IsTable rows capacity → IsFree 0 rows capacity at len → length ws ≤ len
       → map (block_told (written bytes at ws)) rows ≡ map (block_told bytes) rows
@@ -62,8 +62,8 @@ module _ (bytes : List ℕ) where
       → find (has_name name) (map (block_told bytes) rows) ≡ None
   none_named from [] capacity name lie side = refl
   none_named from (row ∷ rows) capacity name lie side =
-      let le = lie_le (row.place + row.room) rows capacity lie.3 in
-      let later = none_named (row.place + row.room) rows capacity name lie.3
+      let le = lie_le (row.place + room_of row) rows capacity lie.2 in
+      let later = none_named (row.place + room_of row) rows capacity name lie.2
       (grind arith) in
       grind arith
 
@@ -88,7 +88,7 @@ module _ (bytes : List ℕ) where
 
     none_behind : find (has_name row.place) behind ≡ None
     none_behind = let a = among 0 rows capacity i lie below in
-        none_named (row.place + row.room) a.behind capacity row.place a.rest.3 (inl (omega (arith, a.rest.1)))
+        none_named (row.place + room_of row) a.behind capacity row.place a.rest.2 (inl (omega (arith, a.rest.1)))
 
     all_told : map (block_told bytes) rows ≡ before ++ (block_told bytes row ∷ behind)
     all_told = let a = among 0 rows capacity i lie below in

@@ -14,7 +14,7 @@ use Rattle.heap_core.specs.declared.chunk.Gap.{Gap}
 use Rattle.heap_core.specs.HeapStore.{HeapStore, end_of, footprint, gaps_from, gap_between, gap_at, room_taken, least_room, room_in_place, place_of}
 use Rattle.heap_core.proofs.Lemmas.Gaps.{choice}
 use Rattle.modules_c.specs.declared.heapmem.row.Row.{Row}
-use Rattle.modules_c.specs.Heapmem.Heaps.{block_told, heap_of, LieFrom, IsTable, with_resized}
+use Rattle.modules_c.specs.Heapmem.Heaps.{block_told, heap_of, size_of, room_of, LieFrom, IsTable, with_resized}
 use Rattle.modules_c.specs.Code.HeapmemRows.{row_of, with_row, without_row, next_place, IsFree}
 use Rattle.modules_c.proofs.HeapmemTables.{lie_le, lie_without, first_between, Among, among, between, free_between, with_row_between, row_lies}
 use Rattle.modules_c.proofs.HeapmemSums.{ended_above}
@@ -37,7 +37,7 @@ written_behind bytes at xs ys behind e fits =
 pub set_is : (rows : List Row) (capacity i : ℕ) (row : Row) → IsTable rows capacity → i < length rows → row.place ≡ (row_of rows i).place
     → slice_set rows i row ≡ with_row row (without_row i rows)
 set_is rows capacity i row lie below e = let a = among 0 rows capacity i lie below in let old = row_of rows i in
-    let put = with_row_between 0 a.before a.behind (old.place + old.room) capacity row (subst (LieFrom 0 a.before) (sym e) a.front) a.rest.3
+    let put = with_row_between 0 a.before a.behind (old.place + room_of old) capacity row (subst (LieFrom 0 a.before) (sym e) a.front) a.rest.2
     (omega (arith, a.rest.1, e)) in
     let set = set_at a.before old a.behind row i a.number in grind arith
 
@@ -76,18 +76,16 @@ module _ (rows : List Row) (bytes : List ℕ) (i n : ℕ) (lie : IsTable rows (l
   old = row_of rows i
 
   abbrev ws : List ℕ
-  ws = resized n (range_of old.place old.size bytes)
+  ws = resized n (range_of old.place (size_of old) bytes)
 
-  module _ (at room : ℕ) (fits : n ≤ room) (size : length ws ≡ n) (free : IsFree 0 (without_row i rows) (length bytes) at room) where
-    abbrev row : Row
-    row = record { place = at; room = room; size = n }
-
+  module _ (row : Row) (at room : ℕ) (at_is : row.place ≡ at) (room_is : room_of row ≡ room) (size_is : size_of row ≡ n)
+      (size : length ws ≡ n) (free : IsFree 0 (without_row i rows) (length bytes) at room) where
     pub moved_is : heap_of (with_row row (without_row i rows)) (written bytes at ws) ≡ with_resized (record { at = at; room = room }) n
         (block_told bytes old) (heap_of rows bytes)
     moved_is = grind (arith, put_is, lie_without, gone_is)
 
     pub moved_table : 1 ≤ room → IsTable (with_row row (without_row i rows)) (length (written bytes at ws))
-    moved_table some = put_table (without_row i rows) bytes row ws some fits (lie_without 0 rows (length bytes) i lie) free
+    moved_table some = grind (arith, put_table, lie_without)
 
 pub length-resized : (n : ℕ) (xs : List ℕ) → length (resized n xs) ≡ n
 length-resized n xs = grind (arith, length-take-le, length-append, length-replicate)
@@ -110,15 +108,15 @@ module _ (bytes : List ℕ) where
       → len_at at (gaps_behind from rows) ≡ 0
   none_there from [] capacity at lie less = refl
   none_there from (row ∷ rows) capacity at lie less =
-      let later = none_there (row.place + row.room) rows capacity at lie.3 (omega (arith, lie.0)) in grind (arith, other_gap)
+      let later = none_there (row.place + room_of row) rows capacity at lie.2 (omega (arith, lie.0)) in grind (arith, other_gap)
 
   -- the gaps below a position
   gaps_passed : (from : ℕ) (xs : List Row) (row : Row) (ys : List Row) (at : ℕ) → LieFrom from xs row.place → row.place < at
-      → len_at at (gaps_behind from (xs ++ (row ∷ ys))) ≡ len_at at (gaps_behind (row.place + row.room) ys)
+      → len_at at (gaps_behind from (xs ++ (row ∷ ys))) ≡ len_at at (gaps_behind (row.place + room_of row) ys)
   gaps_passed from [] row ys at lie less = grind (arith, other_gap)
   gaps_passed from (x ∷ xs) row ys at lie less =
-      let le = lie_le (x.place + x.room) xs row.place lie.3 in
-      let later = gaps_passed (x.place + x.room) xs row ys at lie.3 less in grind (arith, other_gap)
+      let le = lie_le (x.place + room_of x) xs row.place lie.2 in
+      let later = gaps_passed (x.place + room_of x) xs row ys at lie.2 less in grind (arith, other_gap)
 
 -- the room that a block has that is resized where it is
 module _ (rows : List Row) (bytes : List ℕ) (i n : ℕ) (lie : IsTable rows (length bytes)) (below : i < length rows) where
@@ -129,7 +127,7 @@ module _ (rows : List Row) (bytes : List ℕ) (i n : ℕ) (lie : IsTable rows (l
   least = least_room 0 n
 
   abbrev end : ℕ
-  end = here.place + here.room
+  end = here.place + room_of here
 
   abbrev most : ℕ
   most = next_place i rows (length bytes) - here.place
@@ -143,8 +141,8 @@ module _ (rows : List Row) (bytes : List ℕ) (i n : ℕ) (lie : IsTable rows (l
   abbrev in_place : Option ℕ
   in_place = room_in_place (place_of (block_told bytes here)) n store
 
-  choice_is : in_place ≡ choice least here.room end (footprint store) (length bytes - footprint store) (gap_at end store)
-  choice_is = let e : here.place + (0 + here.room) ≡ end = omega arith in grind arith
+  choice_is : in_place ≡ choice least (room_of here) end (footprint store) (length bytes - footprint store) (gap_at end store)
+  choice_is = let e : here.place + (0 + room_of here) ≡ end = omega arith in grind arith
 
   foot_split : footprint store ≡ ended bytes end a.behind
   foot_split = grind (arith, a, map-append, fold-append)
@@ -154,7 +152,7 @@ module _ (rows : List Row) (bytes : List ℕ) (i n : ℕ) (lie : IsTable rows (l
     no_more [] e = grind (arith, foot_split, a)
     no_more (next ∷ l) e = absurd (omega (arith, a.more, ap length e))
 
-    pub room_last : here.room < least → in_place ≡ (if nat_le least most then Some least else None)
+    pub room_last : room_of here < least → in_place ≡ (if nat_le least most then Some least else None)
     room_last less = let top = no_more a.behind refl in let lies = row_lies rows (length bytes) i lie below in let e = choice_is in
         grind arith
 
@@ -162,15 +160,15 @@ module _ (rows : List Row) (bytes : List ℕ) (i n : ℕ) (lie : IsTable rows (l
     one_more : (l : List Row) → a.behind ≡ l → (end ≢ footprint store) × (gap_at end store ≡ next_place i rows (length bytes) - end)
     one_more [] e = absurd (omega (arith, a.more, ap length e))
     one_more (next ∷ l) e =
-        let back : LieFrom end (next ∷ l) (length bytes) = subst (λ (k : List Row). LieFrom end k (length bytes)) e a.rest.3 in
-        let same_end : next.place + (0 + next.room) ≡ next.place + next.room = omega arith in
-        let up = ended_above bytes (next.place + next.room) l (length bytes) back.3 in
-        let none = none_there bytes (next.place + next.room) l (length bytes) end back.3 (omega (arith, back.0, back.1)) in
+        let back : LieFrom end (next ∷ l) (length bytes) = subst (λ (k : List Row). LieFrom end k (length bytes)) e a.rest.2 in
+        let same_end : next.place + (0 + room_of next) ≡ next.place + room_of next = omega arith in
+        let up = ended_above bytes (next.place + room_of next) l (length bytes) back.2 in
+        let none = none_there bytes (next.place + room_of next) l (length bytes) end back.2 (omega (arith, back.0, back.1)) in
         let passed = gaps_passed bytes 0 a.before here a.behind end a.front (omega (arith, a.rest.1)) in (
           λ same. absurd (omega (arith, same, foot_split, ap (ended bytes end) e, ap (λ k. ended bytes k l) same_end, up, back.0, back.1)),
           grind (arith, a, eq-eqb),
         )
 
-    pub room_next : here.room < least → in_place ≡ (if nat_le least most then Some (room_taken least most) else None)
+    pub room_next : room_of here < least → in_place ≡ (if nat_le least most then Some (room_taken least most) else None)
     room_next less = let m = one_more a.behind refl in let lies = row_lies rows (length bytes) i lie below in let e = choice_is in
         grind arith

@@ -8,7 +8,7 @@ use Rattle.heap_core.specs.HeapStore.{Block, footprint, gaps_from, end_of}
 use Rattle.heap_core.specs.Code.BlockOrder.{LieInOrder}
 use Rattle.heap_core.proofs.Lemmas.Freed.{all_bytes}
 use Rattle.modules_c.specs.declared.heapmem.row.Row.{Row}
-use Rattle.modules_c.specs.Heapmem.Heaps.{block_told, heap_of, LieFrom, IsTable}
+use Rattle.modules_c.specs.Heapmem.Heaps.{block_told, heap_of, size_of, room_of, LieFrom, IsTable}
 
 module _ (bytes : List ℕ) where
   abbrev pub gap_total : ℕ → List Row → ℕ
@@ -24,8 +24,8 @@ module _ (bytes : List ℕ) where
       → LieInOrder 0 from (map (block_told bytes) rows) capacity
   in_order from [] capacity lie = lie
   in_order from (row ∷ rows) capacity lie =
-      let later = in_order (row.place + row.room) rows capacity lie.3 in
-      let few : length (range_of row.place row.size bytes) ≤ row.room = omega (arith, lie.2, length-take {A = ℕ}) in grind arith
+      let later = in_order (row.place + room_of row) rows capacity lie.2 in
+      let few : length (range_of row.place (size_of row) bytes) ≤ room_of row = omega (arith, length-take {A = ℕ}) in grind arith
 
   -- what the blocks take and what they leave below the last one's end
   pub all_is : (from : ℕ) (rows : List Row) (capacity : ℕ) → LieFrom from rows capacity
@@ -38,11 +38,11 @@ module _ (bytes : List ℕ) where
 
   -- the gap before a row is first
   gap_first : (from : ℕ) (row : Row) (rows : List Row) (capacity : ℕ) → LieFrom from (row ∷ rows) capacity
-      → gap_total from (row ∷ rows) ≡ row.place - from + gap_total (row.place + row.room) rows
+      → gap_total from (row ∷ rows) ≡ row.place - from + gap_total (row.place + room_of row) rows
   gap_first from row rows capacity lie =
-      let all = all_is from (row ∷ rows) capacity lie in let later = all_is (row.place + row.room) rows capacity lie.3 in
+      let all = all_is from (row ∷ rows) capacity lie in let later = all_is (row.place + room_of row) rows capacity lie.2 in
       let rooms = sum_by-cons (λ (block : Block). block.room) (block_told bytes row) (map (block_told bytes) rows) in
-      let e : row.place + (0 + row.room) ≡ row.place + row.room = omega arith in
+      let e : row.place + (0 + room_of row) ≡ row.place + room_of row = omega arith in
       omega (arith, all.1, later.1, lie.0, rooms, ap (λ n. ended n rows) e)
 
 module _ (rows : List Row) where
@@ -58,7 +58,7 @@ module _ (rows : List Row) where
     counted_first lie = grind arith
 
     pub counted_more : (free from : ℕ) (row : Row) (left : List Row) → IsCounted free from (row ∷ left)
-        → IsCounted (free + (row.place - from)) (row.place + row.room) left
+        → IsCounted (free + (row.place - from)) (row.place + room_of row) left
     counted_more free from row left counted = grind (arith, gap_first)
 
 -- what the blocks take is the rest

@@ -4,44 +4,44 @@ use Rattle.std.proofs.lemmas.Bool.{lt-ltb, le-ltb}
 use Rattle.std.specs.List.Sorted.{IsNonDecreasingBy}
 use Rattle.heap_core.specs.HeapStore.{least_room, room_taken}
 use Rattle.modules_c.specs.declared.heapmem.row.Row.{Row}
-use Rattle.modules_c.specs.Heapmem.Heaps.{LieFrom, IsTable}
+use Rattle.modules_c.specs.Heapmem.Heaps.{room_of, LieFrom, IsTable}
 use Rattle.modules_c.specs.Code.HeapmemRows.{IsFree, next_place, row_of, with_row, without_row}
 
 pub lie_le : (from : ℕ) (rows : List Row) (capacity : ℕ) → LieFrom from rows capacity → from ≤ capacity
 lie_le from [] capacity lie = lie
-lie_le from (row ∷ rows) capacity lie = omega (arith, lie.0, lie_le (row.place + row.room) rows capacity lie.3)
+lie_le from (row ∷ rows) capacity lie = omega (arith, lie.0, lie_le (row.place + room_of row) rows capacity lie.2)
 
 lie_lower : (from lower : ℕ) (rows : List Row) (capacity : ℕ) → lower ≤ from → LieFrom from rows capacity → LieFrom lower rows capacity
 lie_lower from lower [] capacity le lie = omega (arith, le, lie)
-lie_lower from lower (row ∷ rows) capacity le lie = (omega (arith, le, lie.0), lie.1, lie.2, lie.3)
+lie_lower from lower (row ∷ rows) capacity le lie = (omega (arith, le, lie.0), lie.1, lie.2)
 
 pub lie_append : (from mid : ℕ) (xs ys : List Row) (capacity : ℕ) → LieFrom from xs mid → LieFrom mid ys capacity
     → LieFrom from (xs ++ ys) capacity
 lie_append from mid [] ys capacity h k = lie_lower mid from ys capacity h k
-lie_append from mid (row ∷ xs) ys capacity h k = (h.0, h.1, h.2, lie_append (row.place + row.room) mid xs ys capacity h.3 k)
+lie_append from mid (row ∷ xs) ys capacity h k = (h.0, h.1, lie_append (row.place + room_of row) mid xs ys capacity h.2 k)
 
 -- a row goes
 pub lie_without : (from : ℕ) (rows : List Row) (capacity i : ℕ) → LieFrom from rows capacity → LieFrom from (without_row i rows) capacity
 lie_without from [] capacity i lie = lie
 lie_without from (row ∷ rows) capacity zero lie = grind (arith, lie_lower)
-lie_without from (row ∷ rows) capacity (suc i) lie = (lie.0, lie.1, lie.2, lie_without (row.place + row.room) rows capacity i lie.3)
+lie_without from (row ∷ rows) capacity (suc i) lie = (lie.0, lie.1, lie_without (row.place + room_of row) rows capacity i lie.2)
 
 -- the positions ascend
 above : (from : ℕ) (rows : List Row) (capacity j : ℕ) (d : Row) → LieFrom from rows capacity → j < length rows
     → from ≤ (slice_index_or rows j d).place
 above from [] capacity j d lie l = absurd (omega arith)
 above from (row ∷ rows) capacity zero d lie l = lie.0
-above from (row ∷ rows) capacity (suc j) d lie l = omega (arith, lie.0, above (row.place + row.room) rows capacity j d lie.3 (omega arith))
+above from (row ∷ rows) capacity (suc j) d lie l = omega (arith, lie.0, above (row.place + room_of row) rows capacity j d lie.2 (omega arith))
 
 pub places_rise : (from : ℕ) (rows : List Row) (capacity : ℕ) → LieFrom from rows capacity
     → IsNonDecreasingBy (λ (row : Row). row.place) rows
 places_rise from [] capacity lie i j d le l = absurd (omega arith)
 places_rise from (row ∷ rows) capacity lie zero zero d le l = omega arith
 places_rise from (row ∷ rows) capacity lie zero (suc j) d le l =
-    omega (arith, above (row.place + row.room) rows capacity j d lie.3 (omega arith))
+    omega (arith, above (row.place + room_of row) rows capacity j d lie.2 (omega arith))
 places_rise from (row ∷ rows) capacity lie (suc i) zero d le l = absurd (omega (arith, le))
 places_rise from (row ∷ rows) capacity lie (suc i) (suc j) d le l =
-    places_rise (row.place + row.room) rows capacity lie.3 i j d (omega (arith, le)) (omega arith)
+    places_rise (row.place + room_of row) rows capacity lie.2 i j d (omega (arith, le)) (omega arith)
 
 -- where the first of these begins
 abbrev pub first_place : List Row → ℕ → ℕ
@@ -51,7 +51,7 @@ first_place (row ∷ rows) capacity = row.place
 pub first_between : (from : ℕ) (rows : List Row) (capacity : ℕ) → LieFrom from rows capacity
     → (from ≤ first_place rows capacity) × (first_place rows capacity ≤ capacity)
 first_between from [] capacity lie = (lie, omega arith)
-first_between from (row ∷ rows) capacity lie = (lie.0, omega (arith, lie_le (row.place + row.room) rows capacity lie.3))
+first_between from (row ∷ rows) capacity lie = (lie.0, omega (arith, lie_le (row.place + room_of row) rows capacity lie.2))
 
 -- a row by its number: the others are below its position, and from its end on
 pub record Among (from : ℕ) (rows : List Row) (capacity i : ℕ) : Type 0 where
@@ -75,11 +75,11 @@ among from (row ∷ rows) capacity zero lie below = record {
   number = refl;
   more = omega arith;
   front = lie.0;
-  rest = (omega arith, lie.1, lie.2, lie.3);
+  rest = (omega arith, lie.1, lie.2);
   next = grind arith;
 }
 among from (row ∷ rows) capacity (suc i) lie below =
-    let a = among (row.place + row.room) rows capacity i lie.3 (omega arith) in
+    let a = among (row.place + room_of row) rows capacity i lie.2 (omega arith) in
     record {
       before = row ∷ a.before;
       behind = a.behind;
@@ -87,19 +87,18 @@ among from (row ∷ rows) capacity (suc i) lie below =
       without = ap (λ l. row ∷ l) a.without;
       number = omega (arith, a.number);
       more = omega (arith, a.more);
-      front = (lie.0, lie.1, lie.2, a.front);
+      front = (lie.0, lie.1, a.front);
       rest = a.rest;
       next = let e : suc i + 1 ≡ suc (i + 1) = omega arith in let next = a.next in grind arith;
     }
 
--- its room holds its bytes, and ends where the next one begins, or below
+-- its room ends where the next one begins, or below
 pub row_lies : (rows : List Row) (capacity i : ℕ) → IsTable rows capacity → i < length rows
-    → ((row_of rows i).size ≤ (row_of rows i).room) × ((row_of rows i).place + (row_of rows i).room ≤ next_place i rows capacity)
-    × (next_place i rows capacity ≤ capacity)
+    → ((row_of rows i).place + room_of (row_of rows i) ≤ next_place i rows capacity) × (next_place i rows capacity ≤ capacity)
 row_lies rows capacity i lie below =
     let a = among 0 rows capacity i lie below in
-    let first = first_between ((row_of rows i).place + (row_of rows i).room) a.behind capacity a.rest.3 in
-    (a.rest.2, omega (arith, first.0, a.next), omega (arith, first.1, a.next))
+    let first = first_between ((row_of rows i).place + room_of (row_of rows i)) a.behind capacity a.rest.2 in
+    (omega (arith, first.0, a.next), omega (arith, first.1, a.next))
 
 -- bytes that are free: the rows are below them, and from their end on
 pub record Between (from : ℕ) (rows : List Row) (capacity at len : ℕ) : Type 0 where
@@ -113,15 +112,15 @@ pub between : (from : ℕ) (rows : List Row) (capacity at len : ℕ) → LieFrom
     → Between from rows capacity at len
 between from [] capacity at len lie free = record { before = []; behind = []; is = refl; front = free.0; back = free.1 }
 between from (row ∷ rows) capacity at len lie (inl here) =
-    record { before = []; behind = row ∷ rows; is = refl; front = here.0; back = (here.1, lie.1, lie.2, lie.3) }
-between from (row ∷ rows) capacity at len lie (inr later) = let b = between (row.place + row.room) rows capacity at len lie.3 later in
+    record { before = []; behind = row ∷ rows; is = refl; front = here.0; back = (here.1, lie.1, lie.2) }
+between from (row ∷ rows) capacity at len lie (inr later) = let b = between (row.place + room_of row) rows capacity at len lie.2 later in
     record { before = row ∷ b.before; behind = b.behind; is = grind arith; front = grind arith; back = b.back }
 
 pub free_between : (from : ℕ) (xs ys : List Row) (capacity at len : ℕ) → LieFrom from xs at → at + len ≤ first_place ys capacity
     → IsFree from (xs ++ ys) capacity at len
 free_between from [] [] capacity at len lie le = (lie, le)
 free_between from [] (row ∷ ys) capacity at len lie le = inl (lie, le)
-free_between from (row ∷ xs) ys capacity at len lie le = inr (free_between (row.place + row.room) xs ys capacity at len lie.3 le)
+free_between from (row ∷ xs) ys capacity at len lie le = inr (free_between (row.place + room_of row) xs ys capacity at len lie.2 le)
 
 -- a row is put between
 pub with_row_between : (from : ℕ) (xs ys : List Row) (low capacity : ℕ) (row : Row) → LieFrom from xs row.place → LieFrom low ys capacity
@@ -129,8 +128,8 @@ pub with_row_between : (from : ℕ) (xs ys : List Row) (low capacity : ℕ) (row
 with_row_between from [] [] low capacity row h k less = refl
 with_row_between from [] (next ∷ ys) low capacity row h k less = grind (arith, lt-ltb)
 with_row_between from (other ∷ xs) ys low capacity row h k less =
-    let le = lie_le (other.place + other.room) xs row.place h.3 in
-    let later = with_row_between (other.place + other.room) xs ys low capacity row h.3 k less in grind (arith, le-ltb)
+    let le = lie_le (other.place + room_of other) xs row.place h.2 in
+    let later = with_row_between (other.place + room_of other) xs ys low capacity row h.2 k less in grind (arith, le-ltb)
 
 -- fewer bytes from the same position on are free too
 pub free_shorter : (from : ℕ) (rows : List Row) (capacity at len fewer : ℕ) → fewer ≤ len → IsFree from rows capacity at len
@@ -138,11 +137,12 @@ pub free_shorter : (from : ℕ) (rows : List Row) (capacity at len fewer : ℕ) 
 free_shorter from [] capacity at len fewer le free = (free.0, omega (arith, free.1, le))
 free_shorter from (row ∷ rows) capacity at len fewer le (inl here) = inl (here.0, omega (arith, here.1, le))
 free_shorter from (row ∷ rows) capacity at len fewer le (inr later) =
-    inr (free_shorter (row.place + row.room) rows capacity at len fewer le later)
+    inr (free_shorter (row.place + room_of row) rows capacity at len fewer le later)
 
--- what a block takes of a gap is enough, and no more than the gap
-pub taken_between : (least most : ℕ) → least ≤ most → (least ≤ room_taken least most) × (room_taken least most ≤ most)
+-- what a block takes of a gap is enough, no more than the gap, and no more than 16 above what is enough
+pub taken_between : (least most : ℕ) → least ≤ most
+    → (least ≤ room_taken least most) × (room_taken least most ≤ most) × (room_taken least most ≤ least + 16)
 taken_between least most le = grind arith
 
-pub least_enough : (n : ℕ) → (n ≤ least_room 0 n) × (8 ≤ least_room 0 n)
-least_enough n = (omega arith, omega arith)
+pub least_enough : (n : ℕ) → (n ≤ least_room 0 n) × (8 ≤ least_room 0 n) × (least_room 0 n ≤ n + 8)
+least_enough n = (omega arith, omega arith, omega arith)

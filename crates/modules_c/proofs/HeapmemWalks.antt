@@ -4,7 +4,7 @@ use Rattle.std.specs.Option.{option_map}
 use Rattle.heap_core.specs.HeapStore.{better, best_gap, gaps, gaps_from, end_of, footprint}
 use Rattle.modules_c.specs.declared.heapmem.row.Row.{Row}
 use Rattle.modules_c.specs.declared.heapmem.row.Hole.{Hole}
-use Rattle.modules_c.specs.Heapmem.Heaps.{block_told, heap_of, LieFrom}
+use Rattle.modules_c.specs.Heapmem.Heaps.{block_told, heap_of, room_of, LieFrom}
 use Rattle.modules_c.specs.Code.HeapmemRows.{gap_of, IsFree}
 
 module _ (rows : List Row) where
@@ -20,7 +20,7 @@ module _ (rows : List Row) where
 module _ (rows : List Row) (capacity need : ℕ) (best : Option Hole) (from : ℕ) (row : Row) (left : List Row)
     (midway : IsMidway rows capacity need best from (row ∷ left)) where
   abbrev end : ℕ
-  end = row.place + row.room
+  end = row.place + room_of row
 
   module _ (less : from < row.place) (new : Option Hole) where
     abbrev hole : Hole

@@ -98,6 +98,3 @@ module _ (table : List Block) where
           let a = at_is table i one in let b = at_is table j other in
           let r = room_is table i in let s = room_is table j in
           grind arith
-
-      pub room_inside : IsTable table capacity → up4 (row_of table i).size ≤ capacity
-      room_inside sound = omega (arith, room_is table i, (table_lies table capacity sound).inside i)

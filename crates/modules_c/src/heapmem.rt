@@ -3,8 +3,8 @@
 //!
 //! A row says where a block is; the rows are in the order of their positions, and no header is among the bytes. Each contract is
 //! about the heap that rows and bytes stand for, by heap_core's definitions: which gap a block takes, and how much of it. No
-//! call requires anything of rows, numbers or lengths: for rows that are no table it returns that, and nothing changes. A row's
-//! numbers have 32 bits, so in a heap of 2^32 bytes or more no block is allocated or resized: this is returned as no table, too.
+//! call requires anything of rows, numbers or lengths: for rows that are no table it returns that, and nothing changes. A row has
+//! 27 bits for a size, so in a heap of 2^27 bytes or more no block is allocated or resized: this is returned as no table, too.
 
 mod block;
 mod outcome;

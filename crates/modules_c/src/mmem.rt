@@ -3,7 +3,8 @@
 //!
 //! A table has a row for each handle: where its block is in the buffer, and its length. Each contract is about the store of
 //! these handles, by mmem_core's definitions. No call requires anything of rows, numbers or lengths: where the blocks of a table
-//! aren't in the buffer, apart from each other, no block is allocated.
+//! aren't in the buffer, apart from each other, no block is allocated. A row's numbers have 32 bits, so none is allocated in a
+//! buffer of 2^32 bytes or more either.
 
 mod block;
 mod slide;
@@ -17,7 +18,7 @@ ghost use Rattle.mmem_core.specs.declared.place.Place.{Place};
 ghost use Rattle.mmem_core.specs.ManagedStore.{unused, block_of, freed};
 ghost use Rattle.mmem_core.specs.Code.Conditions.{length_of};
 ghost use Rattle.mmem_core.specs.Code.Places.{place_in};
-ghost use Rattle.modules_c.specs.Mmem.Stored.{places_told, stored, IsTable, process_of, handle_of, unused_store};
+ghost use Rattle.modules_c.specs.Mmem.Stored.{row_limit, places_told, stored, IsTable, process_of, handle_of, unused_store};
 ghost use Rattle.modules_c.specs.Mmem.Given.{GivesBlock};
 ghost use Rattle.modules_c.specs.Mmem.Answers.{Answer, number_of_answer, is_live, answer_to};
 
@@ -26,6 +27,9 @@ use crate::mmem::slide::{make_room, put_last};
 use crate::mmem::status::{ALLOCATED, IN_USE, NO_BYTES, NO_HANDLE, NO_ROOM, NO_TABLE};
 use crate::mmem::table::{has_block, left_over, lie_apart, lies_inside};
 pub use block::Block;
+
+/// A row has numbers of 32 bits, so it can't describe all blocks of a larger buffer.
+const MOST_BYTES: usize = u32::MAX as usize;
 
 /// No block.
 const UNUSED: Block = Block { place: 0, size: 0 };
@@ -49,12 +53,15 @@ pub extern "C" fn toarmuts_mmem_alloc(
     size: usize,
 ) -> u8
     ensures table { result ≢ number_of_answer Answer.NoTable → IsTable blocks.old (length buffer.old) }
-    ensures no_table { IsTable blocks.old (length buffer.old) → result ≢ number_of_answer Answer.NoTable }
+    ensures no_table { IsTable blocks.old (length buffer.old) → length buffer.old < row_limit → result ≢ number_of_answer Answer.NoTable }
     ensures answer { result ≢ number_of_answer Answer.NoTable
         → result ≡ number_of_answer (answer_to handle size (stored blocks.old buffer.old)) }
     ensures given { result ≡ number_of_answer Answer.Allocated → GivesBlock blocks.old blocks.new buffer.old buffer.new handle size }
     ensures unchanged { result ≢ number_of_answer Answer.Allocated → (blocks.new ≡ blocks.old) × (buffer.new ≡ buffer.old) }
 {
+    if buffer.len() > MOST_BYTES {
+        return NO_TABLE;
+    }
     if !lie_apart(blocks, buffer.len()) {
         return NO_TABLE;
     }
@@ -71,7 +78,15 @@ pub extern "C" fn toarmuts_mmem_alloc(
         return NO_ROOM;
     }
     let place = make_room(blocks, buffer, size);
-    put_last(blocks, buffer, handle, Block { place, size });
+    put_last(
+        blocks,
+        buffer,
+        handle,
+        Block {
+            place: place as u32,
+            size: size as u32,
+        },
+    );
     ALLOCATED
 }
 
@@ -110,7 +125,7 @@ pub extern "C" fn toarmuts_mmem_place(blocks: &[Block], capacity: usize, handle:
     if !has_block(blocks, handle) || !lies_inside(blocks[handle], capacity) {
         return capacity;
     }
-    blocks[handle].place
+    blocks[handle].place as usize
 }
 
 /// The number of free bytes of `capacity`: what the blocks' lengths, rounded up to multiples of 4, leave. Where the blocks

@@ -60,7 +60,7 @@ check_wrong_arguments(void)
   check("resized to too much", heapmem_realloc(a, SIZE_MAX) == NULL && heapmem_realloc(a, SIZE + 1) == NULL);
   check("no figures", (heapmem_stats(NULL), true));
   row = toarmuts_heap_memory.rows[0];
-  toarmuts_heap_memory.rows[0].room = SIZE + 1;
+  toarmuts_heap_memory.rows[0].extent = (SIZE + 1) * 32;
   heapmem_stats(&stats);
   check("spoilt rows", heapmem_alloc(1) == NULL && !heapmem_free(a) && heapmem_realloc(a, 1) == NULL && stats.chunks == 0);
   toarmuts_heap_memory.rows[0].place = UINT32_MAX;
@@ -349,17 +349,17 @@ any_number(size_t most)
   return next_random() % 16 == 0 ? SIZE_MAX - next_random() % 3 : next_random() % (most + 2);
 }
 
-/* Whether each row has a room that holds its size, and these lie in so many bytes, each behind the one before. */
+/* Whether each row has room, and these lie in so many bytes, each behind the one before. */
 static bool
 is_table(const struct toarmuts_heap_row *rows, size_t num, size_t size)
 {
   uint64_t next = 0;
   for(size_t i = 0; i < num; i++) {
-    if(rows[i].room == 0 || rows[i].size > rows[i].room || rows[i].place < next || rows[i].place > size ||
-       rows[i].room > size - rows[i].place) {
+    size_t room = toarmuts_heap_row_room(&rows[i]);
+    if(room == 0 || rows[i].place < next || rows[i].place > size || room > size - rows[i].place) {
       return false;
     }
-    next = rows[i].place + rows[i].room;
+    next = rows[i].place + room;
   }
   return true;
 }
@@ -404,9 +404,8 @@ check_any_table(void)
     }
     for(size_t k = 0; k < num; k++) {
       rows[k].place = (uint32_t)(next_random() % 4 == 0 ? any_number(size) : from + next_random() % 8);
-      rows[k].room = (uint32_t)any_number(16);
-      rows[k].size = next_random() % 4 == 0 ? (uint32_t)any_number(16) : rows[k].room - rows[k].room / 2;
-      from = (uint64_t)rows[k].place + rows[k].room;
+      rows[k].extent = next_random() % 16 == 0 ? (uint32_t)any_number(16) : 32 * (next_random() % 8) + next_random() % 8;
+      from = (uint64_t)rows[k].place + toarmuts_heap_row_room(&rows[k]);
     }
     tables += is_table(rows, num, size);
     holds = is_sound_on(rows, num, bytes, size);
@@ -417,15 +416,15 @@ check_any_table(void)
   check("some tables, and many that are none", tables > RANDOM_CALLS / 100 && tables < RANDOM_CALLS / 3 - RANDOM_CALLS / 100);
 }
 
-/* Numbers of 32 bits can't describe all blocks of a larger heap. No byte of it is read. */
+/* Rows can't describe all blocks of a larger heap. No byte of it is read. */
 static void
 check_large_heap(void)
 {
-  struct toarmuts_heap_row rows[2] = {{0, 16, 16}, {0, 0, 0}};
-  uint64_t at = 0, large = 0x100000000;
-  check("no block of 4 GB", toarmuts_heapmem_alloc(rows, 2, heap(), large, 16, &at) == TOARMUTS_HEAP_NO_TABLE &&
-                              toarmuts_heapmem_realloc(rows, 1, heap(), large, &at, 32) == TOARMUTS_HEAP_NO_TABLE && at == 0 &&
-                              rows[0].room == 16 && rows[1].room == 0);
+  struct toarmuts_heap_row rows[2] = {{0, 16 * 32}, {0, 0}};
+  uint64_t at = 0, large = 0x8000000;
+  check("no block of 128 MB", toarmuts_heapmem_alloc(rows, 2, heap(), large, 16, &at) == TOARMUTS_HEAP_NO_TABLE &&
+                                toarmuts_heapmem_realloc(rows, 1, heap(), large, &at, 32) == TOARMUTS_HEAP_NO_TABLE && at == 0 &&
+                                rows[0].extent == 16 * 32 && rows[1].extent == 0);
 }
 
 int

@@ -280,8 +280,8 @@ check_any_table(void)
       abort();
     }
     for(size_t k = 0; k < m.num; k++) {
-      m.rows[k].place = any_number(m.size);
-      m.rows[k].size = next_random() % 2 == 0 ? 0 : any_number(m.size);
+      m.rows[k].place = (uint32_t)any_number(m.size);
+      m.rows[k].size = next_random() % 2 == 0 ? 0 : (uint32_t)any_number(m.size);
     }
     for(size_t k = 0; k < m.size; k++) {
       m.mem[k] = (unsigned char)next_random();

@@ -16,7 +16,8 @@ TOARMUTS_BEGIN
 /* The result of a call for a block. */
 enum toarmuts_managed_status {
   TOARMUTS_MANAGED_ALLOCATED = 0, /* the handle has a block */
-  TOARMUTS_MANAGED_NO_TABLE = 1,  /* the rows are invalid: a block is outside the memory, or two of them share a byte */
+  TOARMUTS_MANAGED_NO_TABLE =
+    1, /* the rows are invalid: a block is outside the memory, or two of them share a byte; or it has 2^32 bytes or more */
   TOARMUTS_MANAGED_NO_HANDLE = 2, /* there is no such handle */
   TOARMUTS_MANAGED_IN_USE = 3,    /* the handle had a block already */
   TOARMUTS_MANAGED_NO_BYTES = 4,  /* no bytes were asked for */

@@ -7,7 +7,7 @@ use Rattle.modules_c.specs.declared.heapmem.outcome.Outcome.{Outcome}
 use Rattle.modules_c.specs.declared.heapmem.row.Row.{Row}
 use Rattle.modules_c.specs.declared.heapmem.row.Hole.{Hole}
 use Rattle.modules_c.specs.declared.heapmem.row.Spot.{Spot}
-use Rattle.modules_c.specs.Heapmem.Heaps.{heap_of, IsTable}
+use Rattle.modules_c.specs.Heapmem.Heaps.{heap_of, room_of, IsTable}
 
 abbrev pub gap_of : Hole → Gap
 gap_of hole = record { at = hole.at; len = hole.len }
@@ -23,10 +23,10 @@ with_row row (other ∷ rows) = if nat_lt row.place other.place then row ∷ (ot
 -- n bytes are between these blocks, from a position on
 abbrev pub IsFree : ℕ → List Row → ℕ → ℕ → ℕ → Type 0
 IsFree from [] capacity at len = (from ≤ at) × (at + len ≤ capacity)
-IsFree from (row ∷ rows) capacity at len = ((from ≤ at) × (at + len ≤ row.place)) ⊎ IsFree (row.place + row.room) rows capacity at len
+IsFree from (row ∷ rows) capacity at len = ((from ≤ at) × (at + len ≤ row.place)) ⊎ IsFree (row.place + room_of row) rows capacity at len
 
 abbrev pub row_of : List Row → ℕ → Row
-row_of rows i = slice_index_or rows i (record { place = 0; room = 0; size = 0 })
+row_of rows i = slice_index_or rows i (record { place = 0; extent = 0 })
 
 -- the rows without that of this number
 abbrev pub without_row : ℕ → List Row → List Row

@@ -1,27 +1,38 @@
 -- Heap memory that C stores: its bytes, and beside them a row for each block, in the order of their positions.
-use Rattle.std.specs.Prelude.{ℕ, ◌+◌, ◌-◌, ◌≤◌, List, [], ◌∷◌, length, map, take}
+use Rattle.std.specs.Prelude.{ℕ, ◌+◌, ◌-◌, ◌/◌, ◌%◌, ◌≤◌, List, [], ◌∷◌, length, map, take}
 use Rattle.mote_types.specs.Bytes.{zeros, range_of, resized}
 use Rattle.heap_core.specs.declared.chunk.Place.{Place}
 use Rattle.heap_core.specs.HeapStore.{Block, HeapStore, block_at, with_block, without_block}
 use Rattle.modules_c.specs.declared.heapmem.row.Row.{Row}
 
--- rows have numbers of 32 bits: those of a heap with as many bytes as this might not fit
+-- a row has 27 bits for a block's size: those of a heap with as many bytes as this might not fit
 abbrev pub row_limit : ℕ
-row_limit = 4294967296
+row_limit = 134217728
+
+-- the number of a block's bytes
+unfoldable pub size_of : Row → ℕ
+size_of row = row.extent / 32
+
+-- the number of further bytes that are reserved for it
+unfoldable pub rest_of : Row → ℕ
+rest_of row = row.extent % 32
+
+abbrev pub room_of : Row → ℕ
+room_of row = size_of row + rest_of row
 
 -- a block is named by the position where it begins
 abbrev pub block_told : List ℕ → Row → Block
-block_told bytes row = record { name = row.place; at = row.place; room = row.room; bytes = range_of row.place row.size bytes }
+block_told bytes row = record { name = row.place; at = row.place; room = room_of row; bytes = range_of row.place (size_of row) bytes }
 
 -- what rows and bytes stand for: heap_core's heap, except that no header is before a block
 abbrev pub heap_of : List Row → List ℕ → HeapStore
 heap_of rows bytes = record { size = length bytes; header = 0; blocks = map (block_told bytes) rows }
 
--- From a position on are these blocks, each after the one before, up to the end of n bytes. Each has room, and room for its size
+-- from a position on are these blocks, each after the one before, up to the end of n bytes; each has room
 abbrev pub LieFrom : ℕ → List Row → ℕ → Type 0
 LieFrom from [] capacity = from ≤ capacity
 LieFrom from (row ∷ rows) capacity =
-    (from ≤ row.place) × (1 ≤ row.room) × (row.size ≤ row.room) × LieFrom (row.place + row.room) rows capacity
+    (from ≤ row.place) × (1 ≤ room_of row) × LieFrom (row.place + room_of row) rows capacity
 
 -- the rows describe blocks that are in n bytes, apart from each other
 abbrev pub IsTable : List Row → ℕ → Type 0

@@ -9,6 +9,10 @@ use Rattle.mmem_core.specs.Code.HandleTable.{bytes_at}
 use Rattle.mmem_core.specs.Code.Places.{place_in}
 use Rattle.modules_c.specs.declared.mmem.block.Block.{Block}
 
+-- rows have numbers of 32 bits: those of a buffer with as many bytes as this might not fit
+abbrev pub row_limit : ℕ
+row_limit = 4294967296
+
 -- where a row says that a block is, if it has one
 abbrev pub place_told : Block → Option Place
 place_told row = if row.size == 0 then None else Some (record { at = row.place; len = row.size })

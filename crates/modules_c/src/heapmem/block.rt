@@ -4,18 +4,18 @@ ghost use Rattle.std.specs.Prelude.{◌≡◌, ◌≢◌, ◌+◌, ◌≤◌, �
 ghost use Rattle.mote_types.specs.Bytes.{range_of, resized};
 ghost use Rattle.arena_core.specs.Code.Written.{written};
 ghost use Rattle.heap_core.specs.HeapStore.{place, place_of, new_place, room_in_place, find_block, without_block};
-ghost use Rattle.modules_c.specs.Heapmem.Heaps.{block_told, heap_of, row_limit, IsTable, front, with_new, with_resized};
+ghost use Rattle.modules_c.specs.Heapmem.Heaps.{block_told, heap_of, row_limit, size_of, IsTable, front, with_new, with_resized};
 ghost use Rattle.modules_c.specs.Heapmem.Answers.{AllocTold, FreeTold, ReallocTold};
 ghost use Rattle.modules_c.specs.Code.HeapmemRows.{place_told, row_of, next_place, IsFree};
 
 use crate::bytes::{clear, copy};
 use crate::heapmem::outcome::Outcome;
-use crate::heapmem::row::{Row, Spot};
+use crate::heapmem::row::{Row, Spot, row_for, size_of};
 use crate::heapmem::survey::{find_place, is_table, room_in_place};
 use crate::heapmem::table::{insert, remove, row_at};
 
-/// A row has numbers of 32 bits, so it can't describe all blocks of a larger heap.
-const MOST_BYTES: usize = u32::MAX as usize;
+/// A row has 27 bits for a block's size, so it can't describe all blocks of a larger heap.
+const MOST_BYTES: usize = 0x7ff_ffff;
 
 /// Puts a block of zeros where nothing is.
 fn put(rows: &mut [Row], bytes: &mut [u8], spot: Spot, size: usize)
@@ -23,20 +23,14 @@ fn put(rows: &mut [Row], bytes: &mut [u8], spot: Spot, size: usize)
     requires table { IsTable (front rows.old) (length bytes.old) }
     requires some { 1 ≤ spot.room }
     requires room { size ≤ spot.room }
+    requires rest { spot.room < size + 32 }
     requires free { IsFree 0 (front rows.old) (length bytes.old) spot.at spot.room }
     requires small { spot.at + spot.room < row_limit }
     ensures heap { heap_of rows.new bytes.new ≡ with_new (place_told spot) size (heap_of (front rows.old) bytes.old) }
     ensures table { IsTable rows.new (length bytes.new) }
 {
     clear(bytes, spot.at, size);
-    insert(
-        rows,
-        Row {
-            place: spot.at as u32,
-            room: spot.room as u32,
-            size: size as u32,
-        },
-    );
+    insert(rows, row_for(spot.at, spot.room, size));
 }
 
 /// Allocates a block of zeros, and reports its position.
@@ -82,11 +76,11 @@ pub fn free(rows: &mut [Row], bytes: &[u8], at: usize) -> Outcome
 
 /// Writes a row's bytes to an offset, resized to `n` bytes.
 fn carry(bytes: &mut [u8], row: Row, to: usize, n: usize)
-    requires source { row.place + row.size ≤ length bytes.old }
+    requires source { row.place + size_of row ≤ length bytes.old }
     requires target { to + n ≤ length bytes.old }
-    ensures { bytes.new ≡ written bytes.old to (resized n (range_of row.place row.size bytes.old)) }
+    ensures { bytes.new ≡ written bytes.old to (resized n (range_of row.place (size_of row) bytes.old)) }
 {
-    let kept = (row.size as usize).min(n);
+    let kept = size_of(row).min(n);
     copy(bytes, row.place as usize, kept, to);
     clear(bytes, to + kept, n - kept);
 }
@@ -97,6 +91,7 @@ fn resize(rows: &mut [Row], bytes: &mut [u8], number: usize, room: usize, n: usi
     requires there { number < length rows.old }
     requires some { 1 ≤ room }
     requires fits { n ≤ room }
+    requires rest { room < n + 32 }
     requires room { (row_of rows.old number).place + room ≤ next_place number rows.old (length bytes.old) }
     requires small { (row_of rows.old number).place + room < row_limit }
     ensures heap { heap_of rows.new bytes.new ≡ with_resized (record { at = (row_of rows.old number).place; room = room }) n
@@ -105,11 +100,7 @@ fn resize(rows: &mut [Row], bytes: &mut [u8], number: usize, room: usize, n: usi
 {
     let row = rows[number];
     carry(bytes, row, row.place as usize, n);
-    rows[number] = Row {
-        place: row.place,
-        room: room as u32,
-        size: n as u32,
-    };
+    rows[number] = row_for(row.place as usize, room, n);
 }
 
 /// Moves the block of this number to where nothing is, and resizes it.
@@ -118,6 +109,7 @@ fn relocate(rows: &mut [Row], bytes: &mut [u8], number: usize, spot: Spot, n: us
     requires there { number < length rows.old }
     requires some { 1 ≤ spot.room }
     requires fits { n ≤ spot.room }
+    requires rest { spot.room < n + 32 }
     requires free { IsFree 0 rows.old (length bytes.old) spot.at spot.room }
     requires small { spot.at + spot.room < row_limit }
     ensures heap { heap_of rows.new bytes.new ≡ with_resized (place_told spot) n (block_told bytes.old (row_of rows.old number))
@@ -126,14 +118,7 @@ fn relocate(rows: &mut [Row], bytes: &mut [u8], number: usize, spot: Spot, n: us
 {
     carry(bytes, rows[number], spot.at, n);
     remove(rows, number);
-    insert(
-        rows,
-        Row {
-            place: spot.at as u32,
-            room: spot.room as u32,
-            size: n as u32,
-        },
-    );
+    insert(rows, row_for(spot.at, spot.room, n));
 }
 
 /// Resizes the block that begins at a position, and reports where it is then.

@@ -1,18 +1,50 @@
 //! The rows of a heap, and numbers of bytes.
 
-ghost use Rattle.std.specs.Prelude.{◌≡◌, ◌+◌, ◌≤◌};
+ghost use Rattle.std.specs.Prelude.{◌≡◌, ◌+◌, ◌≤◌, ◌<◌};
 ghost use Rattle.heap_core.specs.HeapStore.{least_room, room_taken};
+ghost use Rattle.modules_c.specs.Heapmem.Heaps.{row_limit, size_of, rest_of, room_of};
 
-/// A row of the table: one block. Its numbers have 32 bits, so that a table takes half the memory.
+/// A row of the table: one block, in 8 bytes, since a table has many.
 #[repr(C)]
 #[derive(Clone, Copy, Drop)]
 pub struct Row {
     /// Where the block begins: its offset from the heap's start.
     pub place: u32,
-    /// The number of bytes reserved for it.
-    pub room: u32,
-    /// The number of its bytes.
-    pub size: u32,
+    /// 32 times the number of its bytes, plus the number of further ones that are reserved for it. These are at most 24: up to 8
+    /// that rounding adds, and a rest of a gap.
+    pub extent: u32,
+}
+
+/// The row of a block.
+#[tactic(auto, unfolding(crate::specs::Heapmem::Heaps::size_of, crate::specs::Heapmem::Heaps::rest_of))]
+pub fn row_for(place: usize, room: usize, size: usize) -> Row
+    requires fits { size ≤ room }
+    requires rest { room < size + 32 }
+    requires small { place + room < row_limit }
+    ensures place { result.place ≡ place }
+    ensures room { room_of result ≡ room }
+    ensures size { size_of result ≡ size }
+{
+    Row {
+        place: place as u32,
+        extent: (size * 32 + (room - size)) as u32,
+    }
+}
+
+/// The number of a block's bytes.
+#[tactic(auto, unfolding(crate::specs::Heapmem::Heaps::size_of))]
+pub fn size_of(row: Row) -> usize
+    ensures { result ≡ size_of row }
+{
+    row.extent as usize / 32
+}
+
+/// The number of bytes reserved for a block.
+#[tactic(auto, unfolding(crate::specs::Heapmem::Heaps::size_of, crate::specs::Heapmem::Heaps::rest_of))]
+pub fn room_of(row: Row) -> usize
+    ensures { result ≡ room_of row }
+{
+    row.extent as usize / 32 + row.extent as usize % 32
 }
 
 /// The figures of a heap.

@@ -3,20 +3,22 @@
 ghost use Rattle.std.specs.Prelude.{◌≡◌, ℕ, List, ◌+◌, ◌≤◌, ◌<◌, ◌↔◌, ◌⊎◌, IsTrue, length, IfSome, IfNone, IfOk, IfErr, Some};
 ghost use Rattle.std.specs.Option.{option_map};
 ghost use Rattle.heap_core.specs.HeapStore.{best_gap, better, gaps, footprint, place, place_of, room_in_place, stats_of};
-ghost use Rattle.modules_c.specs.Heapmem.Heaps.{block_told, heap_of, IsTable};
+ghost use Rattle.modules_c.specs.Heapmem.Heaps.{block_told, heap_of, room_of, IsTable};
 ghost use Rattle.modules_c.specs.Code.HeapmemRows.{gap_of, place_told, row_of, next_place, IsFree, HasNoPlace};
 
 use crate::heapmem::outcome::Outcome;
-use crate::heapmem::row::{Hole, Row, Spot, Stats, least_room, room_taken};
+use crate::heapmem::row::{Hole, Row, Spot, Stats, least_room, room_of, room_taken};
 
-/// Where a row's block ends, if it is at a position or after it, and has room for its size.
+/// Where a row's block ends, if it is at a position or after it, and has room.
+#[tactic(auto, unfolding(crate::specs::Heapmem::Heaps::size_of, crate::specs::Heapmem::Heaps::rest_of))]
 fn end_behind(row: Row, from: usize) -> Option<usize>
-    ensures some { IfSome result (λ end. (from ≤ row.place) × (1 ≤ row.room) × (row.size ≤ row.room) × (end ≡ row.place + row.room)) }
-    ensures none { IfNone result (from ≤ row.place → 1 ≤ row.room → ¬ (row.size ≤ row.room)) }
+    ensures some { IfSome result (λ end. (from ≤ row.place) × (1 ≤ room_of row) × (end ≡ row.place + room_of row)) }
+    ensures none { IfNone result (from ≤ row.place → ¬ (1 ≤ room_of row)) }
 {
     let place = row.place as usize;
-    if from <= place && row.room != 0 && row.size <= row.room {
-        Some(place + row.room as usize)
+    let room = room_of(row);
+    if from <= place && room != 0 {
+        Some(place + room)
     } else {
         None
     }
@@ -99,7 +101,8 @@ pub fn find_place(rows: &[Row], capacity: usize, n: usize) -> Result<Spot, Outco
     ensures table { IfOk result (λ _. IsTable rows.now capacity) }
     ensures place { IfOk result (λ spot. (bytes : List ℕ) → length bytes ≡ capacity
         → Some (place_told spot) ≡ place n (heap_of rows.now bytes)) }
-    ensures free { IfOk result (λ spot. (1 ≤ spot.room) × (n ≤ spot.room) × IsFree 0 rows.now capacity spot.at spot.room) }
+    ensures room { IfOk result (λ spot. (1 ≤ spot.room) × (n ≤ spot.room) × (spot.room < n + 32)) }
+    ensures free { IfOk result (λ spot. IsFree 0 rows.now capacity spot.at spot.room) }
     ensures refused { IfErr result (λ outcome. HasNoPlace outcome n rows.now capacity) }
 {
     let room = least_room(n);
@@ -137,14 +140,15 @@ pub fn room_in_place(rows: &[Row], capacity: usize, number: usize, n: usize) -> 
     requires there { number < length rows.now }
     ensures room { (bytes : List ℕ) → length bytes ≡ capacity →
         result ≡ room_in_place (place_of (block_told bytes (row_of rows.now number))) n (heap_of rows.now bytes) }
-    ensures fits { IfSome result (λ room. (1 ≤ room) × (n ≤ room)
+    ensures fits { IfSome result (λ room. (1 ≤ room) × (n ≤ room) × (room < n + 32)
         × ((row_of rows.now number).place + room ≤ next_place number rows.now capacity)) }
 {
     let row = rows[number];
+    let room = room_of(row);
     let least = least_room(n);
     let most = next_place(rows, number, capacity) - row.place as usize;
-    if least <= row.room as u128 {
-        return Some(room_taken(least as usize, row.room as usize));
+    if least <= room as u128 {
+        return Some(room_taken(least as usize, room));
     }
     if least > most as u128 {
         return None;
@@ -166,7 +170,7 @@ fn left_over(rows: &[Row], capacity: usize) -> usize
     let mut end = 0;
     for row in rows {
         free += row.place as usize - end;
-        end = row.place as usize + row.room as usize;
+        end = row.place as usize + room_of(*row);
     }
     free + (capacity - end)
 }

@@ -3,14 +3,14 @@
 ghost use Rattle.std.specs.Prelude.{◌+◌, ◌^◌, ◌≤◌, ◌<◌, ◌≡◌, true, false};
 ghost use Rattle.mote_types.specs.Rounding.{up4};
 
-/// A row of the table: the block of one handle.
+/// A row of the table: the block of one handle. Its numbers have 32 bits, so that a table takes half the memory.
 #[repr(C)]
 #[derive(Clone, Copy, Drop)]
 pub struct Block {
     /// Where it begins: its offset from the buffer's start.
-    pub place: usize,
+    pub place: u32,
     /// The number of its bytes. It takes that number, rounded up. 0 where the handle has no block.
-    pub size: usize,
+    pub size: u32,
 }
 
 /// The least multiple of 4 not below `n`.

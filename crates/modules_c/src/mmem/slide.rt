@@ -19,7 +19,7 @@ fn next_from(blocks: &[Block], low: usize) -> Option<usize>
     let mut next: Option<usize> = None;
     for number in 0..blocks.len() {
         let block = blocks[number];
-        if block.size != 0 && low <= block.place {
+        if block.size != 0 && low <= block.place as usize {
             next = match next {
                 Some(best) if blocks[best].place <= block.place => Some(best),
                 _ => Some(number),
@@ -42,12 +42,12 @@ fn slide_together(blocks: &mut [Block], buffer: &mut [u8]) -> usize
     let mut end = 0;
     while let Some(number) = next_from(blocks, end) {
         let block = blocks[number];
-        copy(buffer, block.place, block.size, end);
+        copy(buffer, block.place as usize, block.size as usize, end);
         blocks[number] = Block {
-            place: end,
+            place: end as u32,
             size: block.size,
         };
-        end += rounded(block.size);
+        end += rounded(block.size as usize);
     }
     end
 }
@@ -87,6 +87,6 @@ pub fn put_last(blocks: &mut [Block], buffer: &mut [u8], handle: usize, block: B
     ensures behind { IsSomeAnd (place_in (places_told blocks.new) handle)
         (λ place. last_end (places_told blocks.new) ≡ place.at + up4 block.size) }
 {
-    clear(buffer, block.place, block.size);
+    clear(buffer, block.place as usize, block.size as usize);
     blocks[handle] = block;
 }

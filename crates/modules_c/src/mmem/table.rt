@@ -1,6 +1,6 @@
 //! Whether the rows of a table describe blocks that are apart, and what these leave free.
 
-ghost use Rattle.std.specs.Prelude.{◌≡◌, ◌+◌, ◌-◌, ◌^◌, ◌≤◌, ◌<◌, ◌↔◌, IsTrue, true, false, length, sum_by};
+ghost use Rattle.std.specs.Prelude.{◌≡◌, ◌+◌, ◌-◌, ◌≤◌, ◌<◌, ◌↔◌, IsTrue, true, false, length, sum_by};
 ghost use Rattle.mote_types.specs.Rounding.{up4};
 ghost use Rattle.mmem_core.specs.Code.Places.{last_end};
 ghost use Rattle.mmem_core.specs.Code.Laid.{room_of};
@@ -22,24 +22,23 @@ pub fn lies_inside(block: Block, capacity: usize) -> bool
     ensures inside { result ≡ true → 0 < block.size → block.place + up4 block.size ≤ capacity }
     ensures outside { result ≡ false → (0 < block.size) × (capacity < block.place + up4 block.size) }
 {
-    block.size == 0 || block.place <= capacity && fits(block.size, capacity - block.place)
+    let place = block.place as usize;
+    block.size == 0 || place <= capacity && fits(block.size as usize, capacity - place)
 }
 
 /// Whether one block ends where the other begins, or before, unless it begins after that.
 fn ends_before(one: Block, other: Block) -> bool
-    requires { 0 < one.size → up4 one.size < 2 ^ 64 }
     ensures { IsTrue result ↔ EndsBefore one other }
 {
     one.size == 0
         || other.size == 0
         || other.place < one.place
-        || rounded(one.size) <= other.place - one.place
+        || rounded(one.size as usize) <= (other.place - one.place) as usize
 }
 
 /// Whether a block ends before each other one that begins no lower.
 fn is_clear(blocks: &[Block], number: usize) -> bool
-    requires there { number < length blocks.now }
-    requires size { 0 < (row_of blocks.now number).size → up4 (row_of blocks.now number).size < 2 ^ 64 }
+    requires { number < length blocks.now }
     ensures { IsTrue result ↔ IsClear blocks.now number (length blocks.now) }
 {
     for other in 0..blocks.len() {
@@ -69,21 +68,20 @@ pub fn left_over(blocks: &[Block], capacity: usize) -> usize
 {
     let mut left = capacity;
     for block in blocks {
-        left = left.saturating_sub(rounded(block.size));
+        left = left.saturating_sub(rounded(block.size as usize));
     }
     left
 }
 
 /// Where a block ends; 0 where there is none.
 fn end_of(block: Block) -> usize
-    requires { 0 < block.size → block.place + up4 block.size < 2 ^ 64 }
     ensures none { block.size ≡ 0 → result ≡ 0 }
     ensures some { 0 < block.size → result ≡ block.place + up4 block.size }
 {
     if block.size == 0 {
         0
     } else {
-        block.place + rounded(block.size)
+        block.place as usize + rounded(block.size as usize)
     }
 }
 

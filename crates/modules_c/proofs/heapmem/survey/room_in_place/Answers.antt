@@ -7,8 +7,8 @@ use Rattle.modules_c.proofs.heapmem.survey.room_in_place.Goals as goal
 pub overflow_sub-most : goal.overflow_sub-most
 overflow_sub-most c = grind (arith, row_lies)
 
-pub returns-then-least-row-clause-fits : goal.returns-then-least-row-clause-fits
-returns-then-least-row-clause-fits c = grind (arith, taken_between, least_enough, row_lies)
+pub returns-then-least-room-clause-fits : goal.returns-then-least-room-clause-fits
+returns-then-least-room-clause-fits c = grind (arith, taken_between, least_enough, row_lies)
 
 pub returns-then-least-most-clause-room : goal.returns-then-least-most-clause-room
 returns-then-least-most-clause-room c bytes size = grind (arith, cases_lt, room_last, room_next)
