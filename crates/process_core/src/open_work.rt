@@ -2,8 +2,10 @@
 
 ghost use Rattle.std.specs.Prelude.{◌≡◌};
 ghost use Rattle.mote_types.specs.declared.event.Stimulus.{Stimulus as ToldStimulus};
+ghost use Rattle.mote_types.specs.declared.event.Payload.{Payload as Carried};
 ghost use Rattle.mote_types.specs.declared.reply.Reply.{Reply as Answered};
 
+use crate::giving::plain_event;
 use crate::walk::Walk;
 use arrayvec::ArrayVec;
 use mote_types::event::{Event, Payload, Pid, Stimulus};
@@ -31,6 +33,28 @@ pub enum Base {
     Broadcast { is_polled: bool },
 }
 
+// Writes an event that carries a number. In place where the buffer has one: mostly the same one, as a receiver got it that waits.
+#[inline(always)]
+fn tell_number(told: &mut Stimulus, code: u8, number: u32)
+    ensures { told.new ≡ ToldStimulus.Event (record { code = code; payload = Carried.Num number }) }
+{
+    match told {
+        Stimulus::Event(event) => {
+            event.code = code;
+            match &mut event.payload {
+                Payload::Num(carried) => *carried = number,
+                _ => event.payload = Payload::Num(number),
+            }
+        }
+        _ => {
+            *told = Stimulus::Event(Event {
+                code,
+                payload: Payload::Num(number),
+            });
+        }
+    }
+}
+
 /// Writes an event as a stimulus, without allocating memory; the event stays. The bytes of a line are copied once.
 pub(crate) fn tell(told: &mut Stimulus, event: &Event)
     ensures { told.new ≡ ToldStimulus.Event event.now }
@@ -51,7 +75,8 @@ pub(crate) fn tell(told: &mut Stimulus, event: &Event)
                 let _ = copy.try_extend_from_slice(line.as_slice());
             }
         }
-        _ => *told = Stimulus::Event(event.copied()),
+        Payload::Num(number) => tell_number(told, event.code, *number),
+        Payload::Empty => *told = Stimulus::Event(plain_event(event.code)),
     }
 }
 

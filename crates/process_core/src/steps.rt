@@ -32,8 +32,7 @@ impl SchedulerFields {
         ensures front { self.new.front ≡ front_after result }
         ensures order { IsInOrder self.new }
     {
-        let front = self.front;
-        match front {
+        match self.front {
             Front::Nothing => None,
             Front::Answer(pid) => {
                 tell_reply(told, &self.reply);
@@ -44,7 +43,7 @@ impl SchedulerFields {
                 })
             }
             _ => {
-                if self.find_rare_front(front, told) {
+                if self.find_rare_front(told) {
                     Some(self.ready)
                 } else {
                     None
@@ -56,17 +55,16 @@ impl SchedulerFields {
     // What few calls report, out of line: the buffers of events are cleared at the entry. The job is put into a field: as a
     // result it would keep each other job in memory, too.
     #[inline(never)]
-    fn find_rare_front(&mut self, front: Front, told: &mut Stimulus) -> bool
+    fn find_rare_front(&mut self, told: &mut Stimulus) -> bool
         requires order { IsInOrder self.old }
-        requires front { self.old.front ≡ front }
-        requires rare { (p : At) → front ≡ Front.Answer p → ⊥ }
+        requires rare { (p : At) → self.old.front ≡ Front.Answer p → ⊥ }
         ensures yields { Yields (scheduler_of self.old)
             (option_map (λ r. job_of r told.new) (found result self.new.ready)) (scheduler_behind self.new) }
         ensures told { HoldsEvent (found result self.new.ready) told.new }
         ensures front { self.new.front ≡ front_after (found result self.new.ready) }
         ensures order { IsInOrder self.new }
     {
-        match self.take_rare_front(front, told) {
+        match self.take_rare_front(told) {
             Some(ready) => {
                 self.ready = ready;
                 true
@@ -76,16 +74,16 @@ impl SchedulerFields {
     }
 
     // What few calls report.
-    fn take_rare_front(&mut self, front: Front, told: &mut Stimulus) -> Option<NextJob>
+    fn take_rare_front(&mut self, told: &mut Stimulus) -> Option<NextJob>
         requires order { IsInOrder self.old }
-        requires front { self.old.front ≡ front }
-        requires rare { (p : At) → front ≡ Front.Answer p → ⊥ }
+        requires rare { (p : At) → self.old.front ≡ Front.Answer p → ⊥ }
         ensures yields { Yields (scheduler_of self.old)
             (option_map (λ r. job_of r told.new) result) (scheduler_behind self.new) }
         ensures told { HoldsEvent result told.new }
         ensures front { self.new.front ≡ front_after result }
         ensures order { IsInOrder self.new }
     {
+        let front = self.front;
         self.front = Front::Nothing;
         match front {
             Front::Give(pid) => {

@@ -5,11 +5,8 @@ use Rattle.process_core.proofs.scheduler_fields.SchedulerFields.take_rare_front.
 pub returns-in_default : goal.returns-in_default
 returns-in_default c = record {
   yields =
-      rw (
-        c.requires.front,
-        none_reported c.args.front c.args.self.now.reply c.args.self.now.synch c.requires.rare c.in_default.not-Give
-            c.in_default.not-Start c.in_default.not-Callback,
-      )
+      rw (none_reported c.args.self.now.front c.args.self.now.reply c.args.self.now.synch c.requires.rare c.in_default.not-Give
+      c.in_default.not-Start c.in_default.not-Callback)
       (0, refl);
   told = tt;
   front = refl;
