@@ -20,7 +20,7 @@ ghost use Rattle.timer_core.specs.Deadlines.{next_deadline};
 
 use crate::boot::{Tables, tables_at_boot};
 use crate::config::Config;
-use crate::fields::KernelFields;
+use crate::kernel_fields::KernelFields;
 use crate::step::StepOutcome;
 use crate::turn::Turn;
 use device_core::serial_line::SerialLine;

@@ -12,7 +12,7 @@ ghost use Rattle.kernel_core.specs.Code.View.{machine_of, IsInOrder};
 ghost use Rattle.kernel_core.specs.Machine.{is_bootable, booted, sizes_of};
 
 use crate::config::Config;
-use crate::fields::KernelFields;
+use crate::kernel_fields::KernelFields;
 use crate::pending_entries::PendingEntries;
 use device_core::packet_queue::PacketQueue;
 use device_core::serial_line::SerialLine;

@@ -13,7 +13,7 @@ ghost use Rattle.kernel_core.specs.Code.View.{machine_of, no_pending_entries, Is
 ghost use Rattle.kernel_core.specs.declared.call_kind.CallKind as kinds;
 
 use crate::call_kind::CallKind;
-use crate::fields::KernelFields;
+use crate::kernel_fields::KernelFields;
 use mote_types::call::Call;
 use mote_types::event::Pid;
 use mote_types::refusal::Refusal;

@@ -7,7 +7,7 @@ ghost use Rattle.kernel_core.specs.Calls as call_spec;
 ghost use Rattle.kernel_core.specs.Calls.{after_call};
 ghost use Rattle.kernel_core.specs.Code.View.{machine_of, IsAtTurn, IsCallDone};
 
-use crate::fields::KernelFields;
+use crate::kernel_fields::KernelFields;
 use mote_types::event::{Event, FIRST_APPLICATION, Payload, Pid, is_reserved};
 use mote_types::refusal::Refusal;
 use mote_types::reply::Reply;

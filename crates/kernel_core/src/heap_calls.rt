@@ -6,7 +6,7 @@ ghost use Rattle.kernel_core.specs.Calls.{after_call};
 ghost use Rattle.kernel_core.specs.Code.View.{machine_of, IsAtTurn, IsCarriedOut};
 
 use crate::calls::answer_bytes;
-use crate::fields::KernelFields;
+use crate::kernel_fields::KernelFields;
 use mote_types::event::Pid;
 use mote_types::reply::{Chunk, Reply};
 

@@ -8,7 +8,7 @@ ghost use Rattle.kernel_core.specs.Code.Conditions.{ticks_of};
 ghost use Rattle.kernel_core.specs.Run.{Answers, is_at_rest};
 ghost use Rattle.kernel_core.specs.Code.Steps.{GoesSilently};
 
-use crate::fields::{KernelFields, WORK_LIMIT};
+use crate::kernel_fields::{KernelFields, WORK_LIMIT};
 use mote_types::entry::Input;
 use mote_types::event::ETIMER;
 

@@ -9,7 +9,7 @@ ghost use Rattle.kernel_core.specs.Run.{is_at_rest};
 ghost use Rattle.device_core.specs.PacketQueue.{free_slot};
 ghost use Rattle.node_memory.specs.Code.Placed.{last_owner};
 
-use crate::fields::KernelFields;
+use crate::kernel_fields::KernelFields;
 use device_core::packet_queue::MOST_FRAMES;
 use mote_types::entry::{Input, Note};
 use mote_types::event::{ETIMER, PACKET_PROCESS, SERIAL_PROCESS};

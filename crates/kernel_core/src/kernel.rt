@@ -15,7 +15,7 @@ ghost use Rattle.kernel_core.specs.Code.Conditions.{TakesEntry};
 
 use crate::boot::tables_at_boot;
 use crate::config::Config;
-use crate::fields::KernelFields;
+use crate::kernel_fields::KernelFields;
 use crate::step::{Step, StepOutcome};
 use crate::turn::Turn;
 use device_core::serial_line::SerialLine;

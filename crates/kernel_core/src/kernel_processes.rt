@@ -15,7 +15,7 @@ ghost use Rattle.kernel_core.specs.Code.Steps.{GoesSilently};
 ghost use Rattle.kernel_core.specs.TimerProcesses.{exited_application};
 
 use crate::call_kind::CallKind;
-use crate::fields::KernelFields;
+use crate::kernel_fields::KernelFields;
 use mote_types::call::Call;
 use mote_types::event::{
     CONTINUE, CTIMER, ETIMER, EXITED, Event, FIRST_APPLICATION, MOST_APPLICATIONS, PACKET_PROCESS,

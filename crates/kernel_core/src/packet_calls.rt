@@ -9,7 +9,7 @@ ghost use Rattle.kernel_core.specs.Calls.{after_call};
 ghost use Rattle.kernel_core.specs.Code.View.{machine_of, IsAtTurn, IsCarriedOut};
 
 use crate::calls::answer_bytes;
-use crate::fields::KernelFields;
+use crate::kernel_fields::KernelFields;
 use arrayvec::ArrayVec;
 use mote_types::entry::Note;
 use mote_types::event::{PACKET_PROCESS, Pid};

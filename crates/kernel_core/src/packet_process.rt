@@ -10,7 +10,7 @@ ghost use Rattle.kernel_core.specs.PacketProcess as process;
 ghost use Rattle.kernel_core.specs.Repeating.{times};
 ghost use Rattle.kernel_core.specs.TimerProcesses.{exited_application};
 
-use crate::fields::KernelFields;
+use crate::kernel_fields::KernelFields;
 use crate::kernel_processes::exited_application;
 use mote_types::event::{Event, PACKET, PACKET_PROCESS, Payload};
 

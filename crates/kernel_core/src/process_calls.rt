@@ -5,7 +5,7 @@ ghost use Rattle.mote_types.specs.declared.call.Call.{Call};
 ghost use Rattle.kernel_core.specs.Calls.{after_call};
 ghost use Rattle.kernel_core.specs.Code.View.{machine_of, IsAtTurn, IsCallDone};
 
-use crate::fields::KernelFields;
+use crate::kernel_fields::KernelFields;
 use mote_types::event::Pid;
 use mote_types::reply::Reply;
 

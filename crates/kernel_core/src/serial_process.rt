@@ -5,7 +5,7 @@ ghost use Rattle.kernel_core.specs.Code.Draws.{HasQueueableEvents};
 ghost use Rattle.kernel_core.specs.SerialProcess as process;
 ghost use Rattle.kernel_core.specs.Code.View.{machine_of, IsServed};
 
-use crate::fields::KernelFields;
+use crate::kernel_fields::KernelFields;
 use device_core::serial_line::Line;
 use mote_types::event::{CONTINUE, Event, Payload, SERIAL_LINE, SERIAL_PROCESS};
 

@@ -5,7 +5,7 @@ ghost use Rattle.mote_types.specs.declared.call.Call.{Call as Asked};
 ghost use Rattle.kernel_core.specs.Calls.{after_call};
 ghost use Rattle.kernel_core.specs.Code.View.{machine_of, IsAtTurn, IsCallDone};
 
-use crate::fields::KernelFields;
+use crate::kernel_fields::KernelFields;
 use mote_types::event::{ETIMER, Pid};
 use mote_types::refusal::Refusal;
 use mote_types::reply::Reply;

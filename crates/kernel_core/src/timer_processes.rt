@@ -15,7 +15,7 @@ ghost use Rattle.kernel_core.specs.Code.Carrying.{job_carrying};
 ghost use Rattle.kernel_core.specs.Run.{Answers, job_done, silent};
 ghost use Rattle.process_core.specs.Agenda.{Job};
 
-use crate::fields::KernelFields;
+use crate::kernel_fields::KernelFields;
 use crate::kernel_processes::exited_application;
 use mote_types::event::{ETIMER, Event, Payload, Pid, TIMER};
 use timer_core::due::Due;

@@ -9,8 +9,8 @@ pub use Rattle.mote_run.specs.Code.LoopInvariant.{GoesOnFrom, HasCome, Ran, Read
 pub use Rattle.mote_run.specs.Code.Reading.{CanBeFed, IsReady, ReadPart, ReadSoFar, Takes, number_after, said}
 pub use Rattle.mote_run.specs.Code.Way.{Follows, Goes, IsTold, Place, Went, end_at, end_of, place}
 pub use Rattle.mote_run.specs.Code.Writing.{WritesOn, lines}
-pub use Rattle.mote_run.specs.RunText.{Exchange, Exchanged, HasRead, HasRunOnWholeLines, HasRunTo, IsRunText, OfEachScript}
-pub use Rattle.mote_run.specs.Trace.{GoesOnAfter, LawfulRun, ReadsNoFurther, RunPromise}
+pub use Rattle.mote_run.specs.RunText.{Exchange, Exchanged, HasRead, HasRunTo, IsRunText, OfEachScript, OnWholeLines}
+pub use Rattle.mote_run.specs.Trace.{LawfulRun, ReadsNoFurther, RunPromise}
 pub use Rattle.mote_run.specs.declared.run.RunFault.{RunFault}
 pub use Rattle.mote_run.specs.declared.script.Script.{Script}
 pub use Rattle.mote_text.proofs.Reading.{Gives, another_byte, line_of_input, line_of_no_form, line_of_nothing, line_too_long, script_limit_is, script_too_long, start}

@@ -1,6 +1,6 @@
 -- Worked examples: what counts as read, and a run on a script that was read to its end.
 use Rattle.std.proofs.Common.{◌≡◌, ℕ, Bool, true, false, List, ◌∷◌, ◌++◌, codes, length, Result, Ok, Err, refl, sym, ap, subst, append-nil, arith, []}
-use Rattle.mote_run.proofs.Common.{Applications, End, Config, Exchange, GoesOnAfter, HasRead, HasRunTo, Input, IsRunText, ReadsNoFurther, RunPromise, RunFault, Running, Runs, at_start, inputs, is_halt, list_any, read_line}
+use Rattle.mote_run.proofs.Common.{Applications, End, Config, Exchange, HasRead, HasRunTo, Input, IsRunText, OnWholeLines, ReadsNoFurther, RunPromise, RunFault, Running, Runs, at_start, inputs, is_halt, list_any, read_line}
 use Rattle.kernel_core.specs.Laws.RunLaws.{IsAnsweredAlike}
 use Rattle.kernel_core.specs.Laws.RunLaws.{BlocksAreOwn, EventsArriveInOrder, ProcessesAreIsolated, TimersAreKept}
 
@@ -22,14 +22,17 @@ not_both : (holds : Bool) → holds ≡ true → holds ≡ false → ⊥
 not_both holds one other = cc
 
 module _ (config : Config) (says : Applications) where
+  abbrev GoesOnAfter : List ℕ → Type 0
+  GoesOnAfter read = OnWholeLines config says read (λ entries. list_any is_halt entries ≡ false)
+
   -- the run doesn't go on after a malformed line
-  malformed : GoesOnAfter config says (codes "x\n") → ⊥
+  malformed : GoesOnAfter (codes "x\n") → ⊥
   unfolding read_line
   malformed on = no_end_of_another_kind (ap (λ (reading : List Input × End). reading.1) on.have_form)
 
   -- nor after a halt
-  halted : (read : List ℕ) (on : GoesOnAfter config says read) → list_any is_halt on.last.entries ≡ true → ⊥
-  halted read on halts = not_both (list_any is_halt on.last.entries) halts on.is_running
+  halted : (read : List ℕ) (on : GoesOnAfter read) → list_any is_halt on.last.entries ≡ true → ⊥
+  halted read on halts = not_both (list_any is_halt on.last.entries) halts on.holds
 
   -- a mote that halts at boot reads nothing
   nothing_read_yet : ReadsNoFurther config says []

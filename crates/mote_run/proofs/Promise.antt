@@ -1,7 +1,7 @@
 -- What was read and written keeps the promise of a run.
 use Rattle.std.proofs.Common.{arith, ◌≡◌, ℕ, Bool, true, false, if◌then◌else◌, List, ◌++◌, refl, sym, ap, ◌∙◌, append_assoc, Result, Ok, Err, IfOk, IsErr, IsErrOf, []}
 use Rattle.std.proofs.lemmas.List.{append_cancel_left}
-use Rattle.mote_run.proofs.Common.{append-nil, IsErrAnd, Applications, End, Reading, Running, Runs, at_start, inputs, end_of, final_line, text, Config, booted, is_bootable, RunFault, Exchange, Exchanged, HasRunOnWholeLines, IsRunText, OfEachScript, GoesOnAfter, GoesOnFrom, LawfulRun, ReadsNoFurther, ReadWhileRunning, RunPromise, Ran, Follows, Place, WritesOn}
+use Rattle.mote_run.proofs.Common.{append-nil, is_halt, list_any, IsErrAnd, Applications, End, Reading, Running, Runs, at_start, inputs, end_of, final_line, text, Config, booted, is_bootable, RunFault, Exchange, Exchanged, IsRunText, OfEachScript, OnWholeLines, GoesOnFrom, LawfulRun, ReadsNoFurther, ReadWhileRunning, RunPromise, Ran, Follows, Place, WritesOn}
 use Rattle.mote_run.proofs.LoopInvariant.{no_last_line}
 use Rattle.mote_run.proofs.Pieces.{on_err}
 use Rattle.kernel_core.specs.Code.LawfulRuns.{LawfulRuns}
@@ -65,7 +65,8 @@ module _ {config : Config} {says : Applications} {quiet : Bool} {read : List ℕ
         laws = laws.kept says _ run.0 run.1;
       }
 
-  whole_lines : IsErrOf answer RunFault.Read → HasRunOnWholeLines config says quiet exchange
+  whole_lines : IsErrOf answer RunFault.Read
+      → OnWholeLines config says read (λ entries. exchange.written ≡ text quiet entries End.Finished)
   whole_lines failed =
       let w = ran.after_read_fault failed in
       let run = laws.exists says w.whole in
@@ -78,11 +79,12 @@ module _ {config : Config} {says : Applications} {quiet : Bool} {read : List ℕ
         have_form = w.have_form;
         last = run.0;
         runs = run.1;
-        is_text = grind (arith, no_last_line);
+        holds = grind (arith, no_last_line);
       }
 
   -- where no text that follows ends in a halt, the machine's run has none
-  goes_on_after : {before : List ℕ} → GoesOnFrom quiet (booting given_old config says) before → GoesOnAfter config says before
+  goes_on_after : {before : List ℕ} → GoesOnFrom quiet (booting given_old config says) before
+      → OnWholeLines config says before (λ entries. list_any is_halt entries ≡ false)
   goes_on_after from =
       let run = laws.exists says from.whole in
       let end : End = end_of run.0.entries End.Finished in
@@ -93,7 +95,7 @@ module _ {config : Config} {says : Applications} {quiet : Bool} {read : List ℕ
         have_form = from.have_form;
         last = run.0;
         runs = run.1;
-        is_running = not_halted _ ends;
+        holds = not_halted _ ends;
       }
 
   reads_no_further : {taken_old taken_new : List ℕ} → taken_new ≡ taken_old ++ read

@@ -3,6 +3,7 @@ use Rattle.std.specs.Prelude.{◌≡◌, ℕ, Bool, true, length, List, [], ◌+
 use Rattle.std.specs.List.{list_any}
 use Rattle.mote_types.specs.Applications.{Applications}
 use Rattle.mote_types.specs.Entries.{is_halt}
+use Rattle.mote_types.specs.declared.entry.Entry.{Entry}
 use Rattle.mote_types.specs.declared.entry.Input.{Input}
 use Rattle.mote_text.specs.declared.script.End.{End}
 use Rattle.mote_text.specs.Script.{inputs, read_lines, whole_lines}
@@ -36,6 +37,15 @@ pub record Exchanged (taken_old taken_new : List ℕ) (is_ended : Bool) (given_o
 abbrev pub OfEachScript : Exchange → (List ℕ → Type 0) → Type 0
 OfEachScript exchange P = (more : List ℕ) → (exchange.is_ended ≡ true → more ≡ []) → P (exchange.read ++ more)
 
+module _ (config : Config) (says : Applications) where
+  -- no whole line of these bytes is malformed, and this holds of the entries of the machine's run on their inputs
+  pub record OnWholeLines (read : List ℕ) (P : List Entry → Type 0) : Type 0 where
+    pub inputs : List Input
+    pub have_form : read_lines 1 End.Finished (whole_lines read) ≡ (inputs, End.Finished)
+    pub last : Running
+    pub runs : Runs says (at_start config) inputs last
+    pub holds : P last.entries
+
 module _ (config : Config) (says : Applications) (quiet : Bool) where
   -- out is the text of the machine's run on the script's inputs, all of it and nothing else, and this is how it ends
   pub record IsRunText (script out : List ℕ) (end : End) : Type 0 where
@@ -44,23 +54,16 @@ module _ (config : Config) (says : Applications) (quiet : Bool) where
     pub ends : end ≡ (if list_any is_halt last.entries then End.Halted else (inputs script).1)
     pub is_text : out ≡ text quiet last.entries end
 
-  -- Reading failed: each whole line among the bytes read has a form, and what was written is the text of the machine's run on
-  -- their inputs, all of it and nothing else
-  pub record HasRunOnWholeLines (exchange : Exchange) : Type 0 where
-    pub inputs : List Input
-    pub have_form : read_lines 1 End.Finished (whole_lines exchange.read) ≡ (inputs, End.Finished)
-    pub last : Running
-    pub runs : Runs says (at_start config) inputs last
-    pub is_text : exchange.written ≡ text quiet last.entries End.Finished
-
   -- what was read and written is what a run comes to that is answered so, where a fault like this says that reading failed
   pub record HasRunTo {Fault : Type 0} (read_failed : Fault) (answer : Result End Fault) (exchange : Exchange) : Type 0 where
+    -- reading failed: what was written is the text of the run on the whole lines, all of it and nothing else
+    pub after_read_fault : IsErrOf answer read_failed
+        → OnWholeLines config says exchange.read (λ entries. exchange.written ≡ text quiet entries End.Finished)
     -- what was written is the text of the run on the script, whatever more that has where its end was not read
     pub text : IfOk answer (λ end. OfEachScript exchange (λ script. IsRunText script exchange.written end))
     -- a device failed: what was written is a front part of the text of each such script
     pub front : OnErr answer (OfEachScript exchange (λ script. (whole : List ℕ) (end : End) →
         IsRunText script whole end → (rest : List ℕ) × (whole ≡ exchange.written ++ rest)))
-    pub after_read_fault : IsErrOf answer read_failed → HasRunOnWholeLines exchange
 
 -- the kernel was just booted, for so many applications
 pub record WasBooted (kernel : Mote) (applications : ℕ) : Type 0 where

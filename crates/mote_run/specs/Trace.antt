@@ -3,24 +3,13 @@ use Rattle.std.specs.Prelude.{◌≡◌, ◌≢◌, ◌≤◌, ℕ, Bool, false,
 use Rattle.std.specs.List.{list_any}
 use Rattle.mote_types.specs.Applications.{Applications}
 use Rattle.mote_types.specs.Entries.{is_halt}
-use Rattle.mote_types.specs.declared.entry.Input.{Input}
 use Rattle.mote_text.specs.declared.script.End.{End}
-use Rattle.mote_text.specs.Script.{read_lines, whole_lines}
 use Rattle.kernel_core.specs.declared.config.Config.{Config}
 use Rattle.kernel_core.specs.Laws.RunLaws.{KeepsLaws}
-use Rattle.kernel_core.specs.Run.{Running, Runs, at_start}
 use Rattle.mote_run.specs.declared.run.RunFault.{RunFault}
-use Rattle.mote_run.specs.RunText.{Exchange, HasRunTo, IsRunText, OfEachScript}
+use Rattle.mote_run.specs.RunText.{Exchange, HasRunTo, IsRunText, OfEachScript, OnWholeLines}
 
 module _ (config : Config) (says : Applications) where
-  -- no whole line of these bytes is malformed, and the machine's run on their inputs doesn't halt
-  pub record GoesOnAfter (read : List ℕ) : Type 0 where
-    pub inputs : List Input
-    pub have_form : read_lines 1 End.Finished (whole_lines read) ≡ (inputs, End.Finished)
-    pub last : Running
-    pub runs : Runs says (at_start config) inputs last
-    pub is_running : list_any is_halt last.entries ≡ false
-
   -- Nothing is read after the piece that ends a malformed line, or a line at which the mote halts; and nothing at all where it halts
   -- at boot. A piece has at most 4,096 bytes
   pub record ReadsNoFurther (read : List ℕ) : Type 0 where
@@ -28,7 +17,7 @@ module _ (config : Config) (says : Applications) where
     pub piece : List ℕ
     pub parts : read ≡ before ++ piece
     pub size : length piece ≤ 4096
-    pub goes_on : read ≢ [] → GoesOnAfter before
+    pub goes_on : read ≢ [] → OnWholeLines config says before (λ entries. list_any is_halt entries ≡ false)
 
 module _ (config : Config) (says : Applications) (quiet : Bool) where
   -- The machine's run on this script: its text begins with what was written, which is all of it where this was answered with

@@ -1,6 +1,6 @@
 //! A mote asked step by step.
 
-ghost use Rattle.std.specs.Prelude.{◌≡◌, ◌≢◌, ◌≤◌, ◌+◌, ◌^◌, ◌++◌, ◌↔◌, None, Some, not, false, true, is_some, IfErr, IfOk, IfSome, IfNone, IsErrOf, IsSomeAnd};
+ghost use Rattle.std.specs.Prelude.{◌≡◌, ◌≢◌, ◌≤◌, ◌+◌, ◌^◌, ◌++◌, ◌↔◌, None, Some, not, false, true, is_some, IfErr, IfOk, IfSome, IfNone, IsErrOf, IsOkAnd, IsSomeAnd};
 ghost use Rattle.mote_text.specs.EntryText.{entry_line};
 ghost use Rattle.mote_text.specs.Code.Appending.{HasRoom};
 ghost use Rattle.mote_text.specs.Code.EntryLines.{entry_line_limit};
@@ -268,17 +268,29 @@ impl Session {
     {
         histories_keep_promise();
         match AwaitingKernel::boot(alloc, config) {
-            Ok(kernel) => Ok(Session {
-                kernel,
-                even: Turn::none_yet(),
-                odd: Turn::none_yet(),
-                works_in_odd: false,
-                other: Entry::Halt,
-                last: LastEntry::Missing,
-                values: DigitValues::new(),
-            }),
+            Ok(kernel) => Session::of(kernel),
             Err(fault) => Err(fault),
         }
+    }
+
+    /// A session over a kernel that awaits no call.
+    // Out of line, so that what it takes of the stack isn't added to what the kernel takes while it is made. A result, since `boot` would
+    // take room for a second session to make one of it.
+    #[inline(never)]
+    fn of(kernel: AwaitingKernel) -> Result<Session, BootFault>
+        requires { kernel.turn ≡ None }
+        ensures { IsOkAnd result (λ session. (session.machine ≡ kernel.mote.machine) × (session.inputs ≡ kernel.mote.inputs)
+            × (session.turn ≡ None) × (session.last ≡ None)) }
+    {
+        Ok(Session {
+            kernel,
+            even: Turn::none_yet(),
+            odd: Turn::none_yet(),
+            works_in_odd: false,
+            other: Entry::Halt,
+            last: LastEntry::Missing,
+            values: DigitValues::new(),
+        })
     }
 
     /// Works until an application must take a turn, until another entry is made, or until there is rest.

@@ -2,15 +2,17 @@
 use Rattle.std.proofs.Common.{◌≡◌, ◌≤◌, ℕ, true, false, ◌∷◌, codes, refl, ◌∙◌, arith, lit≤, []}
 use Rattle.mote_text.proofs.Common.{encode_with, Entry, Input, entry_line, line_of, inputs, read_line, script_limit, whole_lines, End}
 use Rattle.std.specs.Fmt.{digits}
+use Rattle.std.specs.List.{list_all, list_any}
 use Rattle.mote_types.specs.declared.call.Call.{Call}
 use Rattle.mote_types.specs.declared.entry.Note.{Note}
 use Rattle.mote_types.specs.declared.event.Origin.{Origin}
+use Rattle.mote_types.specs.declared.event.Payload.{Payload}
 use Rattle.mote_types.specs.declared.event.Stimulus.{Stimulus}
 use Rattle.mote_types.specs.declared.refusal.Refusal.{Refusal}
 use Rattle.mote_types.specs.declared.reply.Reply.{Reply}
 use Rattle.mote_text.proofs.WholeLines.{inputs_of_short}
 use Rattle.mote_text.specs.Code.EntryLines.{entry_line_limit}
-use Rattle.mote_text.specs.Transcript.{final_line, text}
+use Rattle.mote_text.specs.Transcript.{final_line, prints_or_sends, text}
 
 small : (n : ℕ) → n ≤ 1000 → n ≤ script_limit
 unfolding script_limit
@@ -56,5 +58,16 @@ too_long = refl
 -- a quiet transcript
 shown_quietly : text true (Entry.Input (Input.Tick 5) ∷ printed ∷ Entry.Note (Note.Lost Refusal.NotLive) ∷ Entry.Halt ∷ []) End.Halted
     ≡ codes "4 answer done -> print 68690a\nhalt\n"
-unfolding entry_line line_of digits encode_with
+unfolding prints_or_sends entry_line line_of digits encode_with
 shown_quietly = refl
+
+-- these turns alone are shown
+quiet_calls : list_all prints_or_sends (Call.Print (record { items = [] }) ∷ Call.PacketSend 0 ∷ []) ≡ true
+unfolding prints_or_sends
+quiet_calls = refl
+
+other_calls : list_any prints_or_sends
+    (Call.Wait ∷ Call.PostSynch 4 140 Payload.Empty ∷ Call.MmemRead 0 0 1 ∷ Call.PacketOpen ∷ Call.PacketRead 0 1 ∷ Call.PacketDone ∷ [])
+    ≡ false
+unfolding prints_or_sends
+other_calls = refl

@@ -186,6 +186,7 @@ pub fn final_text(end: End, line: &mut OutputBuffer)
 }
 
 /// Whether a quiet transcript shows a turn with this call. Who adds a call says so here.
+#[tactic(auto, unfolding(crate::specs::Transcript::prints_or_sends))]
 fn prints_or_sends(call: &Call) -> bool
     ensures { result ≡ prints_or_sends call.now }
 {

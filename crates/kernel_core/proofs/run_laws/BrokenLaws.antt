@@ -1,8 +1,8 @@
 -- Transcripts that no run makes: each breaks one law, which says so.
 use Rattle.std.proofs.Common.{◌≡◌, ℕ, false, List, [], ◌∷◌, ◌++◌, ap, refl, arith}
-use Rattle.kernel_core.proofs.Common.{decide, ArrayVec, number_event, plain_event, EXITED, TIMER, Call, Entry, Input, Note, Event, Origin, Payload, Stimulus, Refusal, Reply, IsAtRest, HasCall, is_turn_entry, list_any, BlocksAreOwn, EventsArriveInOrder, TimersAreKept}
-use Rattle.kernel_core.proofs.run_laws.Examples.{started, told}
-use Rattle.kernel_core.specs.Laws.Sent.{Sender}
+use Rattle.kernel_core.proofs.Common.{decide, ArrayVec, number_event, plain_event, EXITED, TIMER, Call, Entry, Input, Note, Event, Origin, Payload, Stimulus, Refusal, Reply, IsAtRest, HasCall, up_to_call, is_turn_entry, list_any, BlocksAreOwn, EventsArriveInOrder, TimersAreKept}
+use Rattle.kernel_core.proofs.run_laws.Examples.{started, told, turn_of}
+use Rattle.kernel_core.specs.Laws.Sent.{IsSent}
 
 abbrev given : ℕ → Event → Entry
 given p event = Entry.Turn (record { 0 = p }) Origin.Event (Stimulus.Event event) Call.Wait
@@ -58,7 +58,7 @@ abbrev armed : List Entry
 armed = started 4 (Call.TimerSet 2 0) ∷ told 4 Reply.Done Call.Wait ∷ []
 
 never_told : TimersAreKept 1 armed → ⊥
-never_told laws = cc (laws.not_lost 4 refl armed 2 (IsAtRest.at_end refl) refl refl (omega arith))
+never_told laws = cc (laws.not_lost 4 refl armed 2 (IsAtRest.at_end refl) refl refl)
 
 -- a timer that was stopped before its deadline, and whose event is delivered nevertheless
 abbrev stopped : List Entry
@@ -81,7 +81,7 @@ abbrev last_armed : List Entry
 last_armed = started 19 (Call.TimerSet 2 0) ∷ told 19 Reply.Done Call.Wait ∷ []
 
 last_timer_never_told : TimersAreKept 16 last_armed → ⊥
-last_timer_never_told laws = cc (laws.not_lost 19 refl last_armed 2 (IsAtRest.at_end refl) refl refl (omega arith))
+last_timer_never_told laws = cc (laws.not_lost 19 refl last_armed 2 (IsAtRest.at_end refl) refl refl)
 
 -- Blocks of process 4, and of process 19.
 
@@ -95,54 +95,54 @@ not_live = Reply.Refused Refusal.NotLive
 abbrev answered : ℕ → Call → Call → Reply → List Entry
 answered p made call reply = started p made ∷ told p Reply.Done call ∷ told p reply Call.Wait ∷ []
 
-has_answered : (p : ℕ) (made call : Call) (reply : Reply)
-    → HasCall (answered p made call reply) (started p made ∷ []) p Origin.Answer (Stimulus.Answer Reply.Done) call reply
+has_answered : (p : ℕ) {made call : Call} {reply : Reply}
+    → HasCall (answered p made call reply) (started p made ∷ []) (turn_of p call) reply
 has_answered = grind decide
 
 -- what was read isn't what the block has
 managed_misread : BlocksAreOwn (answered 4 (Call.MmemAlloc 0 2) (Call.MmemRead 0 0 2) (Reply.Bytes nines)) → ⊥
-managed_misread laws = cc (laws.managed.reads _ 4 _ _ _ nines 0 0 2 (omega arith) (has_answered 4 _ _ _) refl)
+managed_misread laws = cc ((laws.managed _ (turn_of 4 _) _ (omega arith) (has_answered 4)).reads nines 0 0 2 refl refl)
 
 heap_misread : BlocksAreOwn (answered 4 (Call.HeapAlloc 0 2) (Call.HeapRead 0 0 2) (Reply.Bytes nines)) → ⊥
-heap_misread laws = cc (laws.heap.reads _ 4 _ _ _ nines 0 0 2 (omega arith) (has_answered 4 _ _ _) refl)
+heap_misread laws = cc ((laws.heap _ (turn_of 4 _) _ (omega arith) (has_answered 4)).reads nines 0 0 2 refl refl)
 
 last_misread : BlocksAreOwn (answered 19 (Call.MmemAlloc 0 2) (Call.MmemRead 0 0 2) (Reply.Bytes nines)) → ⊥
-last_misread laws = cc (laws.managed.reads _ 19 _ _ _ nines 0 0 2 (omega arith) (has_answered 19 _ _ _) refl)
+last_misread laws = cc ((laws.managed _ (turn_of 19 _) _ (omega arith) (has_answered 19)).reads nines 0 0 2 refl refl)
 
 -- a block that is there is called not live
 managed_denied : BlocksAreOwn (answered 4 (Call.MmemAlloc 0 2) (Call.MmemFree 0) not_live) → ⊥
-managed_denied laws = cc ((laws.managed.live _ 4 _ _ _ _ (omega arith) (has_answered 4 _ _ _) refl).0 refl)
+managed_denied laws = cc (((laws.managed _ (turn_of 4 _) _ (omega arith) (has_answered 4)).live refl).0 refl)
 
 heap_denied : BlocksAreOwn (answered 4 (Call.HeapAlloc 0 2) (Call.HeapFree 0) not_live) → ⊥
-heap_denied laws = cc ((laws.heap.live _ 4 _ _ _ _ (omega arith) (has_answered 4 _ _ _) refl).0 refl)
+heap_denied laws = cc (((laws.heap _ (turn_of 4 _) _ (omega arith) (has_answered 4)).live refl).0 refl)
 
 last_denied : BlocksAreOwn (answered 19 (Call.HeapAlloc 0 2) (Call.HeapFree 0) not_live) → ⊥
-last_denied laws = cc ((laws.heap.live _ 19 _ _ _ _ (omega arith) (has_answered 19 _ _ _) refl).0 refl)
+last_denied laws = cc (((laws.heap _ (turn_of 19 _) _ (omega arith) (has_answered 19)).live refl).0 refl)
 
 -- a block that was freed is freed again
 abbrev freed_before : Call → Call → Call → List Entry
 freed_before made freed call =
     started 4 made ∷ told 4 Reply.Done freed ∷ told 4 Reply.Done call ∷ told 4 Reply.Done Call.Wait ∷ []
 
-has_freed : (made freed call : Call) → HasCall (freed_before made freed call) (started 4 made ∷ told 4 Reply.Done freed ∷ []) 4
-    Origin.Answer (Stimulus.Answer Reply.Done) call Reply.Done
+has_freed : {made freed call : Call}
+    → HasCall (freed_before made freed call) (started 4 made ∷ told 4 Reply.Done freed ∷ []) (turn_of 4 call) Reply.Done
 has_freed = grind decide
 
 managed_freed_twice : BlocksAreOwn (freed_before (Call.MmemAlloc 0 2) (Call.MmemFree 0) (Call.MmemFree 0)) → ⊥
-managed_freed_twice laws = cc ((laws.managed.live _ 4 _ _ _ _ (omega arith) (has_freed _ _ _) refl).1 refl)
+managed_freed_twice laws = cc (((laws.managed _ (turn_of 4 _) _ (omega arith) has_freed).live refl).1 refl)
 
 heap_freed_twice : BlocksAreOwn (freed_before (Call.HeapAlloc 0 2) (Call.HeapFree 0) (Call.HeapFree 0)) → ⊥
-heap_freed_twice laws = cc ((laws.heap.live _ 4 _ _ _ _ (omega arith) (has_freed _ _ _) refl).1 refl)
+heap_freed_twice laws = cc (((laws.heap _ (turn_of 4 _) _ (omega arith) has_freed).live refl).1 refl)
 
 -- a second block of one name is made
 managed_made_twice : BlocksAreOwn (answered 4 (Call.MmemAlloc 0 2) (Call.MmemAlloc 0 2) Reply.Done) → ⊥
-managed_made_twice laws = cc ((laws.managed.unused _ 4 _ _ _ _ (omega arith) (has_answered 4 _ _ _) refl).1 refl)
+managed_made_twice laws = cc (((laws.managed _ (turn_of 4 _) _ (omega arith) (has_answered 4)).unused refl).1 refl)
 
 heap_made_twice : BlocksAreOwn (answered 4 (Call.HeapAlloc 0 2) (Call.HeapAlloc 0 2) Reply.Done) → ⊥
-heap_made_twice laws = cc ((laws.heap.unused _ 4 _ _ _ _ (omega arith) (has_answered 4 _ _ _) refl).1 refl)
+heap_made_twice laws = cc (((laws.heap _ (turn_of 4 _) _ (omega arith) (has_answered 4)).unused refl).1 refl)
 
 last_made_twice : BlocksAreOwn (answered 19 (Call.MmemAlloc 15 2) (Call.MmemAlloc 15 2) Reply.Done) → ⊥
-last_made_twice laws = cc ((laws.managed.unused _ 19 _ _ _ _ (omega arith) (has_answered 19 _ _ _) refl).1 refl)
+last_made_twice laws = cc (((laws.managed _ (turn_of 19 _) _ (omega arith) (has_answered 19)).unused refl).1 refl)
 
 -- Frames.
 
@@ -152,25 +152,21 @@ not_empty (first ∷ earlier) between entry same = cc
 
 -- a frame that nobody sends
 sent_by_nobody : BlocksAreOwn (Entry.Note (Note.Sent nines) ∷ []) → ⊥
-sent_by_nobody laws =
-    let sender = (laws.sent [] [] nines refl).sender in
-    not_empty sender.earlier sender.between (Entry.Turn (record { 0 = sender.p }) sender.origin sender.stimulus (Call.PacketSend sender.h))
-    sender.split
+sent_by_nobody laws = not_empty _ _ _ (laws.sent [] [] nines refl).split
 
 -- a note after another process's turn: process 4 sends its block, and process 5 takes a turn before the note
 abbrev sent_late : List Entry
 sent_late = started 4 (Call.MmemAlloc 0 2) ∷ told 4 Reply.Done (Call.PacketSend 0) ∷ started 5 Call.Wait ∷ []
 
 -- the last turn of those entries sends nothing
-no_sender : (sender : Sender sent_late) → ⊥
+no_sender : {bytes : ArrayVec ℕ} (sender : IsSent sent_late bytes) → ⊥
 no_sender sender = of sender.earlier sender.between sender.no_turn sender.split where
   of : (earlier between : List Entry) → list_any is_turn_entry between ≡ false
-      → (earlier ++ Entry.Turn (record { 0 = sender.p }) sender.origin sender.stimulus (Call.PacketSend sender.h) ∷ []) ++ between
-      ≡ sent_late → ⊥
+      → up_to_call earlier sender.turn ++ between ≡ sent_late → ⊥
   of [] between none same = cc
   of (first ∷ []) between none same = cc
-  of (first ∷ second ∷ []) between none same = cc
+  of (first ∷ second ∷ []) between none same = grind (decide, sender.sends)
   of (first ∷ second ∷ third ∷ earlier) between none same = grind (decide, not_empty)
 
 sent_behind_another : BlocksAreOwn (sent_late ++ Entry.Note (Note.Sent (record { items = 0 ∷ 0 ∷ [] })) ∷ []) → ⊥
-sent_behind_another laws = no_sender (laws.sent sent_late [] (record { items = 0 ∷ 0 ∷ [] }) refl).sender
+sent_behind_another laws = no_sender (laws.sent sent_late [] (record { items = 0 ∷ 0 ∷ [] }) refl)

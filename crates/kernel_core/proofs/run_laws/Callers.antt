@@ -3,11 +3,11 @@ use Rattle.std.proofs.Common.{◌≡◌, ℕ, ◌≤◌, Bool, true, false, List
 use Rattle.std.proofs.lemmas.List.{get_or_past}
 use Rattle.node_memory.specs.Frames.{send_refusal}
 use Rattle.kernel_core.specs.PacketCalls.{sent}
-use Rattle.kernel_core.proofs.Common.{decide, list_all, range_with_len, Call, Entry, Item, Machine, Origin, Refusal, Stimulus, after_call, answer_done, fold-append, Note, at_start, Blocks, number_of, refused_or, shown_first, up_to_call, with_more_work}
+use Rattle.kernel_core.proofs.Common.{BlocksAreOwn, decide, list_all, range_with_len, Call, Entry, Item, Machine, Origin, Refusal, Stimulus, after_call, answer_done, fold-append, Note, at_start, Blocks, number_of, refused_or, shown_first, Turn, up_to_call, with_more_work}
 use Rattle.kernel_core.proofs.run_laws.Changes.{serve-untouched, is_note, all-append, all-mapped, all-delivered}
 use Rattle.kernel_core.proofs.run_laws.event_order.Runs.{Known, Ran, Anything, at_each, at-split, Cases, facing}
-use Rattle.kernel_core.specs.Laws.Sent.{IsSent, EverySent}
-use Rattle.kernel_core.proofs.run_laws.OwnBlocks.{managed_store, blocks-told, managed-keeps, own_view, own-laws, boot-has}
+use Rattle.kernel_core.specs.Laws.Sent.{IsSent}
+use Rattle.kernel_core.proofs.run_laws.OwnBlocks.{are-own, heap_store, heap-keeps, managed_store, blocks-told, managed-keeps, own_view, own-laws, boot-has}
 use Rattle.kernel_core.proofs.run_laws.Whole.{View, Holds, Fitting, told_cases, boot-holds}
 
 -- no note of a packet
@@ -48,9 +48,12 @@ module _ (known : Known) (m : Machine) (X : List Entry) (q : ℕ) (origin : Orig
   abbrev on : Machine
   on = with_more_work m
 
+  abbrev made : Call → Turn
+  made call = record { p = q; origin = origin; stimulus = stimulus; call = call }
+
   -- only the processes up to 19 have blocks
   sent-front : (h : ℕ) (o : Option Refusal) → send_refusal q h m.memory.managed ≡ o
-      → Front (up_to_call X q origin stimulus (Call.PacketSend h))
+      → Front (up_to_call X (made (Call.PacketSend h)))
       (refused_or o q on (shown_first (sent q h on) (answer_done q on))).scheduler.agenda
   sent-front h (Some refusal) e = grind (decide, s.front)
   sent-front h None e =
@@ -59,22 +62,19 @@ module _ (known : Known) (m : Machine) (X : List Entry) (q : ℕ) (origin : Orig
       let few : nat_le q 19 ≡ true = grind (decide, e, sound.size, past) in
       let holds = s.told q (grind (decide, few)) in (
         record {
-          sender = record {
-            earlier = X;
-            p = q;
-            h = h;
-            origin = origin;
-            stimulus = stimulus;
-            between = [];
-            no_turn = refl;
-            split = append-nil (up_to_call X q origin stimulus (Call.PacketSend h));
-          };
+          earlier = X;
+          turn = made (Call.PacketSend h);
+          h = h;
+          sends = refl;
+          between = [];
+          no_turn = refl;
+          split = append-nil _;
           block = grind (decide, fold-append, blocks-told, holds, e);
         },
         grind (decide, s.front),
       )
 
-  turn-front : (call : Call) → Front (up_to_call X q origin stimulus call) (after_call call q on).scheduler.agenda
+  turn-front : (call : Call) → Front (up_to_call X (made call)) (after_call call q on).scheduler.agenda
   turn-front (Call.PacketSend h) = sent-front h (send_refusal q h m.memory.managed) refl
   turn-front call = grind (decide, s.front, plain-front, all-mapped, all-append)
 
@@ -115,6 +115,10 @@ module _ (run : Ran) where
         front = plain-front _ _ (grind (decide, all-mapped, range_with_len));
       }
 
-  pub every-sent : EverySent run.after.entries
-  every-sent before later bytes split =
-      (at-split HasSender Anything [] before later (Entry.Note (Note.Sent bytes)) (rw split (at_each _ _ sending_cases run boot))).0
+  pub blocks-own : BlocksAreOwn run.after.entries
+  blocks-own = record {
+    managed = are-own managed_store managed-keeps run;
+    heap = are-own heap_store heap-keeps run;
+    sent = λ before later bytes split.
+        (at-split HasSender Anything [] before later (Entry.Note (Note.Sent bytes)) (rw split (at_each _ _ sending_cases run boot))).0;
+  }

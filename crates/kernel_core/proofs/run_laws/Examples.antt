@@ -1,12 +1,16 @@
 -- Worked examples: what the turns of a transcript make of blocks, events and timers.
 use Rattle.std.proofs.Common.{◌≡◌, ℕ, true, false, List, [], ◌∷◌, ◌++◌, map, refl, Some, None, length}
-use Rattle.kernel_core.proofs.Common.{block, decide, list_any, Call, Reply, Refusal, Origin, Stimulus, EXIT, INIT, TIMER, Entry, Input, Payload, number_event, plain_event, managed_block, IsAtRest, accepted_events, given_events, has_ended, is_exit, are_names, HasCall, own, ripe_armings, standing, timer_events, deed, Deed, Touch, event_for, managed_touch, heap_touch, needed, made, range_read}
+use Rattle.kernel_core.proofs.Common.{blocks_of, use_of, decide, list_any, Call, Reply, Refusal, Origin, Stimulus, EXIT, INIT, TIMER, Entry, Input, Payload, number_event, plain_event, IsAtRest, accepted_events, given_events, has_ended, is_exit, are_names, HasCall, Turn, own, clock_after, ripe_by, standing, timer_events, deed, Deed, Touch, event_for, managed_touch, heap_touch}
 
 abbrev pub started : ℕ → Call → Entry
 started p call = Entry.Turn (record { 0 = p }) Origin.Synch (Stimulus.Event (plain_event INIT)) call
 
 abbrev pub told : ℕ → Reply → Call → Entry
 told p reply call = Entry.Turn (record { 0 = p }) Origin.Answer (Stimulus.Answer reply) call
+
+-- a turn after a call with the reply Done
+abbrev pub turn_of : ℕ → Call → Turn
+turn_of p call = record { p = p; origin = Origin.Answer; stimulus = Stimulus.Answer Reply.Done; call = call }
 
 -- process 4 makes a block of 4 bytes and writes its second one; process 5 frees a block of its own of that name
 abbrev transcript : List Entry
@@ -23,13 +27,13 @@ four_turns : length (own 4 transcript) ≡ 4
 four_turns = refl
 
 -- the last call has no reply yet, so it counts for nothing
-blocks_made : managed_block transcript 4 0 ∷ managed_block transcript 5 0 ∷ block heap_touch transcript 4 2 ∷ []
+blocks_made : blocks_of managed_touch transcript 4 0 ∷ blocks_of managed_touch transcript 5 0 ∷ blocks_of heap_touch transcript 4 2 ∷ []
     ≡ Some (0 ∷ 7 ∷ 0 ∷ 0 ∷ []) ∷ None ∷ Some (0 ∷ 0 ∷ []) ∷ []
 blocks_made = refl
 
 -- the reply to a call is in the next turn
-write_answered : HasCall transcript (started 4 (Call.MmemAlloc 0 4) ∷ []) 4 Origin.Answer (Stimulus.Answer Reply.Done)
-    (Call.MmemWrite 0 1 (record { items = 7 ∷ [] })) Reply.Done
+write_answered : HasCall transcript (started 4 (Call.MmemAlloc 0 4) ∷ [])
+    (turn_of 4 (Call.MmemWrite 0 1 (record { items = 7 ∷ [] }))) Reply.Done
 write_answered = grind decide
 
 -- Events and timers: process 5 posts event 140 to process 4, which gets it; 4 sets timer 2 to 5 ticks, and 7 ticks pass.
@@ -50,11 +54,14 @@ event_given : given_events ticked 4 ∷ accepted_events 4 ticked ∷ accepted_ev
     ≡ (plain_event 140 ∷ []) ∷ (plain_event 140 ∷ []) ∷ [] ∷ []
 event_given = refl
 
-now_ripe : ripe_armings ticked 4 2 ∷ timer_events ticked 4 2 ∷ [] ≡ 1 ∷ 0 ∷ []
+abbrev ripe_armings : List Entry → ℕ
+ripe_armings entries = ripe_by (clock_after entries) (standing entries 4 2)
+
+now_ripe : ripe_armings ticked ∷ timer_events ticked 4 2 ∷ [] ≡ 1 ∷ 0 ∷ []
 now_ripe = refl
 
 -- the timer is armed, and its event was not delivered since
-armed_now : standing ticked 4 2 ≡ record { cell = record { start = 0; interval = 5 }; is_armed = true; was_given = false }
+armed_now : standing ticked 4 2 ≡ record { cell = record { start = 0; interval = 5 }; is_armed = true; was_given = false; ripe = 0 }
 armed_now = refl
 
 -- the mote rests before the ticks, and after them
@@ -74,7 +81,7 @@ set_anew =
     ∷ told 4 Reply.Done Call.Wait
     ∷ []
 
-given_once : timer_events set_anew 4 2 ∷ ripe_armings set_anew 4 2 ∷ [] ≡ 1 ∷ 1 ∷ []
+given_once : timer_events set_anew 4 2 ∷ ripe_armings set_anew ∷ [] ≡ 1 ∷ 1 ∷ []
 given_once = refl
 
 given_before_it_was_set_anew : (standing set_anew 4 2).was_given ≡ false
@@ -92,28 +99,28 @@ no_exits = refl
 
 -- The blocks that calls name.
 
-managed_blocks_needed : map (λ call. needed (managed_touch call))
+managed_blocks_needed : map (λ call. (use_of (managed_touch (deed call))).needs)
     (Call.MmemFree 1 ∷ Call.MmemWrite 2 0 (record { items = [] }) ∷ Call.MmemRead 3 0 1 ∷ Call.MmemCopy 4 5 ∷ Call.PacketSend 6 ∷ [])
     ≡ (1 ∷ []) ∷ (2 ∷ []) ∷ (3 ∷ []) ∷ (4 ∷ 5 ∷ []) ∷ (6 ∷ []) ∷ []
 managed_blocks_needed = refl
 
-heap_blocks_needed : map (λ call. needed (heap_touch call))
+heap_blocks_needed : map (λ call. (use_of (heap_touch (deed call))).needs)
     (Call.HeapFree 1 ∷ Call.HeapWrite 2 0 (record { items = [] }) ∷ Call.HeapRead 3 0 1 ∷ Call.HeapRealloc 4 9 ∷ [])
     ≡ (1 ∷ []) ∷ (2 ∷ []) ∷ (3 ∷ []) ∷ (4 ∷ []) ∷ []
 heap_blocks_needed = refl
 
-block_made : made (managed_touch (Call.MmemAlloc 3 9)) ∷ made (heap_touch (Call.HeapAlloc 3 9)) ∷ [] ≡ (3 ∷ []) ∷ (3 ∷ []) ∷ []
+block_made : (use_of (managed_touch (deed (Call.MmemAlloc 3 9)))).makes ∷ (use_of (heap_touch (deed (Call.HeapAlloc 3 9)))).makes ∷ [] ≡ (3 ∷ []) ∷ (3 ∷ []) ∷ []
 block_made = refl
 
 -- a call that no law mentions does nothing to blocks of either kind
-untouched : map managed_touch (Call.HeapFree 1 ∷ Call.HeapStats ∷ Call.MembFree 0 1 ∷ Call.Clock ∷ [])
+untouched : map (λ call. managed_touch (deed call)) (Call.HeapFree 1 ∷ Call.HeapStats ∷ Call.MembFree 0 1 ∷ Call.Clock ∷ [])
     ≡ Touch.Spares ∷ Touch.Spares ∷ Touch.Spares ∷ Touch.Spares ∷ []
 untouched = refl
 
-told_how_much_is_free : managed_touch Call.MmemAvail ∷ heap_touch Call.MmemAvail ∷ [] ≡ Touch.TellsFree ∷ Touch.Spares ∷ []
+told_how_much_is_free : managed_touch (deed Call.MmemAvail) ∷ heap_touch (deed Call.MmemAvail) ∷ [] ≡ Touch.TellsFree ∷ Touch.Spares ∷ []
 told_how_much_is_free = refl
 
-untouched_heap : map heap_touch (Call.MmemFree 1 ∷ Call.HeapStats ∷ Call.ListPop 1 ∷ Call.PacketDone ∷ [])
+untouched_heap : map (λ call. heap_touch (deed call)) (Call.MmemFree 1 ∷ Call.HeapStats ∷ Call.ListPop 1 ∷ Call.PacketDone ∷ [])
     ≡ Touch.Spares ∷ Touch.Spares ∷ Touch.Spares ∷ Touch.Spares ∷ []
 untouched_heap = refl
 
@@ -127,7 +134,7 @@ posts_none : map (λ call. event_for 5 (deed call)) (Call.PostSynch 5 140 Payloa
     ≡ None ∷ None ∷ []
 posts_none = refl
 
-read_range : range_read (managed_touch (Call.MmemRead 2 1 4)) ∷ range_read (heap_touch (Call.HeapRead 2 1 4)) ∷ []
+read_range : (use_of (managed_touch (deed (Call.MmemRead 2 1 4)))).reads ∷ (use_of (heap_touch (deed (Call.HeapRead 2 1 4)))).reads ∷ []
     ≡ Some (2, 1, 4) ∷ Some (2, 1, 4) ∷ []
 read_range = refl
 

@@ -1,11 +1,12 @@
 -- A memory that nobody else uses replies to a process as a shared one does under a quota.
-use Rattle.std.proofs.Common.{◌≡◌, ℕ, ◌≤◌, Bool, true, false, length, refl, ◌∙◌, ap, arith, Some, None, sum_by, zero, suc, List, [], ◌∷◌, ◌++◌, cond, append-nil, Option, map, filter_map, take}
+use Rattle.std.proofs.Common.{◌≡◌, ℕ, ◌≤◌, Bool, true, false, length, refl, ◌∙◌, ap, arith, Some, None, sum_by, zero, suc, List, [], ◌∷◌, ◌++◌, cond, append-nil, Option, map, filter, filter_map, is_some, ◌&&◌, take}
 use Rattle.heap_core.specs.HeapStore.{empty_heap}
 use Rattle.mmem_core.specs.ManagedStore.{ManagedStore, empty_store}
 use Rattle.node_memory.specs.MemoryCalls.{on_managed}
-use Rattle.kernel_core.specs.Laws.Isolation.{as_over_quota, asked_by, managed_answer, replies_from}
-use Rattle.kernel_core.proofs.Common.{decide, Call, size_of, taken_by, Memory, ask, is_kernel_process, Blocks, no_blocks, managed_touch, is_managed_call, handles, Reply, Entry, Frame, is_application, Config, Machine, is_bootable, after_call, IsAnsweredAlone, OwnTurn, own, AreAnsweredAlike}
-use Rattle.kernel_core.proofs.run_laws.event_order.Runs.{Ran}
+use Rattle.kernel_core.specs.Laws.Isolation.{as_over_quota, asked_by, replies_from}
+use Rattle.kernel_core.specs.Laws.RunLaws.{IsAnsweredAlike}
+use Rattle.kernel_core.proofs.Common.{decide, Call, size_of, taken_by, Memory, ask, is_kernel_process, Blocks, no_blocks, deed, managed_touch, is_managed_call, handles, Reply, Entry, Frame, is_application, Config, Machine, is_bootable, after_call, IsAnsweredAlone, OwnTurn, own}
+use Rattle.kernel_core.proofs.run_laws.event_order.Runs.{Ran, ran}
 use Rattle.kernel_core.proofs.run_laws.OwnBlocks.{alters, accepted, same_blocks, managed-keeps, empty-own, own_blocks, ask-rest, ask-shape, managed-change, managed_store, own_view, HasBlocks, own-laws, each-call, one_reply}
 use Rattle.kernel_core.proofs.run_laws.Whole.{At, marks, due, View, Starts, told_so_far, answered, LawAt, Laws, OwnTold, own-told, run-told}
 
@@ -41,25 +42,24 @@ pub record StaysAlone (bytes p : ℕ) (call : Call) (s : Memory) : Type 0 where
   pub alone : IsAlone bytes p (ask call p s).0
   pub own : own_blocks p (ask call p s).0 ≡ accepted managed_touch call (ask call p s).1 (own_blocks p s)
 
-module _ (bytes p : ℕ) (s : Memory) (few : p ≤ 19) (mortal : is_kernel_process p ≡ false) (alone : IsAlone bytes p s) where
-  module _ (call : Call) where
-    shaped-alone : sum_by size_of (ask call p s).0.managed.blocks ≡ taken_by p (ask call p s).0.managed
-        → IsAlone bytes p (ask call p s).0
-    shaped-alone total =
-        let shape = ask-shape call p s in
-        grind decide
+module _ (bytes p : ℕ) (s : Memory) (few : p ≤ 19) (mortal : is_kernel_process p ≡ false) (alone : IsAlone bytes p s) (call : Call) where
+  shaped-alone : sum_by size_of (ask call p s).0.managed.blocks ≡ taken_by p (ask call p s).0.managed
+      → IsAlone bytes p (ask call p s).0
+  shaped-alone total =
+      let shape = ask-shape call p s in
+      grind decide
 
-    stays-alone : StaysAlone bytes p call s
-    stays-alone = go (alters (managed_touch call)) refl
-      where
-        go : (b : Bool) → alters (managed_touch call) ≡ b → StaysAlone bytes p call s
-        go true e =
-            let change = managed-change call p s e in
-            let sums = change.total few mortal alone.size in
-            record { alone = shaped-alone (omega (arith, sums, alone.total)); own = change.blocks.own few mortal alone.size }
-        go false e =
-            let same : (ask call p s).0.managed ≡ s.managed = ask-rest call p s e in
-            record { alone = shaped-alone (rw same alone.total); own = same_blocks _ _ (λ h. grind (arith, e, same)) }
+  stays-alone : StaysAlone bytes p call s
+  stays-alone = go (alters (managed_touch (deed call))) refl
+    where
+      go : (b : Bool) → alters (managed_touch (deed call)) ≡ b → StaysAlone bytes p call s
+      go true e =
+          let change = managed-change call p s e in
+          let sums = change.total few mortal alone.size in
+          record { alone = shaped-alone (omega (arith, sums, alone.total)); own = change.blocks.own few mortal alone.size }
+      go false e =
+          let same : (ask call p s).0.managed ≡ s.managed = ask-rest call p s e in
+          record { alone = shaped-alone (rw same alone.total); own = same_blocks _ _ (λ h. grind (arith, e, same)) }
 
 -- Under a quota a process gets the replies of a memory of its own.
 
@@ -68,16 +68,15 @@ call-quota : (call : Call) (q : ℕ) (m : Machine) → (after_call call q m).mem
 call-quota call q m =
     each-call (λ x frames. x.managed.quota ≡ m.memory.managed.quota) q m refl (λ slot e. refl) call (ask-shape call q m.memory).quota
 
-module _ (bytes : ℕ) where
-  module _ (p : ℕ) where
-    no-own : own_blocks p (private_memory bytes) ≡ no_blocks
-    no-own = empty-own p (private_memory bytes) refl
+module _ (bytes : ℕ) (p : ℕ) where
+  no-own : own_blocks p (private_memory bytes) ≡ no_blocks
+  no-own = empty-own p (private_memory bytes) refl
 
-    alone-at-first : IsAlone bytes p (private_memory bytes)
-    alone-at-first =
-        let taken : taken_by p (private_memory bytes).managed ≡ 0 =
-        ap (λ (blocks : Blocks). sum_by (λ h. size_of (blocks h)) handles) no-own in
-        grind decide
+  alone-at-first : IsAlone bytes p (private_memory bytes)
+  alone-at-first =
+      let taken : taken_by p (private_memory bytes).managed ≡ 0 =
+      ap (λ (blocks : Blocks). sum_by (λ h. size_of (blocks h)) handles) no-own in
+      grind decide
 
 module _ (quota p : ℕ) where
   -- a memory of p's own, after a call
@@ -135,10 +134,12 @@ module _ (quota p : ℕ) where
               still-like rel (blocks_laws.frame slot len bytes memory frames (own_blocks p s) low rel.has) refl;
         }
 
+  abbrev asking : List OwnTurn → List OwnTurn
+  asking turns = filter (λ turn. is_managed_call turn.call && is_some turn.reply) turns
+
   -- the replies among these turns are those of a memory of p's own
   abbrev Replied : List OwnTurn → Memory → Type 0
-  Replied turns s = map (λ a. a.reply) (filter_map managed_answer turns) ≡ replies_from p s.managed
-      (map (λ a. a.call) (filter_map managed_answer turns))
+  Replied turns s = filter_map (λ turn. turn.reply) (asking turns) ≡ replies_from p s.managed (map (λ turn. turn.call) (asking turns))
 
   one-more : (turn : OwnTurn) (turns : List OwnTurn) (s : Memory) → LawAt AsAlone (Some turn.call) s turn.reply
       → Replied turns (answered own_after (Some turn.call) turn.reply s) → Replied (turn ∷ turns) s
@@ -163,9 +164,6 @@ replies-take p zero calls store = refl
 replies-take p (suc n) [] store = refl
 replies-take p (suc n) (call ∷ calls) store = grind (decide, replies-take p n calls (asked_by p call store).0)
 
-pub alone-alike : (quota p : ℕ) (X Y : List Entry) → IsAnsweredAlone quota p X → IsAnsweredAlone quota p Y → AreAnsweredAlike p X Y
-alone-alike = grind (decide, replies-take)
-
 module _ (run : Ran) where
   pub alone-so-far : is_bootable run.config ≡ true → (quota p : ℕ) (before later : List Entry) → run.config.quota ≡ Some quota
       → is_application run.config.apps p ≡ true
@@ -177,7 +175,13 @@ module _ (run : Ran) where
       (own-told view before 0 (told_so_far view [])
       (run-told view (isolated-laws quota p few) run (boot-like quota p run.config e) before later split))
 
-  pub all-alone : is_bootable run.config ≡ true → (quota p : ℕ) → run.config.quota ≡ Some quota → is_application run.config.apps p ≡ true
+  all-alone : is_bootable run.config ≡ true → (quota p : ℕ) → run.config.quota ≡ Some quota → is_application run.config.apps p ≡ true
       → IsAnsweredAlone quota p run.after.entries
   all-alone boots quota p e named =
       alone-so-far boots quota p run.after.entries [] e named (append-nil run.after.entries)
+
+pub alone-alike : (run : Ran) → is_bootable run.config ≡ true → IsAnsweredAlike run.config.quota run.config.apps run.after.entries
+alone-alike run boots other tells others last quota p limited named also_runs also_boots also_limited also_named n same =
+    let one = all-alone run boots quota p limited named in
+    let two = all-alone (ran other tells others last also_runs) also_boots quota p also_limited also_named in
+    grind (decide, replies-take, one, two, same)

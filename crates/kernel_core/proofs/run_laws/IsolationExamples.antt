@@ -1,7 +1,9 @@
 -- Worked examples: the replies to a process's calls on managed memory under a quota.
-use Rattle.std.proofs.Common.{◌≡◌, ℕ, true, false, List, [], ◌∷◌, length, get_or, refl, ◌-◌, Some, if◌then◌else◌, ◌==◌}
-use Rattle.kernel_core.proofs.Common.{list_all, list_any, Call, Reply, Refusal, Entry, Applications, Config, is_bootable, after_steps, at_start, is_managed_call, managed_calls, managed_replies, private_replies, IsAnsweredAlone}
+use Rattle.std.proofs.Common.{◌≡◌, ℕ, true, false, List, [], ◌∷◌, length, get_or, refl, ◌-◌, None, Some, if◌then◌else◌, ◌==◌}
+use Rattle.kernel_core.proofs.Common.{list_all, list_any, Call, Reply, Refusal, Entry, Applications, Config, is_bootable, after_steps, at_start, is_managed_call, managed_calls, managed_replies, IsAnsweredAlone}
 use Rattle.kernel_core.proofs.run_laws.Examples.{started, told}
+use Rattle.kernel_core.specs.Laws.Isolation.{replies_from}
+use Rattle.mmem_core.specs.ManagedStore.{empty_store}
 
 six_calls : list_all is_managed_call
     (Call.MmemAlloc 0 1 ∷ Call.MmemFree 0 ∷ Call.MmemWrite 0 0 (record { items = [] }) ∷ Call.MmemRead 0 0 1 ∷ Call.MmemCopy 0 1
@@ -54,11 +56,11 @@ replies : managed_replies 4 shared ∷ managed_replies 5 shared ∷ []
     ≡ (Reply.Done ∷ Reply.Refused Refusal.OverQuota ∷ Reply.Done ∷ Reply.Num 0 ∷ []) ∷ (Reply.Num 16 ∷ Reply.Done ∷ []) ∷ []
 replies = refl
 
-first_alone : private_replies 16 4 (Call.MmemAlloc 0 10 ∷ Call.MmemAlloc 1 5 ∷ Call.MmemAlloc 1 4 ∷ Call.MmemAvail ∷ [])
+first_alone : replies_from 4 (empty_store 16 None) (Call.MmemAlloc 0 10 ∷ Call.MmemAlloc 1 5 ∷ Call.MmemAlloc 1 4 ∷ Call.MmemAvail ∷ [])
     ≡ Reply.Done ∷ Reply.Refused Refusal.OverQuota ∷ Reply.Done ∷ Reply.Num 0 ∷ []
 first_alone = refl
 
-second_alone : private_replies 16 5 (Call.MmemAvail ∷ Call.MmemAlloc 0 16 ∷ []) ≡ Reply.Num 16 ∷ Reply.Done ∷ []
+second_alone : replies_from 5 (empty_store 16 None) (Call.MmemAvail ∷ Call.MmemAlloc 0 16 ∷ []) ≡ Reply.Num 16 ∷ Reply.Done ∷ []
 second_alone = refl
 
 -- a call without a reply doesn't count

@@ -1,25 +1,23 @@
 -- From what each call keeps to what a transcript shows, for a kind of memory.
-use Rattle.std.proofs.Common.{◌≡◌, ℕ, ◌+◌, ◌≤◌, Bool, true, false, List, [], ◌∷◌, refl, Option, Some, None, ◌==◌, if◌then◌else◌, is_some, is_none, fold, ◌↔◌, length, zero, suc, ◌<◌, arith, ◌≢◌, sum_by, ◌&&◌, ◌∙◌, sym, subst, append-nil, nat_le, drop, slice_get, get_or, replicate}
+use Rattle.std.proofs.Common.{◌≡◌, ℕ, ◌+◌, ◌≤◌, Bool, true, false, List, [], ◌∷◌, refl, Option, Some, None, ◌==◌, if◌then◌else◌, fold, length, zero, suc, ◌<◌, arith, ◌≢◌, sum_by, ◌&&◌, ◌∙◌, sym, subst, append-nil, nat_le, drop, slice_get, get_or, replicate}
 use Rattle.mmem_core.specs.ManagedStore.{with_block}
-use Rattle.mote_types.specs.Bytes.{range_of}
 use Rattle.node_memory.specs.Answered.{Asked, done, unless_refused}
 use Rattle.node_memory.specs.MemoryCalls.{on_heap, on_managed}
 use Rattle.node_memory.specs.BlockRefusals.{alloc_refusal, realloc_refusal}
 use Rattle.node_memory.specs.HeapCalls.{done_or_no_room}
 use Rattle.node_memory.specs.Memory.{with_heap, with_managed}
 use Rattle.node_memory.specs.Code.Conditions.{is_memory_call}
-use Rattle.kernel_core.specs.Laws.BlockHistory.{over_accepted, touched}
 use Rattle.std.proofs.lemmas.List.{get_or-set_other, get_or-set_same, length-set}
 use Rattle.std.proofs.lemmas.List.Sums.{sum_by-cons, sum_by-set}
 use Rattle.std.specs.Option.{option_map}
-use Rattle.kernel_core.proofs.Common.{decide, list_all-append, list_any, Call, Reply, Refusal, Origin, Stimulus, Entry, ArrayVec, OwnTurn, own, own_from, reply_in, reply_of, is_done, ticks_in, HasCall, up_to_call, Blocks, no_blocks, are_names, Memory, is_kernel_process, AreOwn, Touch, needed, made, range_read, block, range_with_len, number_of, size_of, taken_by, block_of, is_name, ask, managed_touch, heap_touch, list_all, Frame, front_slot, Config, Machine, booted, after_call, frame_dropped}
+use Rattle.kernel_core.proofs.Common.{decide, list_all-append, Call, Reply, Refusal, Entry, OwnTurn, own_from, reply_in, reply_of, is_done, ticks_in, up_to_call, Blocks, no_blocks, Memory, is_kernel_process, AreOwn, IsReplyFor, Deed, Touch, blocks_of, deed, use_of, range_with_len, number_of, size_of, taken_by, block_of, is_name, ask, managed_touch, heap_touch, list_all, Frame, front_slot, Config, Machine, booted, after_call, frame_dropped}
 use Rattle.kernel_core.proofs.run_laws.Whole.{Knowledge, told, told_all, answered, marks, due, View, Laws, Starts, run-told, call-law}
 use Rattle.heap_core.specs.HeapStore.{block_of as heap_block_of, HeapStore}
 use Rattle.node_memory.proofs.HeapBlocks.{Becomes, Results, alloc-results, realloc-results, free-results, write-results}
 use Rattle.kernel_core.proofs.run_laws.event_order.Runs.{Ran}
 
-abbrev pub accepted : (Call → Touch) → Call → Reply → Blocks → Blocks
-accepted touch call reply blocks = if is_done (Some reply) then touched (touch call) blocks else blocks
+abbrev pub accepted : (Deed → Touch) → Call → Reply → Blocks → Blocks
+accepted touch call reply blocks = if is_done (Some reply) then (use_of (touch (deed call))).changes blocks else blocks
 
 -- it changes a block
 abbrev pub alters : Touch → Bool
@@ -34,15 +32,15 @@ same_blocks = grind decide
 
 -- a kind of memory: what calls do to its blocks, and a process's blocks in it
 pub record Store : Type 0 where
-  pub touch : Call → Touch
+  pub touch : Deed → Touch
   pub blocks : ℕ → Memory → Blocks
 
 abbrev at_first : Knowledge Blocks
 at_first = record { now = no_blocks; last = None }
 
-module _ (touch : Call → Touch) (p : ℕ) where
+module _ (touch : Deed → Touch) (p : ℕ) where
   abbrev over : Blocks → List OwnTurn → Blocks
-  over b turns = fold (λ blocks turn. if is_done turn.reply then touched (touch turn.call) blocks else blocks) b turns
+  over b turns = fold (λ blocks turn. if is_done turn.reply then (use_of (touch (deed turn.call))).changes blocks else blocks) b turns
 
   no_answer : (last : Option Call) (b : Blocks) → answered (accepted touch) last None b ≡ b
   no_answer = grind decide
@@ -60,43 +58,34 @@ module _ (touch : Call → Touch) (p : ℕ) where
       )
   own-told (entry ∷ later) clock last b = own-told later (clock + ticks_in entry) last b
 
-  pub blocks-told : (entries : List Entry) → over_accepted touch (own p entries) ≡ (told_all (accepted touch) p at_first entries).now
+  pub blocks-told : (entries : List Entry) → blocks_of touch entries p ≡ (told_all (accepted touch) p at_first entries).now
   blocks-told = grind (decide, own-told)
 
-module _ (touch : Call → Touch) where
-  module _ (blocks : Blocks) where
-    module _ (call : Call) where
-      module _ (reply : Reply) where
-        -- what a call and its reply say of the caller's blocks
-        pub record KindLaw : Type 0 where
-          pub reads : (bytes : ArrayVec ℕ) (name at len : ℕ) → reply ≡ Reply.Bytes bytes → range_read (touch call) ≡ Some (name, at, len)
-              → option_map (range_of at len) (blocks name) ≡ Some bytes.items
-          pub live : are_names (needed (touch call)) ≡ true
-              → (reply ≡ Reply.Refused Refusal.NotLive) ↔ (list_any (λ name. is_none (blocks name)) (needed (touch call)) ≡ true)
-          pub unused : are_names (made (touch call)) ≡ true
-              → (reply ≡ Reply.Refused Refusal.InUse) ↔ (list_any (λ name. is_some (blocks name)) (made (touch call)) ≡ true)
+module _ (touch : Deed → Touch) where
+  -- what a call and its reply say of the caller's blocks
+  abbrev pub KindLaw : Blocks → Call → Reply → Type 0
+  KindLaw blocks call reply = IsReplyFor (use_of (touch (deed call))) blocks reply
 
-        -- a call that names no block
-        nothing : touch call ≡ Touch.Spares → KindLaw
-        nothing = grind decide
+  -- a call that names no block
+  nothing : (blocks : Blocks) (call : Call) (reply : Reply) → touch (deed call) ≡ Touch.Spares → KindLaw blocks call reply
+  nothing = grind decide
 
 -- What a process's managed blocks take, and what all managed blocks take.
 
 -- sums over numbers in a row
 
-module _ (f : ℕ → ℕ) where
-  module _ (g : ℕ → ℕ) where
-    same-terms : (n from : ℕ) → ((h : ℕ) → from ≤ h → g h ≡ f h)
-        → sum_by g (range_with_len from n) ≡ sum_by f (range_with_len from n)
-    same-terms zero from e = refl
-    same-terms (suc n) from e = grind (decide, sum_by-cons, same-terms n (from + 1) (λ h low. e h (omega (arith, low))))
+module _ (f : ℕ → ℕ) (g : ℕ → ℕ) where
+  same-terms : (n from : ℕ) → ((h : ℕ) → from ≤ h → g h ≡ f h)
+      → sum_by g (range_with_len from n) ≡ sum_by f (range_with_len from n)
+  same-terms zero from e = refl
+  same-terms (suc n) from e = grind (decide, sum_by-cons, same-terms n (from + 1) (λ h low. e h (omega (arith, low))))
 
-    -- one term differs
-    other-term : (k n from : ℕ) → from ≤ k → k < from + n → ((h : ℕ) → h ≢ k → g h ≡ f h)
-        → sum_by g (range_with_len from n) + f k ≡ sum_by f (range_with_len from n) + g k
-    other-term k zero from low high e = grind decide
-    other-term k (suc n) from low high e =
-        grind (decide, sum_by-cons, other-term k n (from + 1), same-terms n (from + 1))
+  -- one term differs
+  other-term : (k n from : ℕ) → from ≤ k → k < from + n → ((h : ℕ) → h ≢ k → g h ≡ f h)
+      → sum_by g (range_with_len from n) + f k ≡ sum_by f (range_with_len from n) + g k
+  other-term k zero from low high e = grind decide
+  other-term k (suc n) from low high e =
+      grind (decide, sum_by-cons, other-term k n (from + 1), same-terms n (from + 1))
 
 -- Managed memory: what each call keeps of it.
 
@@ -138,7 +127,7 @@ pub record IsChange (store : Store) (call : Call) (q : ℕ) (m : Memory) (asked 
 
 module _ (call : Call) where
   -- any other call leaves managed memory unchanged
-  pub ask-rest : (p : ℕ) (m : Memory) → alters (managed_touch call) ≡ false → (ask call p m).0.managed ≡ m.managed
+  pub ask-rest : (p : ℕ) (m : Memory) → alters (managed_touch (deed call)) ≡ false → (ask call p m).0.managed ≡ m.managed
   ask-rest = grind decide
 
   -- What a call that changes managed memory does to it
@@ -152,11 +141,11 @@ module _ (call : Call) where
   -- it is refused, or a block replaces another one
   module _ (q k : ℕ) (block : Option (List ℕ)) (m : Memory) where
     is_change : (o : Option Refusal) → (o ≡ None → is_name k ≡ true)
-        → (o ≡ None → (h : ℕ) → (if h == k then block else own_blocks q m h) ≡ touched (managed_touch call) (own_blocks q m) h)
+        → (o ≡ None → (h : ℕ) → (if h == k then block else own_blocks q m h) ≡ (use_of (managed_touch (deed call))).changes (own_blocks q m) h)
         → IsManagedChange q m (on_managed (λ store. unless_refused o store (done (with_block q k block store))) m)
     is_change o low made = grind (decide, length-set, put_total, same_blocks, put_own, put_other)
 
-pub managed-change : (call : Call) (q : ℕ) (m : Memory) → alters (managed_touch call) ≡ true → IsManagedChange call q m (ask call q m)
+pub managed-change : (call : Call) (q : ℕ) (m : Memory) → alters (managed_touch (deed call)) ≡ true → IsManagedChange call q m (ask call q m)
 managed-change (Call.MmemAlloc k n) q m c = is_change _ q k _ m _ (grind decide) (grind decide)
 managed-change (Call.MmemFree k) q m c = is_change _ q k _ m _ (grind decide) (grind decide)
 managed-change (Call.MmemWrite k at chunk) q m c = is_change _ q k _ m _ (grind decide) (grind decide)
@@ -189,11 +178,11 @@ module _ (call : Call) (q k : ℕ) (bytes : Option (List ℕ)) (m : Memory) wher
 
   is_heap_change : (o : Option Refusal) (result : Option HeapStore) → (o ≡ None → is_name k ≡ true)
       → (o ≡ None → Results q k bytes m.heap result)
-      → (o ≡ None → (h : ℕ) → (if h == k then bytes else own_heap q m h) ≡ touched (heap_touch call) (own_heap q m) h)
+      → (o ≡ None → (h : ℕ) → (if h == k then bytes else own_heap q m h) ≡ (use_of (heap_touch (deed call))).changes (own_heap q m) h)
       → IsChange heap_store call q m (on_heap (λ heap. unless_refused o heap (done_or_no_room result heap)) m)
   is_heap_change = grind (decide, same_blocks, becomes_own, becomes_other)
 
-heap-change : (call : Call) (q : ℕ) (m : Memory) → alters (heap_touch call) ≡ true → IsChange heap_store call q m (ask call q m)
+heap-change : (call : Call) (q : ℕ) (m : Memory) → alters (heap_touch (deed call)) ≡ true → IsChange heap_store call q m (ask call q m)
 heap-change (Call.HeapAlloc k n) q m c =
     is_heap_change _ q k _ m _ _ (grind decide) (alloc-results q k n m.heap) (grind decide)
 heap-change (Call.HeapRealloc k n) q m c =
@@ -234,9 +223,9 @@ module _ (store : Store) where
   pub record Keeps : Type 0 where
     pub law : (call : Call) (p : ℕ) (m : Machine) (reply : Reply)
         → due (marks p (after_call call p m).scheduler.agenda) ≡ Some reply → KindLaw store.touch (store.blocks p m.memory) call reply
-    pub asked : (call : Call) → alters (store.touch call) ≡ true → is_memory_call call ≡ true
-    pub change : (call : Call) (q : ℕ) (m : Memory) → alters (store.touch call) ≡ true → IsChange store call q m (ask call q m)
-    pub rest : (call : Call) (q p : ℕ) (m : Memory) → alters (store.touch call) ≡ false → store.blocks p (ask call q m).0 ≡ store.blocks p m
+    pub asked : (call : Call) → alters (store.touch (deed call)) ≡ true → is_memory_call call ≡ true
+    pub change : (call : Call) (q : ℕ) (m : Memory) → alters (store.touch (deed call)) ≡ true → IsChange store call q m (ask call q m)
+    pub rest : (call : Call) (q p : ℕ) (m : Memory) → alters (store.touch (deed call)) ≡ false → store.blocks p (ask call q m).0 ≡ store.blocks p m
     -- frames come and go
     pub framed : (slot p : ℕ) (bytes : Option (List ℕ)) (m : Memory) → nat_le slot 15 ≡ true → is_kernel_process p ≡ false
         → store.blocks p (with_managed (with_block 3 slot bytes m.managed) m) ≡ store.blocks p m
@@ -253,7 +242,7 @@ module _ (store : Store) where
 
 module _ (call : Call) where
   -- any other call leaves the heap unchanged
-  heap-rest : (p : ℕ) (m : Memory) → alters (heap_touch call) ≡ false → (ask call p m).0.heap ≡ m.heap
+  heap-rest : (p : ℕ) (m : Memory) → alters (heap_touch (deed call)) ≡ false → (ask call p m).0.heap ≡ m.heap
   heap-rest = grind decide
 
   told-reply : (p : ℕ) (m : Machine) → is_memory_call call ≡ true
@@ -270,7 +259,7 @@ module _ (call : Call) where
 module _ (store : Store) (keeps : Keeps store) (p : ℕ) (few : p ≤ 19) where
   module _ (call : Call) where
     -- a call that changes none of p's blocks: no call for it, or another's
-    left-after : (q : ℕ) (m : Machine) → (alters (store.touch call) && q == p) ≡ false → is_kernel_process p ≡ false
+    left-after : (q : ℕ) (m : Machine) → (alters (store.touch (deed call)) && q == p) ≡ false → is_kernel_process p ≡ false
         → IsSound m.memory m.packets.frames
         → store.blocks p (after_call call q m).memory ≡ store.blocks p m.memory
     left-after q m n k sound =
@@ -278,7 +267,7 @@ module _ (store : Store) (keeps : Keeps store) (p : ℕ) (few : p ≤ 19) where
         (λ slot e. keeps.framed slot p None m.memory (front_low m.packets.frames slot sound.slots e) k)
         call (grind (decide, keeps))
 
-    own-after : (m : Machine) (b : Bool) (reply : Option Reply) → alters (store.touch call) ≡ b → is_kernel_process p ≡ false
+    own-after : (m : Machine) (b : Bool) (reply : Option Reply) → alters (store.touch (deed call)) ≡ b → is_kernel_process p ≡ false
         → IsSound m.memory m.packets.frames
         → due (marks p (after_call call p m).scheduler.agenda) ≡ reply
         → store.blocks p (after_call call p m).memory ≡ answered (accepted store.touch) (Some call) reply (store.blocks p m.memory)
@@ -301,24 +290,14 @@ module _ (store : Store) where
   pub boot-has : Keeps store → (p : ℕ) (c : Config) → Starts (own_view store p) c
   boot-has keeps p c = record { sound = grind decide; own = λ k. keeps.boot p c }
 
-  pub are-own : Keeps store → (run : Ran)
-      → AreOwn store.touch run.after.entries
-  are-own keeps run = record {
-    reads = λ before p origin stimulus call bytes name at len few has.
-        (every before p origin stimulus call (Reply.Bytes bytes) few has).reads bytes name at len refl;
-    live = λ before p origin stimulus call reply few has. (every before p origin stimulus call reply few has).live;
-    unused = λ before p origin stimulus call reply few has. (every before p origin stimulus call reply few has).unused;
-  }
-    where
-      every : (before : List Entry) (p : ℕ) (origin : Origin) (stimulus : Stimulus) (call : Call) (reply : Reply)
-          → p ≤ 19 → HasCall run.after.entries before p origin stimulus call reply
-          → KindLaw store.touch (λ name. block store.touch (up_to_call before p origin stimulus call) p name) call reply
-      every before p origin stimulus call reply few has =
-          let X = run.after.entries in
-          let well = run-told (own_view store p) (own-laws store keeps p few) run (boot-has keeps p run.config) X [] (append-nil X) in
-          subst (λ (blocks : Blocks). KindLaw store.touch blocks call reply)
-          (sym (blocks-told store.touch p (up_to_call before p origin stimulus call)))
-          (call-law (own_view store p) X before origin stimulus call reply well has)
+  pub are-own : Keeps store → (run : Ran) → AreOwn store.touch run.after.entries
+  are-own keeps run before turn reply few has =
+      let X = run.after.entries in
+      let view = own_view store turn.p in
+      let well = run-told view (own-laws store keeps turn.p few) run (boot-has keeps turn.p run.config) X [] (append-nil X) in
+      subst (λ (blocks : Blocks). KindLaw store.touch blocks turn.call reply)
+      (sym (blocks-told store.touch turn.p (up_to_call before turn)))
+      (call-law view X before turn reply refl well has)
 
 -- Managed memory: the replies to its calls, and that a process's blocks are its own.
 

@@ -1,7 +1,7 @@
 -- What the agenda holds for one process.
 use Rattle.kernel_core.proofs.run_laws.Changes.{farewells-same, all-delivered, state_of-seats, seats-with_state, seats-with_mark, seats-without, serve-untouched, effect-keeps, all-append, all-mapped, is_regular, carried-regular}
-use Rattle.std.proofs.Common.{is_none, ◌≡◌, ℕ, Bool, true, false, not, ◌&&◌, ◌||◌, List, [], ◌∷◌, ◌++◌, refl, arith, Option, Some, None, map, ◌==◌, if◌then◌else◌, append_assoc, ◌≤◌, subst, fold, zero, suc, ◌+◌, nat_le}
-use Rattle.kernel_core.proofs.Common.{cons_option, decide, Stimulus, Origin, Reply, Process, State, Item, state_of, is_on_list, is_running, is_kernel_process, Scheduler, reply_of, is_turn_entry, after_item, Call, farewells, Machine, after_call, Entry, Frame, frame_taken, Memory, with_more_work, list_all, range_with_len, fold-append, PacketQueue, free_slot, Config, booted, at_start, reply_in, HasCall, up_to_call, OwnTurn, own_from, ticks_in}
+use Rattle.std.proofs.Common.{is_none, ◌≡◌, ℕ, Bool, true, false, not, ◌&&◌, ◌||◌, List, [], ◌∷◌, ◌++◌, refl, arith, Option, Some, None, map, ◌==◌, if◌then◌else◌, ◌≤◌, subst, fold, zero, suc, ◌+◌, nat_le}
+use Rattle.kernel_core.proofs.Common.{cons_option, decide, Stimulus, Origin, Reply, Process, State, Item, state_of, is_on_list, is_running, is_kernel_process, Scheduler, reply_of, is_turn_entry, after_item, Call, farewells, Machine, after_call, Entry, Frame, frame_taken, Memory, with_more_work, list_all, range_with_len, fold-append, PacketQueue, free_slot, Config, booted, at_start, reply_in, HasCall, Turn, up_to_call, OwnTurn, own_from, ticks_in}
 use Rattle.kernel_core.proofs.run_laws.event_order.Runs.{Known, carried, facing, Taken, taking, taken, entry_of, Cases, kernel_carried, Ran, Anything, AllFrom, at_each}
 
 -- what an item is to a process
@@ -60,18 +60,16 @@ module _ (p : ℕ) where
   marks-front [] items h = refl
   marks-front (x ∷ xs) items h = grind (decide, marks-front xs items)
 
-  module _ (before : List Item) where
-    module _ (list : List Process) where
-      module _ (s : Scheduler Bool) where
-        -- what stays of the agenda for p
-        pub record Kept : Type 0 where
-          pub is_fit : fit (idle s.processes) (marks s.agenda) ≡ true
-          pub same_due : due (marks s.agenda) ≡ due (marks before)
+  module _ (before : List Item) (list : List Process) (s : Scheduler Bool) where
+    -- what stays of the agenda for p
+    pub record Kept : Type 0 where
+      pub is_fit : fit (idle s.processes) (marks s.agenda) ≡ true
+      pub same_due : due (marks s.agenda) ≡ due (marks before)
 
-        -- p's state and marks are as they were
-        stays : fit (idle list) (marks before) ≡ true
-            → state_of p s.processes ≡ state_of p list → marks s.agenda ≡ marks before → Kept
-        stays = grind decide
+    -- p's state and marks are as they were
+    stays : fit (idle list) (marks before) ≡ true
+        → state_of p s.processes ≡ state_of p list → marks s.agenda ≡ marks before → Kept
+    stays = grind decide
 
   after_item-kept : (item : Item) (s : Scheduler Bool) → is_turn_item item ≡ false
       → fit (idle s.processes) (marks (item ∷ s.agenda)) ≡ true → Kept (item ∷ s.agenda) s.processes (after_item item s)
@@ -296,17 +294,16 @@ module _ {S : Type 0} (view : View S) where
   law-at (Entry.Turn pid origin stimulus call ∷ later) t h = grind (decide, law-at later t)
   law-at (entry ∷ later) t h = law-at later t h.1
 
-  pub call-law : (X before : List Entry) (origin : Origin) (stimulus : Stimulus) (call : Call) (reply : Reply)
-      → WellTold (told_so_far view []) X → HasCall X before view.p origin stimulus call reply
-      → view.Law (told_so_far view (up_to_call before view.p origin stimulus call)).now call reply
-  call-law X before origin stimulus call reply well has =
-      let turn = Entry.Turn (record { 0 = view.p }) origin stimulus call in
-      let t = told_so_far view (before ++ turn ∷ []) in
-      let last : t.last ≡ Some call = grind (decide, fold-append) in
-      let later = well-after (told_so_far view []) (before ++ turn ∷ []) has.later
-      (rw (append_assoc before (turn ∷ []) has.later, has.is_split) well) in
+  pub call-law : (X before : List Entry) (turn : Turn) (reply : Reply) → turn.p ≡ view.p
+      → WellTold (told_so_far view []) X → HasCall X before turn reply
+      → view.Law (told_so_far view (up_to_call before turn)).now turn.call reply
+  call-law X before turn reply same well has =
+      let t = told_so_far view (up_to_call before turn) in
+      let last : t.last ≡ Some turn.call = grind (decide, fold-append, same) in
+      let later = well-after (told_so_far view []) (up_to_call before turn) has.later (rw has.is_split well) in
       let law = law-at has.later t later in
-      rw (last, has.is_answered) at law
+      let answered : reply_in view.p has.later ≡ Some reply = rw same at has.is_answered in
+      rw (last, answered) at law
 
   -- so are the replies to p's calls, each by what p knows before it
   abbrev pub OwnTold : S → List OwnTurn → Type 0

@@ -1,2 +1,5 @@
 pub mod Runs
+pub mod AcceptedEvents
+pub mod InPlace
+pub mod WaitingEvents
 pub mod Sound

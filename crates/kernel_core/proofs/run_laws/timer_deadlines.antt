@@ -1,2 +1,5 @@
+pub mod MovedTimers
+pub mod Ledger
+pub mod Balanced
+pub mod Watched
 pub mod Attended
-pub mod Timed

@@ -4,7 +4,7 @@ use Rattle.mote_types.specs.declared.event.Event.{Event}
 use Rattle.mote_types.specs.declared.event.Stimulus.{Stimulus}
 use Rattle.mote_types.specs.EventNumbers.{EXITED}
 use Rattle.process_core.specs.Agenda.{Queued, Item, Job}
-use Rattle.kernel_core.specs.declared.fields.KernelFields.{KernelFields}
+use Rattle.kernel_core.specs.declared.kernel_fields.KernelFields.{KernelFields}
 use Rattle.kernel_core.specs.Code.Totals.{total}
 
 -- whether ctimer learns that a process has ended

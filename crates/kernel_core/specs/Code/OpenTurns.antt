@@ -7,7 +7,7 @@ use Rattle.mote_types.specs.declared.event.Stimulus.{Stimulus}
 use Rattle.mote_types.specs.declared.event.Origin.{Origin}
 use Rattle.mote_types.specs.declared.event.Pid.{Pid}
 use Rattle.node_memory.specs.Code.Placed.{last_owner}
-use Rattle.kernel_core.specs.declared.fields.KernelFields.{KernelFields}
+use Rattle.kernel_core.specs.declared.kernel_fields.KernelFields.{KernelFields}
 use Rattle.kernel_core.specs.declared.step.StepOutcome.{StepOutcome}
 use Rattle.kernel_core.specs.declared.turn.Turn.{Turn}
 use Rattle.kernel_core.specs.Code.Conditions.{TakesEntry}

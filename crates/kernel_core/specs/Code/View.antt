@@ -17,7 +17,7 @@ use Rattle.process_core.specs.declared.next_job.NextJob.{NextJob as Taken}
 use Rattle.kernel_core.specs.Code.Carrying.{job_carrying, carrying}
 use Rattle.process_core.specs.Processes.{numbers}
 use Rattle.process_core.specs.Scheduler.{in_front}
-use Rattle.kernel_core.specs.declared.fields.KernelFields.{KernelFields}
+use Rattle.kernel_core.specs.declared.kernel_fields.KernelFields.{KernelFields}
 use Rattle.kernel_core.specs.declared.pending_entries.PendingEntries.{PendingEntries}
 use Rattle.kernel_core.specs.Machine.{Machine}
 use Rattle.kernel_core.specs.Run.{Answers, is_at_rest, one_step, job_done, work_limit}

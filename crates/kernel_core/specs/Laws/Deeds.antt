@@ -86,18 +86,12 @@ deed Call.PacketDone = Deed.Other
 deed Call.PacketCount = Deed.Other
 deed (Call.PacketSend h) = Deed.InManaged (Touch.Sends h)
 
-abbrev pub in_managed : Deed → Touch
-in_managed (Deed.InManaged touch) = touch
-in_managed _ = Touch.Spares
-
-abbrev pub in_heap : Deed → Touch
-in_heap (Deed.InHeap touch) = touch
-in_heap _ = Touch.Spares
-
 -- what a call does to managed blocks
-abbrev pub managed_touch : Call → Touch
-managed_touch call = in_managed (deed call)
+abbrev pub managed_touch : Deed → Touch
+managed_touch (Deed.InManaged touch) = touch
+managed_touch _ = Touch.Spares
 
 -- and to heap blocks
-abbrev pub heap_touch : Call → Touch
-heap_touch call = in_heap (deed call)
+abbrev pub heap_touch : Deed → Touch
+heap_touch (Deed.InHeap touch) = touch
+heap_touch _ = Touch.Spares

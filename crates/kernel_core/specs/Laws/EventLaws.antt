@@ -29,13 +29,10 @@ pub data IsAtRest (X : List Entry) : List Entry → Type 0 where
   before_input : (before later : List Entry) (input : Input) → before ++ Entry.Input input ∷ later ≡ X → IsAtRest X before
   at_end : list_any is_halt X ≡ false → IsAtRest X X
 
--- the events that were delivered to p from the queue, except those that the kernel makes
-abbrev pub is_kernel_code : EventCode → Bool
-is_kernel_code code = code == TIMER || code == SERIAL_LINE || code == PACKET
-
--- an event that an application posted, not one that the kernel makes
+-- an event from the queue that an application posted, not one that the kernel makes
 abbrev pub posted_event : Origin → Stimulus → Option Event
-posted_event Origin.Event (Stimulus.Event event) = if is_kernel_code event.code then None else Some event
+posted_event Origin.Event (Stimulus.Event event) =
+    if event.code == TIMER || event.code == SERIAL_LINE || event.code == PACKET then None else Some event
 posted_event _ _ = None
 
 -- those that p received, in order
@@ -57,14 +54,3 @@ accepted_event p _ later = None
 abbrev pub accepted_events : ProcessNumber → List Entry → List Event
 accepted_events p [] = []
 accepted_events p (entry ∷ later) = cons_option (accepted_event p entry later) (accepted_events p later)
-
--- what p received is a prefix of the events accepted for it
-abbrev pub InOrderFor : ProcessNumber → List Entry → Type 0
-InOrderFor p X =
-    (before later : List Entry) → before ++ later ≡ X → has_ended p before ≡ false
-    → (waiting : List Event) × (given_events before p ++ waiting ≡ accepted_events p before)
-
--- at rest, all of them
-abbrev pub NoLostEventFor : ProcessNumber → List Entry → Type 0
-NoLostEventFor p X =
-    (before : List Entry) → IsAtRest X before → has_ended p before ≡ false → given_events before p ≡ accepted_events p before

@@ -1,6 +1,6 @@
 -- The replies of managed memory to a process, and those of a memory of its own.
-use Rattle.std.specs.Prelude.{◌≡◌, ℕ, Bool, List, [], ◌∷◌, map, filter_map, Option, Some, None, is_some, if◌then◌else◌}
-use Rattle.std.specs.Option.{option_map, option_map_or}
+use Rattle.std.specs.Prelude.{◌≡◌, ℕ, Bool, ◌&&◌, List, [], ◌∷◌, filter, filter_map, map, Option, Some, None, is_some}
+use Rattle.std.specs.Option.{option_map_or}
 use Rattle.mote_types.specs.Kinds.{ProcessNumber}
 use Rattle.mote_types.specs.declared.call.Call.{Call}
 use Rattle.mote_types.specs.declared.reply.Reply.{Reply}
@@ -10,7 +10,7 @@ use Rattle.mmem_core.specs.ManagedStore.{ManagedStore, empty_store}
 use Rattle.node_memory.specs.Answered.{Asked, done}
 use Rattle.node_memory.specs.ManagedCalls.{alloc, free, write, read, copy, avail}
 use Rattle.kernel_core.specs.Laws.OwnTurns.{OwnTurn, own}
-use Rattle.kernel_core.specs.Laws.Deeds.{Touch, managed_touch}
+use Rattle.kernel_core.specs.Laws.Deeds.{Touch, deed, managed_touch}
 
 -- What a transcript shows.
 
@@ -28,29 +28,19 @@ request p Touch.Spares = None
 
 -- a call that only asks something of managed memory; whose call it is makes no difference
 abbrev pub is_managed_call : Call → Bool
-is_managed_call call = is_some (request 0 (managed_touch call))
+is_managed_call call = is_some (request 0 (managed_touch (deed call)))
 
--- a call with its reply
-pub record AnsweredCall : Type 0 where
-  pub call : Call
-  pub reply : Reply
-
--- the call of a turn, where it is on managed memory and has a reply
-abbrev pub managed_answer : OwnTurn → Option AnsweredCall
-managed_answer turn =
-    if is_managed_call turn.call then option_map (λ reply. record { call = turn.call; reply = reply }) turn.reply else None
-
--- the calls of p on managed memory that have replies
-abbrev pub managed_answers : ProcessNumber → List Entry → List AnsweredCall
-managed_answers p entries = filter_map managed_answer (own p entries)
+-- the turns of p with calls on managed memory that have replies
+abbrev pub managed_turns : ProcessNumber → List Entry → List OwnTurn
+managed_turns p entries = filter (λ turn. is_managed_call turn.call && is_some turn.reply) (own p entries)
 
 -- what p asked of managed memory
 abbrev pub managed_calls : ProcessNumber → List Entry → List Call
-managed_calls p entries = map (λ answered. answered.call) (managed_answers p entries)
+managed_calls p entries = map (λ turn. turn.call) (managed_turns p entries)
 
--- its reply
+-- the replies
 abbrev pub managed_replies : ProcessNumber → List Entry → List Reply
-managed_replies p entries = map (λ answered. answered.reply) (managed_answers p entries)
+managed_replies p entries = filter_map (λ turn. turn.reply) (managed_turns p entries)
 
 -- The replies of a memory of its own.
 
@@ -61,7 +51,7 @@ as_over_quota reply = reply
 
 -- the reply of managed memory to a call of p, and the memory after it
 abbrev pub asked_by : ProcessNumber → Call → ManagedStore → Asked ManagedStore
-asked_by p call store = option_map_or (λ answer. answer store) (request p (managed_touch call)) (done store)
+asked_by p call store = option_map_or (λ answer. answer store) (request p (managed_touch (deed call))) (done store)
 
 -- the replies to these calls of p, of a memory that nobody else uses
 abbrev pub replies_from : ProcessNumber → ManagedStore → List Call → List Reply
@@ -69,10 +59,6 @@ replies_from p store [] = []
 replies_from p store (call ∷ later) =
     let asked = asked_by p call store in as_over_quota asked.1 ∷ replies_from p asked.0 later
 
--- the same of a memory of n bytes, without a quota, in which no block is live yet
-abbrev pub private_replies : ℕ → ProcessNumber → List Call → List Reply
-private_replies bytes p calls = replies_from p (empty_store bytes None) calls
-
--- whatever others do, p's calls have these replies
+-- whatever others do, p's calls have those of a memory of the quota's size, without a quota, in which no block is live yet
 abbrev pub IsAnsweredAlone : ℕ → ProcessNumber → List Entry → Type 0
-IsAnsweredAlone quota p entries = managed_replies p entries ≡ private_replies quota p (managed_calls p entries)
+IsAnsweredAlone quota p entries = managed_replies p entries ≡ replies_from p (empty_store quota None) (managed_calls p entries)

@@ -1,5 +1,5 @@
 -- What a transcript shows of one process, without the machine.
-use Rattle.std.specs.Prelude.{◌≡◌, ℕ, ◌+◌, Bool, true, false, List, [], ◌∷◌, ◌++◌, Option, Some, None, slice_get, if◌then◌else◌, ◌==◌}
+use Rattle.std.specs.Prelude.{◌≡◌, ◌+◌, Bool, true, false, List, [], ◌∷◌, ◌++◌, Option, Some, None, slice_get, if◌then◌else◌, ◌==◌}
 use Rattle.std.specs.List.{cons_option}
 use Rattle.std.specs.Option.{option_and_then}
 use Rattle.mote_types.specs.Kinds.{ProcessNumber, Ticks}
@@ -59,12 +59,19 @@ abbrev pub is_turn_entry : Entry → Bool
 is_turn_entry (Entry.Turn pid origin stimulus call) = true
 is_turn_entry _ = false
 
--- The transcript X has the call of p after these entries, and the reply to it.
-pub record HasCall (X before : List Entry) (p : ℕ) (origin : Origin) (stimulus : Stimulus) (call : Call) (reply : Reply) : Type 0 where
-  pub later : List Entry
-  pub is_split : before ++ Entry.Turn (record { 0 = p }) origin stimulus call ∷ later ≡ X
-  pub is_answered : reply_in p later ≡ Some reply
+-- what p received, from where, and its call
+pub record Turn : Type 0 where
+  pub p : ProcessNumber
+  pub origin : Origin
+  pub stimulus : Stimulus
+  pub call : Call
 
--- the entries up to that call
-abbrev pub up_to_call : List Entry → ProcessNumber → Origin → Stimulus → Call → List Entry
-up_to_call before p origin stimulus call = before ++ Entry.Turn (record { 0 = p }) origin stimulus call ∷ []
+-- these entries, and the turn after them
+abbrev pub up_to_call : List Entry → Turn → List Entry
+up_to_call before turn = before ++ Entry.Turn (record { 0 = turn.p }) turn.origin turn.stimulus turn.call ∷ []
+
+-- the transcript X has this turn after these entries, and the reply to its call
+pub record HasCall (X before : List Entry) (turn : Turn) (reply : Reply) : Type 0 where
+  pub later : List Entry
+  pub is_split : up_to_call before turn ++ later ≡ X
+  pub is_answered : reply_in turn.p later ≡ Some reply

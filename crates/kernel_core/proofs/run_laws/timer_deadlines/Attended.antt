@@ -1,164 +1,18 @@
--- While a timer is due, etimer is marked or its POLL is on the agenda.
-use Rattle.std.proofs.Common.{◌≡◌, ℕ, Bool, true, false, ◌&&◌, ◌||◌, List, [], ◌∷◌, ◌++◌, ◌+◌, refl, ◌∙◌, arith, is_some, find, filter, if◌then◌else◌, ◌==◌, append_assoc, map, slice_get, None, nat_le, ◌≤◌, subst, nat_lt}
-use Rattle.process_core.specs.Processes.{is_any_marked, is_marked}
-use Rattle.kernel_core.specs.Laws.TimerLaws.{NoEarlyTimerFor, NoLostTimerFor, is_number}
+-- No timer event is early, and none is lost: the machine's timers follow the ledger at each step.
+use Rattle.std.proofs.Common.{◌≡◌, ℕ, true, false, ◌||◌, List, [], ◌∷◌, ◌++◌, ◌+◌, refl, arith, None, nat_le, ◌≤◌, subst, nat_lt, Bool, ◌&&◌, ◌==◌, append_assoc, map, slice_get}
+use Rattle.kernel_core.specs.Laws.TimerLaws.{is_ripe, ripe_by, is_number}
 use Rattle.kernel_core.proofs.Totals.{total-none}
-use Rattle.kernel_core.proofs.Common.{with_more_work, decide, list_any, Stimulus, Event, Origin, POLL, State, Item, Process, state_of, is_on_list, with_state, with_mark, without, Scheduler, in_front, Timer, Timers, is_due, Machine, scheduled, free_places, mark, serve, times, post_first_due, post_due, is_any_due, list_any-append, Call, Input, after_call, effect, Entry, list_all, EXITED, number_event, Queued, numbers, after_item, delivery, has_ended, clock_after, ticks_in, fold-append, all_timers, standing, is_timer, deadline, Config, is_bootable, is_at_rest, at_start, is_application, range_with_len}
-use Rattle.kernel_core.proofs.run_laws.Changes.{Changes, of_changes, times-keeps, carried-any, after-any, is_regular, carried-regular, KeptByCalls, kept_by_call, all-more, all-append, all-mapped, none-mapped, serve-untouched, is_turn, state_of-seats, seats-with_state, seats-with_mark, seats-without}
-use Rattle.kernel_core.proofs.run_laws.timer_deadlines.Timed.{any-filter, is_timer_call, after-timers, after-clock, is_lawful, plain-cancelled, OwnTimer, own_timer, cell_names, armed-names, zero-names, zero-cells, after-moves, still_moves, ledger-turn, turn-follows, timer_ledger, timer_events-ledger, ripe_armings-ledger, ripe_at, ledger-other, standing-ledger, Balanced, less-balanced, in_wait, carried-count, carried-same, serve-fair, after-count}
-use Rattle.kernel_core.proofs.run_laws.event_order.Runs.{Known, FrontAgrees, nothing_known, told, Keeps, Taken, taking, taken, facing, is_quiet_item, is_served, carried, entry_of, with_turn, Cases, kernel_carried, Ran, at_prefixes, at_rest}
-use Rattle.kernel_core.proofs.run_laws.event_order.Sound.{ends_in, is_give_exit, is_exit_turn, to_all, ended-more, Sound, IsInOrder, sound_cases, boot-sound, nothing_queued}
-
-abbrev is_etimer_poll : Item → Bool
-is_etimer_poll (Item.Give q origin (Stimulus.Event event)) = q == 0 && event.code == POLL
-is_etimer_poll _ = false
-
-abbrev is_polled : List Item → Bool
-is_polled agenda = list_any is_etimer_poll agenda
-
-abbrev is_watched : Scheduler Bool → Bool
-is_watched s = is_marked 0 s.processes || is_polled s.agenda
-
--- etimer is on the list
-abbrev is_home : List Process → Bool
-is_home list = is_on_list (state_of 0 list)
-
-abbrev is_timer_due : ℕ → Timers → Bool
-is_timer_due clock timers = list_any (is_due clock timers) timers.armed
-
-pub record Watched (m : Machine) : Type 0 where
-  pub home : is_home m.scheduler.processes ≡ true
-  pub due : is_timer_due m.clock m.timers ≡ true → is_watched m.scheduler ≡ true
-
-marks-home : (list : List Process) → is_home list ≡ true → is_marked 0 (with_mark 0 true list) ≡ true
-marks-home [] h = h
-marks-home (x ∷ xs) h = grind (decide, marks-home xs)
-
-module _ (q : ℕ) where
-  marks-with_mark : (list : List Process) → is_marked 0 list ≡ true → is_marked 0 (with_mark q true list) ≡ true
-  marks-with_mark [] h = h
-  marks-with_mark (x ∷ xs) h = grind (decide, marks-with_mark xs)
-
-  marks-without : (list : List Process) → (q == 0) ≡ false → is_marked 0 (without q list) ≡ is_marked 0 list
-  marks-without [] n = refl
-  marks-without (x ∷ xs) n = grind (decide, marks-without xs n)
-
-  module _ (state : State) where
-    marks-with_state : (list : List Process) → is_marked 0 (with_state q state list) ≡ is_marked 0 list
-    marks-with_state [] = refl
-    marks-with_state (x ∷ xs) = grind (decide, marks-with_state xs)
-
-  module _ (mark : Bool) where
-    marks-other : (list : List Process) → (q == 0) ≡ false → is_marked 0 (with_mark q mark list) ≡ is_marked 0 list
-    marks-other [] n = refl
-    marks-other (x ∷ xs) n = grind (decide, marks-other xs n)
-
-    home-with_mark : (list : List Process) → is_home (with_mark q mark list) ≡ is_home list
-    home-with_mark list = grind (decide, state_of-seats, seats-with_mark)
-
-watched-carried : (item : Item) (m : Machine) → is_quiet_item item ≡ true → is_served item ≡ false
-    → is_regular item ≡ true
-    → Watched (facing item m) → Watched (carried item m)
-watched-carried = grind (
-  decide,
-  state_of-seats,
-  seats-with_state,
-  seats-with_mark,
-  seats-without,
-  marks-with_state,
-  marks-without,
-  carried-any,
-  marks-other,
-)
-
--- these items at the front
-watched-front : (xs : List Item) (m : Machine) → Watched m → Watched (scheduled (in_front xs) m)
-watched-front = grind (decide, list_any-append)
-
-some-find : (test : Timer → Bool) (xs : List Timer) → is_some (find test xs) ≡ list_any test xs
-some-find test [] = refl
-some-find test (x ∷ xs) = grind (decide, some-find test xs)
-
--- timers leave the list
-dropped : (keep : Timer → Bool) (m : Machine) → Watched m
-    → Watched (record m { timers = record m.timers { armed = filter keep m.timers.armed } })
-dropped = grind (decide, any-filter)
-
--- an item that isn't etimer's POLL is gone
-without_item : (item : Item) (m : Machine) → is_etimer_poll item ≡ false → Watched (facing item m) → Watched m
-without_item = grind decide
-
-module _ (call : Call) where
-  module _ (q : ℕ) where
-    module _ (m : Machine) where
-      -- a call that makes no more timers due
-      fewer : Watched m → (is_timer_due m.clock (after_call call q m).timers ≡ true → is_timer_due m.clock m.timers ≡ true)
-          → Watched (after_call call q m)
-      fewer h less =
-          record {
-            home = grind (decide, h.home, state_of-seats, seats-with_state, seats-with_mark);
-            due = grind (decide, after-clock, marks-with_state, marks-with_mark, after-any);
-          }
-
-module _ (q : ℕ) (m : Machine) (h : Watched m) where
-  watched-after : (call : Call) → Watched (after_call call q m)
-  watched-after (Call.TimerSet u interval) = grind (decide, watched-front, home-with_mark, marks-home)
-  watched-after (Call.TimerRestart u) = grind (decide, watched-front, home-with_mark, marks-home)
-  watched-after (Call.TimerReset u) = grind (decide, watched-front, home-with_mark, marks-home)
-  watched-after (Call.CallbackSet c interval) = grind (decide, watched-front, home-with_mark, marks-home)
-  watched-after (Call.TimerStop u) = grind (decide, fewer, any-filter)
-  watched-after (Call.CallbackStop c) = grind (decide, fewer, any-filter)
-  watched-after call = plain call (grind arith)
-    where
-      plain : (call : Call) → is_timer_call call ≡ false → Watched (after_call call q m)
-      plain call n = fewer call q m h (λ d. rw (after-timers call q m n) at d)
-
-watched-input : (input : Input) (m : Machine) → Watched m → Watched (effect input (record m { work = 0 }))
-watched-input = grind (decide, state_of-seats, seats-with_mark, marks-home, marks-with_mark, watched-front)
-
--- at rest no timer is due
-unmarked : (list : List Process) → is_any_marked list ≡ false → is_marked 0 list ≡ false
-unmarked [] h = refl
-unmarked (x ∷ xs) h = grind (arith, h, unmarked xs)
-
-module _ (m : Machine) where
-  -- after its POLL nothing is due, or etimer is marked again
-  watched-due : is_home m.scheduler.processes ≡ true → Watched (post_due m)
-  watched-due home = go (is_any_due after) (some-find (is_due after.clock after.timers) after.timers.armed)
-    where
-      after : Machine
-      after = times (free_places m) post_first_due m
-
-      still : is_home after.scheduler.processes ≡ true
-      still = times-keeps (λ x. is_home x.scheduler.processes ≡ true) post_first_due (grind decide)
-          (free_places m) m home
-
-      go : (b : Bool) → b ≡ is_timer_due after.clock after.timers → Watched (if b then mark 0 after else after)
-      go true e = record {
-        home = home-with_mark 0 true after.scheduler.processes ∙ still;
-        due =
-            λ d. rw (marks-home after.scheduler.processes still) refl;
-      }
-      go false e = record { home = still; due = λ d. absurd (grind (arith, e, d)) }
-
-  rest-not_due : m.scheduler.agenda ≡ [] → is_any_marked m.scheduler.processes ≡ false → Watched m
-      → is_timer_due m.clock m.timers ≡ false
-  rest-not_due = grind (decide, unmarked)
-
-module _ (q : ℕ) where
-  changes-watched : (event : Event) → Changes (λ old new. Watched old → Watched new) q event
-  changes-watched = grind (decide, dropped, marks-with_mark, state_of-seats, seats-with_mark)
-
-  watched-serve : (origin : Origin) (event : Event) (m : Machine)
-      → Watched (facing (Item.Give q origin (Stimulus.Event event)) m) → Watched (serve q event m)
-  watched-serve origin event m h = go (q == 0 && event.code == POLL) refl
-    where
-      go : (b : Bool) → (q == 0 && event.code == POLL) ≡ b → Watched (serve q event m)
-      go true e =
-          let etimer : (q == 0) ≡ true = grind (arith, e) in
-          let polled : (event.code == POLL) ≡ true = grind (arith, e) in
-          rw (etimer, polled) (watched-due m h.home)
-      go false e = of_changes (changes-watched event) m (without_item (Item.Give q origin (Stimulus.Event event)) m e h)
+use Rattle.kernel_core.proofs.Common.{TimersAreKept, with_more_work, decide, list_any, Stimulus, Event, Item, Timer, Timers, is_due, Machine, serve, Entry, list_all, has_ended, clock_after, ticks_in, fold-append, all_timers, standing, is_timer, Config, is_bootable, is_at_rest, at_start, is_application, range_with_len, Origin, Scheduler, list_any-append, Call, after_call, EXITED, number_event, Queued, numbers, after_item, delivery}
+use Rattle.kernel_core.proofs.run_laws.Changes.{is_regular, carried-regular, KeptByCalls, kept_by_call, all-more, all-append, all-mapped, none-mapped, serve-untouched, is_turn, carried-any, after-any}
+use Rattle.kernel_core.proofs.run_laws.timer_deadlines.Balanced.{is_lawful, plain-cancelled, turn-follows, Balanced, less-balanced, in_wait, carried-count, carried-same, serve-fair, after-count}
+use Rattle.kernel_core.proofs.run_laws.timer_deadlines.MovedTimers.{after-timers, after-clock, OwnTimer, own_timer, cell_names, armed-names, zero-names, zero-cells, after-moves, still_moves}
+use Rattle.kernel_core.proofs.run_laws.timer_deadlines.Ledger.{ledger-turn, timer_ledger, timer_events-ledger, ledger-other, standing-ledger}
+use Rattle.kernel_core.proofs.run_laws.event_order.Runs.{Known, FrontAgrees, nothing_known, told, Keeps, Taken, taking, taken, facing, is_quiet_item, carried, entry_of, with_turn, Cases, kernel_carried, Ran, at_prefixes, at_rest}
+use Rattle.kernel_core.proofs.run_laws.event_order.AcceptedEvents.{ends_in, ended-more}
+use Rattle.kernel_core.proofs.run_laws.event_order.WaitingEvents.{nothing_queued, to_all}
+use Rattle.kernel_core.proofs.run_laws.event_order.Sound.{Sound, IsInOrder, sound_cases, boot-sound}
+use Rattle.kernel_core.proofs.run_laws.timer_deadlines.Watched.{Watched, rest-not_due, watched-after, watched-carried, watched-input, watched-serve, without_item}
+use Rattle.kernel_core.proofs.run_laws.event_order.InPlace.{is_give_exit, is_exit_turn}
 
 -- Nobody gets p's EXITED while p lives.
 
@@ -259,23 +113,21 @@ module _ (o : OwnTimer) where
     safe : is_doomed o.p agenda ≡ false
 
   abbrev IsTimely : List Entry → Type 0
-  IsTimely X = (timer_ledger o nothing_known X).given ≤ ripe_at (clock_after X) (timer_ledger o nothing_known X)
+  IsTimely X = (timer_ledger o nothing_known X).given ≤ ripe_by (clock_after X) (timer_ledger o nothing_known X).standing
 
   timely-other : (X : List Entry) (e : Entry) → is_turn e ≡ false → Keeps IsTimely X e
   timely-other = grind (decide, ledger-other, clock-more)
 
-  module _ (known : Known) where
-    module _ (m : Machine) where
-      module _ (X : List Entry) where
-        record Heeded : Type 0 where
-          steady : Steady m X
-          farewell : Spared m.scheduler.agenda X → has_farewell o.p m.scheduler.agenda ≡ false
-          balanced : Balanced o (Spared m.scheduler.agenda X) m.timers m.clock (in_wait o m) (timer_ledger o known X)
+  module _ (known : Known) (m : Machine) (X : List Entry) where
+    record Heeded : Type 0 where
+      steady : Steady m X
+      farewell : Spared m.scheduler.agenda X → has_farewell o.p m.scheduler.agenda ≡ false
+      balanced : Balanced o (Spared m.scheduler.agenda X) m.timers m.clock (in_wait o m) (timer_ledger o known X)
 
-        record Attended : Type 0 where
-          sound : Sound o.p known m X
-          watched : Watched m
-          heeded : Heeded
+    record Attended : Type 0 where
+      sound : Sound o.p known m X
+      watched : Watched m
+      heeded : Heeded
 
   module _ (low : nat_le 4 o.p ≡ true) (high : nat_lt o.p 20 ≡ true) where
     module _ (t : Taken) where
@@ -313,25 +165,23 @@ module _ (o : OwnTimer) where
     sound : Cases (Sound o.p) (Keeps (IsInOrder o.p))
     sound = sound_cases o.p low
 
-    module _ (known : Known) where
-      module _ (m : Machine) where
-        module _ (X : List Entry) where
-          heeded-carried : (item : Item) → is_quiet_item item ≡ true
-              → Sound o.p known (facing item m) X → Heeded known (facing item m) X → Heeded known (carried item m) X
-          heeded-carried item n sound h =
-              let spared : Spared (carried item m).scheduler.agenda X → Spared (item ∷ m.scheduler.agenda) X =
-              λ s. record { alive = s.alive; safe = carried-doomed o.p item m.scheduler n s.safe } in
-              let lawful = h.steady.plain in
-              let regular : is_regular item ≡ true = grind (arith, h.steady.regular) in
-              record {
-                steady = grind (decide, carried-regular, h.steady);
-                farewell = λ s. carried-farewell o.p item m.scheduler lawful (h.farewell (spared s));
-                balanced = less-balanced o _ _ m.clock (in_wait o (carried item m)) (in_wait o (facing item m)) m.timers
-                    (timer_ledger o known X)
-                    (carried-count o item m lawful regular)
-                    (λ s. (spared s, carried-same o item m lawful regular low (grind arith) sound.ordered (sound.place s.alive)))
-                    h.balanced;
-              }
+    module _ (known : Known) (m : Machine) (X : List Entry) where
+      heeded-carried : (item : Item) → is_quiet_item item ≡ true
+          → Sound o.p known (facing item m) X → Heeded known (facing item m) X → Heeded known (carried item m) X
+      heeded-carried item n sound h =
+          let spared : Spared (carried item m).scheduler.agenda X → Spared (item ∷ m.scheduler.agenda) X =
+          λ s. record { alive = s.alive; safe = carried-doomed o.p item m.scheduler n s.safe } in
+          let lawful = h.steady.plain in
+          let regular : is_regular item ≡ true = grind (arith, h.steady.regular) in
+          record {
+            steady = grind (decide, carried-regular, h.steady);
+            farewell = λ s. carried-farewell o.p item m.scheduler lawful (h.farewell (spared s));
+            balanced = less-balanced o _ _ m.clock (in_wait o (carried item m)) (in_wait o (facing item m)) m.timers
+                (timer_ledger o known X)
+                (carried-count o item m lawful regular)
+                (λ s. (spared s, carried-same o item m lawful regular low (grind arith) sound.ordered (sound.place s.alive)))
+                h.balanced;
+          }
 
     attended_cases : Cases Attended (Keeps IsTimely)
     attended_cases = record {
@@ -404,30 +254,29 @@ module _ (o : OwnTimer) where
 
   abbrev IsGivenAtRest : List Entry → Type 0
   IsGivenAtRest X =
-      has_ended o.p X ≡ false → (standing X o.p o.t).is_armed ≡ true → deadline (standing X o.p o.t).cell ≤ clock_after X
-      → (standing X o.p o.t).was_given ≡ true
+      has_ended o.p X ≡ false → is_ripe (clock_after X) (standing X o.p o.t) ≡ true → (standing X o.p o.t).was_given ≡ true
 
   rest-given : (m : Machine) (X : List Entry) → is_at_rest m ≡ true → Attended nothing_known m X → IsGivenAtRest X
   rest-given = grind (decide, standing-ledger, nothing_queued, rest-not_due, due_listed)
 
-module _ (run : Ran) (boots : is_bootable run.config ≡ true) (p : ℕ) (a : is_application run.config.apps p ≡ true) where
-  module _ (t : ℕ) where
-    abbrev mine : OwnTimer
-    mine = record { p = p; t = t }
+abbrev mine : ℕ → ℕ → OwnTimer
+mine p t = record { p = p; t = t }
 
+module _ (run : Ran) (boots : is_bootable run.config ≡ true) where
+  module _ (p : ℕ) (a : is_application run.config.apps p ≡ true) (t : ℕ) where
     high : nat_lt p 20 ≡ true
     high = grind (decide, boots, a)
 
-    cases : Cases (Attended mine) (Keeps (IsTimely mine))
-    cases = attended_cases mine (grind (arith, a)) high
+    cases : Cases (Attended (mine p t)) (Keeps (IsTimely (mine p t)))
+    cases = attended_cases (mine p t) (grind (arith, a)) high
 
-    boot : (known : Known) → Attended mine known (at_start run.config).machine []
-    boot known = boot-attended mine run.config known high a
+    boot : (known : Known) → Attended (mine p t) known (at_start run.config).machine []
+    boot known = boot-attended (mine p t) run.config known high a
 
-  pub no_early_timer : NoEarlyTimerFor p run.after.entries
-  no_early_timer before later t e =
-      let h : IsTimely (mine t) before = at_prefixes (cases t) run (boot t) (omega arith) before later e in
-      rw (timer_events-ledger (mine t) before, ripe_armings-ledger (mine t) before) h
-
-  pub no_lost_timer : NoLostTimerFor p run.after.entries
-  no_lost_timer before t place = at_rest _ _ (cases t) (IsGivenAtRest (mine t)) (rest-given (mine t)) run (boot t) before place
+  pub timers-kept : TimersAreKept run.config.apps run.after.entries
+  timers-kept = record {
+    not_early = λ p a before later t e.
+        let h : IsTimely (mine p t) before = at_prefixes (cases p a t) run (boot p a t) (omega arith) before later e in
+        rw (timer_events-ledger (mine p t) before, standing-ledger (mine p t) before) h;
+    not_lost = λ p a before t. at_rest _ _ (cases p a t) (IsGivenAtRest (mine p t)) (rest-given (mine p t)) run (boot p a t) before;
+  }

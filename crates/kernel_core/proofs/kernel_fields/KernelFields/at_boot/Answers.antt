@@ -1,0 +1,21 @@
+use Rattle.std.proofs.Common.{rules, refl, ◌≡◌}
+use Rattle.kernel_core.proofs.Common.{no_timers, sizes_of, range_with_len, Item, no_pending_entries}
+use Rattle.device_core.specs.PacketQueue.{no_packets}
+use Rattle.kernel_core.proofs.FrameBlocks.{no_frames}
+use Rattle.kernel_core.specs.Code.Draws.{draws_of_item}
+use Rattle.kernel_core.proofs.Totals.{total-none}
+use Rattle.kernel_core.proofs.kernel_fields.KernelFields.at_boot.Goals as goal
+
+pub returns-clause-order : goal.returns-clause-order
+returns-clause-order c =
+    let packets : c.new.result ≡ no_packets = search rules in
+    let starts = total-none draws_of_item (λ p. Item.Start p) (range_with_len 4 c.args.config.apps) (λ p. refl) in
+    let frames = no_frames (sizes_of c.args.config) in
+    rw (c.requires.fresh, packets) (search (rules, starts))
+
+pub returns-clause-machine : goal.returns-clause-machine
+returns-clause-machine c =
+    let packets : c.new.result ≡ no_packets = search rules in
+    let pending : c.none.result ≡ no_pending_entries = search rules in
+    let timers : c.args.tables.timers.value.timers ≡ no_timers = rw c.requires.unarmed refl in
+    rw c.requires.fresh (rw c.requires.scheduler (rw timers (rw c.requires.serial (rw packets (rw pending refl)))))

@@ -1,0 +1,27 @@
+use Rattle.kernel_core.proofs.Common.{job_of}
+use Rattle.kernel_core.proofs.Reaching.{fields_reach}
+use Rattle.std.proofs.Common.{arith, rules}
+use Rattle.kernel_core.proofs.Drawing.{job_is_fit}
+use Rattle.kernel_core.proofs.Costs.{job_is_paid}
+use Rattle.kernel_core.proofs.kernel_fields.KernelFields.next_job.Goals as goal
+
+pub returns-clause-reached : goal.returns-clause-reached
+returns-clause-reached c = λ answers. search (rules, fields_reach)
+
+pub returns-clause-paid : goal.returns-clause-paid
+returns-clause-paid c = λ bound few.
+    job_is_paid bound c.args.self.now.scheduler.state c.next_to.new.self.state
+    (job_of c.next_to.result c.next_to.new.told) few c.next_to.ensures.job
+
+pub returns-clause-fit : goal.returns-clause-fit
+returns-clause-fit c =
+    let fit = job_is_fit c.args.self.now.timers.value.armings.drawn c.args.self.now.scheduler.state c.next_to.new.self.state
+    (job_of c.next_to.result c.next_to.new.told) c.requires.at_work.order.events c.next_to.ensures.job in
+    record { events = fit.0; draws = omega (arith, fit.1); job = fit.2 }
+
+pub returns-clause-served : goal.returns-clause-served
+returns-clause-served c = λ pid is bound few.
+    let told = (c.next_to.ensures.served pid is).2 in
+    let paid = job_is_paid bound c.args.self.now.scheduler.state c.next_to.new.self.state
+    (job_of c.next_to.result c.next_to.new.told) few c.next_to.ensures.job in
+    (rw (is, told) at paid).0

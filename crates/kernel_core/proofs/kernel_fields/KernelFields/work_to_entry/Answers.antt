@@ -1,0 +1,73 @@
+use Rattle.std.proofs.Common.{◌≡◌, rules, refl, arith, ap}
+use Rattle.kernel_core.proofs.Reaching.{then_job, job_makes, job_silently}
+use Rattle.kernel_core.proofs.Common.{present, KernelFields}
+use Rattle.kernel_core.proofs.kernel_fields.KernelFields.work_to_entry.Goals as goal
+
+pub returns-then-begin_turn-clause-awaits : goal.returns-then-begin_turn-clause-awaits
+returns-then-begin_turn-clause-awaits c =
+    λ is answers. job_makes (then_job (c.job.invariant.so_far answers) (c.in-TakeTurn.ensures.reached answers))
+    (c.begin_turn.ensures.begins (search rules) _)
+
+pub returns-in-TakeTurn-clause-goes : goal.returns-in-TakeTurn-clause-goes
+returns-in-TakeTurn-clause-goes c =
+    λ is answers.
+    job_makes (then_job (c.job.invariant.so_far answers) (c.in-TakeTurn.ensures.reached answers))
+    (c.begin_turn.ensures.halts (search rules) (answers c.in-TakeTurn.pid.0 c.next_job.new.told))
+
+pub job-preserved-in-Serve : goal.job-preserved-in-Serve
+job-preserved-in-Serve c = record {
+  found = search rules;
+  so_far = λ answers. job_silently (then_job (c.job.invariant.so_far answers) (c.in-Serve.ensures.reached answers))
+      (c.serve.ensures.machine answers _);
+  present =
+      let paid = c.in-Serve.ensures.paid _ c.job.invariant.present in
+      omega (arith, paid.1, c.serve.ensures.kept.present, c.job.invariant.present);
+}
+
+pub job-preserved-in-CallBack : goal.job-preserved-in-CallBack
+job-preserved-in-CallBack c = record {
+  found = search rules;
+  so_far = λ answers. (let same = ap (λ (k : KernelFields). k.timers) c.in-CallBack.ensures.taken.kept in
+      job_silently (then_job (c.job.invariant.so_far answers) (c.in-CallBack.ensures.reached answers))
+      (rw (← same) (c.expire.ensures.machine answers)));
+  present =
+      let paid = c.in-CallBack.ensures.paid _ c.job.invariant.present in
+      omega (arith, paid.1, c.expire.ensures.kept.present, c.job.invariant.present);
+}
+
+pub returns-in-Rest-clause-goes : goal.returns-in-Rest-clause-goes
+returns-in-Rest-clause-goes c =
+    λ is answers. record {
+      before = job_silently (then_job (c.job.invariant.so_far _) (c.in-Rest.ensures.reached _)) refl;
+      at_rest = search rules;
+    }
+
+pub returns-then-not-begin_round-clause-goes : goal.returns-then-not-begin_round-clause-goes
+returns-then-not-begin_round-clause-goes c =
+    λ is answers. job_makes (then_job (c.job.invariant.so_far _) (c.in-Round.ensures.reached _))
+    (c.begin_round.ensures.halts (search rules))
+
+pub job-preserved : goal.job-preserved
+job-preserved c = record {
+  found = search rules;
+  so_far = λ answers. job_silently (then_job (c.job.invariant.so_far answers) (c.in-Round.ensures.reached answers))
+      (c.begin_round.ensures.begins (search rules));
+  present =
+      let paid = c.in-Round.ensures.paid _ c.job.invariant.present in
+      let same = ap (λ (k : KernelFields). present k.scheduler.state) c.begin_round.ensures.kept in
+      omega (arith, same, paid.1, c.job.invariant.present);
+}
+
+pub job-smaller-in-CallBack : goal.job-smaller-in-CallBack
+job-smaller-in-CallBack c =
+    let bound = present c.args.self.now.scheduler.state in
+    let paid = c.in-CallBack.ensures.paid bound c.job.invariant.present in
+    let same : c.expire.new.self.work ≡ c.job.self.work = search rules in
+    rw same (omega (arith, paid.0, c.expire.ensures.kept.costs bound))
+
+pub job-smaller-in-Serve : goal.job-smaller-in-Serve
+job-smaller-in-Serve c =
+    let bound = present c.args.self.now.scheduler.state in
+    let paid = c.in-Serve.ensures.served _ refl bound c.job.invariant.present in
+    let same : c.serve.new.self.work ≡ c.job.self.work = search rules in
+    rw (c.serve.ensures.kept.agenda, same) (omega (arith, paid))

@@ -1,0 +1,161 @@
+-- The agenda is in order, and has p where p's state says.
+use Rattle.kernel_core.proofs.run_laws.Changes.{is_from_queue, farewells-same, all-delivered, all-mapped, is_note, behind, seats, state_of-seats, seats-with_state, seats-with_mark, seats-without}
+use Rattle.std.proofs.Common.{◌≡◌, ℕ, Bool, true, false, ◌||◌, List, [], ◌∷◌, ◌++◌, refl, arith, append-nil, if◌then◌else◌, ◌==◌, not, ◌&&◌, map}
+use Rattle.kernel_core.specs.Laws.EventLaws.{is_event_of_code}
+use Rattle.kernel_core.proofs.Common.{list_any, decide, Call, Stimulus, Origin, Entry, EXIT, list_all, State, Item, Scheduler, after_item, Machine, is_running, state_in, farewells, after_call}
+use Rattle.kernel_core.proofs.run_laws.event_order.AcceptedEvents.{ends_in}
+
+-- what may be below a Give of origin event
+abbrev is_walk : Item → Bool
+is_walk Item.Polls = true
+is_walk (Item.Give q origin stimulus) = is_from_queue origin
+is_walk _ = false
+
+abbrev is_empty : List Item → Bool
+is_empty [] = true
+is_empty _ = false
+
+abbrev is_fit_above : Item → List Item → Bool
+is_fit_above (Item.Give q origin stimulus) items = not (is_from_queue origin) || list_all is_walk items
+is_fit_above Item.Deliver items = is_empty items
+is_fit_above (Item.Show entry) items = is_note entry
+is_fit_above _ items = true
+
+abbrev pub is_ordered : List Item → Bool
+is_ordered [] = true
+is_ordered (item ∷ items) = is_fit_above item items && is_ordered items
+
+-- neither a Give of origin event nor a Deliver
+abbrev is_plain : Item → Bool
+is_plain (Item.Give q origin stimulus) = not (is_from_queue origin)
+is_plain Item.Deliver = false
+is_plain (Item.Show entry) = is_note entry
+is_plain _ = true
+
+ordered-append : (xs ys : List Item) → list_all is_plain xs ≡ true → is_ordered ys ≡ true → is_ordered (xs ++ ys) ≡ true
+ordered-append [] ys h o = o
+ordered-append (x ∷ xs) ys h o = grind (arith, ordered-append xs ys)
+
+ordered-walk : (xs : List Item) → list_all is_walk xs ≡ true → is_ordered xs ≡ true
+ordered-walk [] h = refl
+ordered-walk (x ∷ xs) h = grind (arith, ordered-walk xs)
+
+module _ (p : ℕ) where
+  -- what the agenda holds of p, while it hasn't ended
+
+  abbrev pub is_start : Item → Bool
+  is_start (Item.Start q) = q == p
+  is_start _ = false
+
+  abbrev is_turn_of : Item → Bool
+  is_turn_of (Item.Turn q origin stimulus) = q == p
+  is_turn_of _ = false
+
+  abbrev pub is_give_exit : Item → Bool
+  is_give_exit (Item.GiveExit q) = q == p
+  is_give_exit _ = false
+
+  abbrev pub is_exit_turn : Item → Bool
+  is_exit_turn (Item.Turn q origin stimulus) = q == p && is_event_of_code EXIT stimulus
+  is_exit_turn _ = false
+
+  abbrev is_remove : Item → Bool
+  is_remove (Item.Remove q) = q == p
+  is_remove _ = false
+
+  abbrev is_kept : State → List Item → Bool
+  is_kept State.Absent agenda = false
+  is_kept State.Running agenda = true
+  is_kept State.Called agenda = list_any is_turn_of agenda
+  is_kept State.Leaving agenda = list_any is_give_exit agenda
+  is_kept State.Ending agenda = list_any is_exit_turn agenda
+
+  -- not on the list, it will be started; on the list it is once
+  abbrev is_placed : List State → List Item → Bool
+  is_placed [] agenda = list_any is_start agenda
+  is_placed (state ∷ []) agenda = is_kept state agenda
+  is_placed _ agenda = false
+
+  -- before it leaves the list it gets EXIT
+  abbrev pub is_covered : List Item → Bool
+  is_covered [] = true
+  is_covered (item ∷ items) = if is_remove item then false else is_give_exit item || (is_exit_turn item || is_covered items)
+
+  abbrev pub stands : Scheduler Bool → Bool
+  stands s = is_placed (seats p s.processes) s.agenda && is_covered s.agenda
+
+  placed-append : (l : List State) (xs items : List Item) → is_placed l items ≡ true → is_placed l (xs ++ items) ≡ true
+  placed-append l [] items h = h
+  placed-append l (x ∷ xs) items h = grind (decide, placed-append l xs items h)
+
+  covered-append : (xs items : List Item) → list_all (λ item. not (is_remove item)) xs ≡ true → is_covered items ≡ true
+      → is_covered (xs ++ items) ≡ true
+  covered-append [] items n h = h
+  covered-append (x ∷ xs) items n h = grind (arith, covered-append xs items)
+
+pub carried-ordered : (item : Item) (s : Scheduler Bool) → is_ordered (item ∷ s.agenda) ≡ true
+    → is_ordered (after_item item s).agenda ≡ true
+carried-ordered = grind (decide, append-nil, ordered-walk, all-delivered, ordered-append, all-mapped)
+
+-- the items that are no turns
+abbrev pub is_silent : Item → Bool
+is_silent (Item.Turn q origin stimulus) = false
+is_silent _ = true
+
+module _ (p : ℕ) where
+  abbrev pub holds : List State → List Item → Bool
+  holds l agenda = is_placed p l agenda && is_covered p agenda
+
+  abbrev is_quiet : Item → Bool
+  is_quiet item = not (is_remove p item)
+
+  holds-append : (l : List State) (xs items : List Item) → list_all is_quiet xs ≡ true → holds l items ≡ true
+      → holds l (xs ++ items) ≡ true
+  holds-append = grind (decide, placed-append, covered-append)
+
+  -- an item that makes no entry keeps p's position
+  pub carried-stands : (item : Item) (s : Scheduler Bool) → is_silent item ≡ true → stands p (behind item s) ≡ true
+      → stands p (after_item item s) ≡ true
+  carried-stands (Item.Start q) s n h = grind (decide, state_of-seats)
+  carried-stands (Item.Give q origin stimulus) s n h = grind (decide, state_of-seats, seats-with_state)
+  carried-stands (Item.GiveExit q) s n h = grind (decide, seats-with_state)
+  carried-stands (Item.Remove q) s n h = grind (decide, seats-without)
+  carried-stands item s n h = grind (decide, holds-append, all-mapped, seats-with_mark, all-delivered)
+
+module _ (p : ℕ) where
+  -- nothing below a Give of origin event concerns p's position
+  walk-free : (items : List Item) → list_all is_walk items ≡ true
+      → (list_any (is_start p) items
+      || (list_any (is_turn_of p) items || (list_any (is_give_exit p) items || list_any (is_exit_turn p) items))) ≡ false
+  walk-free [] h = refl
+  walk-free (item ∷ items) h = grind (arith, h, walk-free items)
+
+  -- a Give of origin event finds p Running
+  pub given-running : (q : ℕ) (stimulus : Stimulus) (s : Scheduler Bool) → (q == p) ≡ true
+      → is_ordered (Item.Give q Origin.Event stimulus ∷ s.agenda) ≡ true
+      → stands p (behind (Item.Give q Origin.Event stimulus) s) ≡ true → is_running (state_in s q) ≡ true
+  given-running = grind (decide, walk-free, state_of-seats)
+
+module _ (q : ℕ) (m : Machine) (h : is_ordered m.scheduler.agenda ≡ true) where
+  pub after-ordered : (call : Call) → is_ordered (after_call call q m).scheduler.agenda ≡ true
+  after-ordered Call.Wait = grind (arith, h)
+  after-ordered Call.Exit = grind (decide, farewells-same is_ordered q (λ n items. refl))
+  after-ordered (Call.Kill r) = grind (decide, farewells-same is_ordered r (λ n items. refl))
+  after-ordered call = grind decide
+
+pub starts-ordered : (ns : List ℕ) → is_ordered (map (λ n. Item.Start n) ns) ≡ true
+starts-ordered [] = refl
+starts-ordered (n ∷ ns) = starts-ordered ns
+
+module _ (p : ℕ) where
+  holds-farewells : (l : List State) (q : ℕ) (s : Scheduler Bool) (rest agenda : List Item)
+      → holds p l ((farewells q s ++ rest) ++ agenda) ≡ holds p l (rest ++ agenda)
+  holds-farewells l q = farewells-same (holds p l) q (grind decide)
+
+  module _ (q : ℕ) (m : Machine) (origin : Origin) (stimulus : Stimulus) (h : stands p (behind (Item.Turn q origin stimulus) m.scheduler) ≡ true) where
+    pub after-stands : (call : Call) → ends_in p (Entry.Turn (record { 0 = q }) origin stimulus call) ≡ false
+        → stands p (after_call call q m).scheduler ≡ true
+    after-stands Call.Wait n = grind (decide, state_of-seats, seats-with_state)
+    after-stands Call.Exit n = grind (decide, seats-with_state, holds-farewells)
+    after-stands (Call.Kill r) n = grind (decide, seats-with_state, holds-farewells)
+    after-stands call n = grind (decide, seats-with_mark)

@@ -1,0 +1,173 @@
+-- What a call does to a timer: an arming puts it on the list with its new cell, a stop takes it off, and no other call moves it.
+use Rattle.std.proofs.Common.{◌≡◌, ℕ, true, false, not, List, [], ◌∷◌, refl, map, filter, nat_le, nat_lt, Bool, ◌&&◌, ◌||◌, arith, Option, Some, None, ◌==◌, if◌then◌else◌}
+use Rattle.kernel_core.specs.Laws.TimerLaws.{arms, cell_after, stops}
+use Rattle.timer_core.specs.Names.{callback_timer, event_timer}
+use Rattle.timer_core.specs.Code.Links.{cell_under}
+use Rattle.timer_core.specs.Timers.{NamedCell, armed_with, cell_of, stop_timer, with_cell, zero_cell}
+use Rattle.timer_core.specs.declared.timer.Cell.{Cell}
+use Rattle.kernel_core.proofs.Common.{list_any, decide, Timer, all_timers, is_timer, Timers, is_armed, Call, Reply, Refusal, Machine, with_timers, expiries_cancelled, after_call, answer_done, refused_or, is_callback_timer, is_done, deed}
+use Rattle.kernel_core.specs.Calls.{timer_refusal, callback_refusal}
+use Rattle.kernel_core.proofs.run_laws.event_order.Runs.{Known, FrontAgrees, told}
+
+-- timer t of process p
+pub record OwnTimer : Type 0 where
+  pub p : ℕ
+  pub t : ℕ
+
+-- the timers that have a cell
+abbrev pub cell_names : List NamedCell → List Timer
+cell_names cells = map (λ named. named.timer) cells
+
+module _ (timer : Timer) (cell : Cell) where
+  with_cell-names : (cells : List NamedCell) → cell_names (with_cell timer cell cells) ≡ cell_names cells
+  with_cell-names [] = refl
+  with_cell-names (named ∷ cells) = grind (decide, with_cell-names cells)
+
+  -- an arming keeps the names
+  pub armed-names : (timers : Timers) → cell_names (armed_with timer cell timers).cells ≡ cell_names timers.cells
+  armed-names timers = with_cell-names timers.cells
+
+pub zero-names : (timers : List Timer) → cell_names (map (λ timer. record { timer = timer; cell = zero_cell }) timers) ≡ timers
+zero-names [] = refl
+zero-names (timer ∷ timers) = rw (zero-names timers) refl
+
+module _ (timer : Timer) where
+  pub zero-cells : (timers : List Timer) → cell_under timer (map (λ timer. record { timer = timer; cell = zero_cell }) timers) ≡ zero_cell
+  zero-cells [] = refl
+  zero-cells (other ∷ others) = grind (decide, zero-cells others)
+
+  under-own : (cell : Cell) (cells : List NamedCell) → list_any (is_timer timer) (cell_names cells) ≡ true
+      → cell_under timer (with_cell timer cell cells) ≡ cell
+  under-own cell [] n = absurd (cc)
+  under-own cell (named ∷ cells) n = grind (decide, under-own cell cells)
+
+  module _ (other : Timer) (cell : Cell) where
+    under-other : (cells : List NamedCell) → is_timer timer other ≡ false
+        → cell_under timer (with_cell other cell cells) ≡ cell_under timer cells
+    under-other [] n = refl
+    under-other (named ∷ cells) n = grind (decide, under-other cells n)
+
+    cell-armed_other : (timers : Timers) → is_timer timer other ≡ false
+        → cell_of timer (armed_with other cell timers) ≡ cell_of timer timers
+    cell-armed_other = grind (decide, under-other)
+
+module _ (o : OwnTimer) where
+  abbrev pub own_timer : Timer
+  own_timer = event_timer o.p o.t
+
+  -- every application has its event timers
+
+  event_timer-named : nat_le 4 o.p ≡ true → nat_lt o.p 20 ≡ true → nat_le o.t 7 ≡ true
+      → list_any (is_timer own_timer) all_timers ≡ true
+  unfolding all_timers
+  event_timer-named = grind decide
+
+  cell-armed_own : (cell : Cell) (timers : Timers) → cell_names timers.cells ≡ all_timers → nat_le 4 o.p ≡ true
+      → nat_lt o.p 20 ≡ true → nat_le o.t 7 ≡ true → cell_of own_timer (armed_with own_timer cell timers) ≡ cell
+  cell-armed_own = grind (decide, under-own, event_timer-named)
+
+module _ (timer : Timer) where
+  pub stopped-own : (armed : List Timer)
+      → list_any (is_timer timer) (filter (λ other. not (is_timer timer other)) armed) ≡ false
+  stopped-own [] = refl
+  stopped-own (x ∷ xs) = grind (decide, stopped-own xs)
+
+  module _ (other : Timer) where
+    armed-other : (cell : Cell) (timers : Timers) → is_timer timer other ≡ false
+        → is_armed timer (armed_with other cell timers) ≡ is_armed timer timers
+    armed-other = grind decide
+
+    pub stopped-other : (armed : List Timer) → is_timer other timer ≡ false
+        → list_any (is_timer timer) (filter (λ x. not (is_timer other x)) armed) ≡ list_any (is_timer timer) armed
+    stopped-other [] n = refl
+    stopped-other (x ∷ xs) n = grind (decide, stopped-other xs n)
+
+abbrev pub is_timer_call : Call → Bool
+is_timer_call (Call.TimerSet u interval) = true
+is_timer_call (Call.TimerStop u) = true
+is_timer_call (Call.TimerReset u) = true
+is_timer_call (Call.TimerRestart u) = true
+is_timer_call (Call.CallbackSet c interval) = true
+is_timer_call (Call.CallbackStop c) = true
+is_timer_call _ = false
+
+-- p's timers have cells
+pub record Setting (p : ℕ) (timers : Timers) : Type 0 where
+  pub low : nat_le 4 p ≡ true
+  pub high : nat_lt p 20 ≡ true
+  pub names : cell_names timers.cells ≡ all_timers
+
+module _ (call : Call) (q : ℕ) (m : Machine) where
+  pub after-timers : is_timer_call call ≡ false → (after_call call q m).timers ≡ m.timers
+  after-timers h = grind (arith, h)
+
+  pub after-clock : (after_call call q m).clock ≡ m.clock
+  after-clock = grind arith
+
+module _ (o : OwnTimer) where
+  module _ (q : ℕ) where
+    -- the call of q with reply k arms timer t of p
+    abbrev is_set_by : Call → Option Reply → Bool
+    is_set_by call k = q == o.p && (is_done k && arms o.t (deed call))
+
+    abbrev is_moved_by : Call → Option Reply → Bool
+    is_moved_by call k = q == o.p && (is_done k && (arms o.t (deed call) || stops o.t (deed call)))
+
+    same_timer : (u : ℕ) → (q == o.p) ≡ true → (u == o.t) ≡ true → own_timer o ≡ event_timer q u
+    same_timer = grind decide
+
+    module _ (clock : ℕ) (call : Call) (k : Option Reply) where
+      pub record Moves (old new : Timers) : Type 0 where
+        pub kept : is_moved_by call k ≡ false → is_armed (own_timer o) new ≡ is_armed (own_timer o) old
+        pub cell : nat_le o.t 7 ≡ true → cell_of (own_timer o) new
+            ≡ (if is_set_by call k then cell_after o.t clock (deed call) (cell_of (own_timer o) old) else cell_of (own_timer o) old)
+        pub set : is_set_by call k ≡ true → is_armed (own_timer o) new ≡ true
+        pub named : is_set_by call k ≡ true → nat_le o.t 7 ≡ true
+        pub unset : (q == o.p && (is_done k && stops o.t (deed call))) ≡ true → is_armed (own_timer o) new ≡ false
+
+      -- a call that neither arms nor stops it
+      pub still_moves : (old new : Timers) → is_moved_by call k ≡ false
+          → is_armed (own_timer o) new ≡ is_armed (own_timer o) old
+          → (nat_le o.t 7 ≡ true → cell_of (own_timer o) new ≡ cell_of (own_timer o) old)
+          → Moves old new
+      still_moves = grind decide
+
+    -- a stop of timer u of q
+    stopped_moves : (u clock : ℕ) (k : Option Reply) (old : Timers) → ((q == o.p) ≡ true → k ≡ Some Reply.Done)
+        → Moves clock (Call.TimerStop u) k old (stop_timer (event_timer q u) old)
+    stopped_moves u clock k old told = record {
+      kept = grind (decide, stopped-other);
+      cell = grind decide;
+      set = grind decide;
+      named = grind decide;
+      unset = grind (decide, same_timer, stopped-own);
+    }
+
+  -- a call that may be refused
+  by_refusal : (call : Call) (q : ℕ) (known : Known) (m after : Machine) (refused : Option Refusal)
+      → FrontAgrees known (refused_or refused q m (answer_done q after)).scheduler.agenda
+      → (refused ≡ None → ((q == o.p) ≡ true → known o.p ≡ Some Reply.Done) → Moves q m.clock call (known o.p) m.timers after.timers)
+      → Moves q m.clock call (known o.p) m.timers (refused_or refused q m (answer_done q after)).timers
+  by_refusal = grind decide
+
+  module _ (q : ℕ) (known : Known) (m : Machine) (s : Setting o.p m.timers) where
+    pub after-moves : (call : Call) → FrontAgrees known (after_call call q m).scheduler.agenda
+        → Moves q m.clock call (known o.p) m.timers (after_call call q m).timers
+    after-moves (Call.TimerSet u interval) front =
+        grind (decide, still_moves, armed-other, cell-armed_other, same_timer, cell-armed_own)
+    after-moves (Call.TimerRestart u) front =
+        grind (decide, still_moves, armed-other, cell-armed_other, same_timer, cell-armed_own)
+    after-moves (Call.TimerReset u) front =
+        grind (decide, still_moves, armed-other, cell-armed_other, same_timer, cell-armed_own)
+    after-moves (Call.TimerStop u) front =
+        by_refusal (Call.TimerStop u) q known m (with_timers (stop_timer (event_timer q u) m.timers) m) (timer_refusal u) front
+        (λ e told. stopped_moves q u m.clock (known o.p) m.timers told)
+    after-moves (Call.CallbackSet c interval) front = grind (decide, by_refusal, still_moves, armed-other, cell-armed_other)
+    after-moves (Call.CallbackStop c) front =
+        let timer : Timer = callback_timer q c in
+        by_refusal (Call.CallbackStop c) q known m (expiries_cancelled (is_callback_timer q c) (with_timers (stop_timer timer m.timers) m))
+        (callback_refusal c) front
+        (λ e told.
+        still_moves q m.clock (Call.CallbackStop c) (known o.p) m.timers (stop_timer timer m.timers) (grind decide)
+        (stopped-other (own_timer o) timer m.timers.armed refl) (λ number. refl))
+    after-moves call front = grind (decide, after-timers, still_moves)
