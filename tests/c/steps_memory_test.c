@@ -32,8 +32,10 @@ main(void)
 {
   struct toarmuts_configuration sizes = TOARMUTS_DEFAULTS;
   struct toarmuts_mote mote = {0};
+  struct toarmuts_configuration bad_sizes = {6, 4096, 16, 0, 0, 0};
   uint32_t status = TOARMUTS_OUT_OF_MEMORY;
   bool given_back = true, still_closed = true;
+  check("bad sizes come first", toarmuts_open(&bad_sizes, 6, &mote) == TOARMUTS_BAD_SIZES);
   for(granted = 0; status == TOARMUTS_OUT_OF_MEMORY && granted < 1000; granted++) {
     asked = 0;
     status = toarmuts_open(&sizes, 6, &mote);

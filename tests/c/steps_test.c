@@ -83,6 +83,25 @@ check_order(void)
   check("close", toarmuts_close(&mote) == TOARMUTS_DONE && !mote.is_open && toarmuts_close(&mote) == TOARMUTS_CLOSED);
 }
 
+/* After ten thousand turns the mote halts, and takes nothing any more. */
+static void
+check_halt(void)
+{
+  static const struct toarmuts_call clock = {TOARMUTS_CALL_CLOCK, {0}, 0, 0, 0, {0}};
+  struct toarmuts_mote mote = closed_mote;
+  struct toarmuts_turn turn;
+  uint32_t step = TOARMUTS_TURN;
+  bool holds = toarmuts_open(&defaults, 1, &mote) == TOARMUTS_DONE;
+  for(int i = 0; i < 10000 && holds; i++) {
+    holds = toarmuts_next(&mote, &step, &turn) == TOARMUTS_DONE && step == TOARMUTS_TURN && toarmuts_submit(&mote, &clock) == TOARMUTS_DONE;
+  }
+  check("ten thousand turns", holds);
+  check("halt", toarmuts_next(&mote, &step, &turn) == TOARMUTS_DONE && step == TOARMUTS_ENTRY && line_is(&mote, "halt") &&
+                  toarmuts_next(&mote, &step, &turn) == TOARMUTS_DONE && step == TOARMUTS_HALT);
+  check("halted", feed(&mote, "tick 1") == TOARMUTS_HALTED && toarmuts_submit(&mote, &clock) == TOARMUTS_NO_TURN);
+  toarmuts_close(&mote);
+}
+
 /* Opens a mote with one application that answers these calls, one at each turn, and answers what it is told behind the last. */
 static struct toarmuts_turn
 told_behind(const struct toarmuts_call *calls, int count, const char *line)
@@ -593,6 +612,7 @@ main(int count, char **words)
   }
   check_words();
   check_order();
+  check_halt();
   check_turns();
   check_bundled();
   check_calls(count > 1 ? atol(words[1]) : 1000);

@@ -1,5 +1,7 @@
 mod BundledExamples
 mod Examples
+mod NetworkExamples
+mod Opened
 mod Parts
 mod ReadLines
 mod StepExamples

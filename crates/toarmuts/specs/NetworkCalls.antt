@@ -1,5 +1,6 @@
 -- What the calls say of which a network is asked step by step. A network in hand is closed, or has what is stepped.
-use Rattle.std.specs.Prelude.{◌≡◌, ◌+◌, ℕ, Bool, List, [], ◌∷◌, ◌++◌, length, slice_get, Option, Some, None, is_some, is_none, option_map, IsSomeAnd, if◌then◌else◌, ◌==◌, nat_lt}
+use Rattle.std.specs.Prelude.{◌≡◌, ◌+◌, ℕ, Bool, List, [], ◌∷◌, ◌++◌, length, slice_get, Option, Some, None, is_some, is_none, not, option_map, IsSomeAnd, if◌then◌else◌, ◌==◌, nat_lt}
+use Rattle.kernel_core.specs.Machine.{is_bootable}
 use Rattle.kernel_core.specs.declared.config.Config.{Config}
 use Rattle.mote_session.specs.SessionView.{SessionView}
 use Rattle.mote_types.specs.declared.call.Call.{Call}
@@ -78,6 +79,14 @@ mote_due_status (Some mote) = due_status_of (next_deadline mote.machine.timers)
 abbrev pub network_due_status : ℕ → StepsView → ℕ
 network_due_status number steps = mote_due_status (slice_get steps.net.motes (place_of number))
 
+-- when the next timer of that mote runs out
+abbrev pub due_of : Option SessionView → Option ℕ
+due_of None = None
+due_of (Some mote) = next_deadline mote.machine.timers
+
+abbrev pub mote_due : ℕ → StepsView → Option ℕ
+mote_due number steps = due_of (slice_get steps.net.motes (place_of number))
+
 -- what is done where the status is 0
 
 -- it was open and is, and went from old to new so
@@ -86,6 +95,10 @@ NetworkGoes R old new = IsSomeAnd old (λ before. IsSomeAnd new (λ after. R bef
 
 abbrev pub config_of_mote : NetworkMote → Config
 config_of_mote mote = config_in mote.configuration mote.applications
+
+-- no mote boots so
+abbrev pub is_unbootable : NetworkMote → Bool
+is_unbootable mote = not (is_bootable (config_of_mote mote))
 
 -- a mote at boot for each of these
 abbrev pub AreOpened : List NetworkMote → List SessionView → Type 0

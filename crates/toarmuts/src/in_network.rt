@@ -1,12 +1,16 @@
 //! What the calls do in an open network, and by which status they tell how it went.
 
-ghost use Rattle.std.specs.Prelude.{◌≡◌, ◌≢◌, ◌≤◌, ◌+◌, None, length as size_of, take, drop, true};
+ghost use Rattle.std.specs.Prelude.{◌≡◌, ◌≢◌, ◌≤◌, ◌+◌, None, Some, length as size_of, take, drop, true, false, IfNone, IfOk, IfSome, IsErrOf};
+ghost use Rattle.std.specs.List.{list_any};
+ghost use Rattle.kernel_core.specs.Machine.{is_bootable};
+ghost use Rattle.mote_types.specs.declared.fault.BootFault.{BootFault};
 ghost use Rattle.network_steps.specs.Lines.{came_line};
 ghost use Rattle.network_steps.specs.Refusals.{awaited_turn, link_refusal};
 ghost use Rattle.network_steps.specs.Works.{TakesFeed, TakesLink, TakesTicks};
-ghost use Rattle.toarmuts.specs.NetworkCalls.{NetworkGoesNext, NetworkTakesCall, awaits, fault_status_if, network_due_status, network_feed_status, network_line_status, network_submit_status, network_tick_status};
+ghost use Rattle.toarmuts.specs.Code.Opening.{IsMoteAdded};
+ghost use Rattle.toarmuts.specs.NetworkCalls.{AreOpened, IsNetworkOpened, NetworkGoesNext, NetworkTakesCall, awaits, config_of_mote, fault_status_if, is_unbootable, mote_due, network_due_status, network_feed_status, network_line_status, network_submit_status, network_tick_status};
 ghost use Rattle.toarmuts.specs.Networks.{place_of};
-ghost use Rattle.toarmuts.specs.Steps.{TellsTurn};
+ghost use Rattle.toarmuts.specs.Steps.{IsOpened, TellsTurn};
 
 use crate::call::PlainCall;
 use crate::in_session::{put_due, put_line};
@@ -23,7 +27,10 @@ use network_steps::steps::NetworkSteps;
 use std::alloc::Global;
 
 /// What a mote is to be. None, where it has too many applications.
-fn config_of(mote: &NetworkMote) -> Option<Config> {
+fn config_of(mote: &NetworkMote) -> Option<Config>
+    ensures some { IfSome result (λ config. config ≡ config_of_mote mote.now) }
+    ensures none { IfNone result (is_bootable (config_of_mote mote.now) ≡ false) }
+{
     let Ok(apps) = u8::try_from(mote.applications) else {
         return None;
     };
@@ -37,8 +44,37 @@ fn config_of(mote: &NetworkMote) -> Option<Config> {
     })
 }
 
+/// A mote that has just booted.
+fn boot_session(alloc: Global, config: Config) -> Result<Session, BootFault>
+    ensures opened { IfOk result (λ session. IsOpened config session) }
+    ensures bad_sizes { IsErrOf result BootFault.BadSizes → is_bootable config ≡ false }
+{
+    match Session::boot(alloc, config) {
+        Ok(session) => Ok(session),
+        Err(fault) => Err(fault),
+    }
+}
+
+/// Boots one more mote.
+fn boot_mote(alloc: Global, sessions: &mut Vec<Session>, config: Config) -> Result<(), BootFault>
+    ensures added { IfOk result (λ _. IsMoteAdded config sessions.old.items sessions.new.items) }
+    ensures bad_sizes { IsErrOf result BootFault.BadSizes → is_bootable config ≡ false }
+{
+    let session = match boot_session(alloc, config) {
+        Ok(session) => session,
+        Err(fault) => return Err(fault),
+    };
+    match sessions.push(session) {
+        Ok(()) => Ok(()),
+        Err(_) => Err(BootFault::Memory),
+    }
+}
+
 /// Boots these motes.
-fn boot_motes(alloc: Global, motes: &[NetworkMote]) -> Result<Vec<Session>, BootFault> {
+fn boot_motes(alloc: Global, motes: &[NetworkMote]) -> Result<Vec<Session>, BootFault>
+    ensures opened { IfOk result (λ sessions. AreOpened motes.now sessions.items) }
+    ensures bad_sizes { IsErrOf result BootFault.BadSizes → list_any is_unbootable motes.now ≡ true }
+{
     let Ok(mut sessions) = Vec::with_capacity(alloc, motes.len()) else {
         return Err(BootFault::Memory);
     };
@@ -46,21 +82,27 @@ fn boot_motes(alloc: Global, motes: &[NetworkMote]) -> Result<Vec<Session>, Boot
         let Some(config) = config_of(mote) else {
             return Err(BootFault::BadSizes);
         };
-        let session = Session::boot(alloc, config)?;
-        if sessions.push(session).is_err() {
-            return Err(BootFault::Memory);
+        match boot_mote(alloc, &mut sessions, config) {
+            Ok(()) => {}
+            Err(fault) => return Err(fault),
         }
     }
     Ok(sessions)
 }
 
-/// A network of these motes.
+/// A network of these motes, which have just booted.
 pub fn boot_network(
     alloc: Global,
     sizes: &NetworkSizes,
     motes: &[NetworkMote],
-) -> Result<Box<OpenNetwork>, BootFault> {
-    let sessions = boot_motes(alloc, motes)?;
+) -> Result<Box<OpenNetwork>, BootFault>
+    ensures opened { IfOk result (λ network. IsNetworkOpened sizes.now motes.now network.value.steps) }
+    ensures bad_sizes { IsErrOf result BootFault.BadSizes → list_any is_unbootable motes.now ≡ true }
+{
+    let sessions = match boot_motes(alloc, motes) {
+        Ok(sessions) => sessions,
+        Err(fault) => return Err(fault),
+    };
     let Ok(steps) = NetworkSteps::new(
         alloc,
         sessions,
@@ -182,6 +224,7 @@ pub fn put_network_line(open_network: &mut OpenNetwork, line: &mut [u8], length:
 /// Tells when the next timer of the mote of this number runs out.
 pub fn put_mote_due(steps: &NetworkSteps, number: u32, clock: &mut u64) -> u32
     ensures status { result ≡ network_due_status number steps.now }
+    ensures clock { result ≡ 0 → mote_due number steps.now ≡ Some clock.new }
     ensures no_clock { result ≢ 0 → clock.new ≡ clock.old }
 {
     match steps.due(place_of(number)) {

@@ -2,12 +2,13 @@
 //!
 //! Each takes the network out of what C holds, works, and puts it back. What C hands in can be anything, as for one mote.
 
-ghost use Rattle.std.specs.Prelude.{◌≡◌, ◌≢◌, ◌≤◌, ◌+◌, ◌↔◌, true, None, length as size_of, take, drop, is_some, IsSomeAnd};
+ghost use Rattle.std.specs.Prelude.{◌≡◌, ◌≢◌, ◌≤◌, ◌+◌, ◌↔◌, true, None, Some, length as size_of, take, drop, is_some, IsSomeAnd};
+ghost use Rattle.std.specs.List.{list_any};
 ghost use Rattle.network_steps.specs.Lines.{came_line};
 ghost use Rattle.network_steps.specs.Works.{TakesFeed, TakesLink, TakesTicks};
 ghost use Rattle.toarmuts.specs.BundledTurns.{NetworkTakesTurn, network_bundled_status};
 ghost use Rattle.toarmuts.specs.Inputs.{input_said};
-ghost use Rattle.toarmuts.specs.NetworkCalls.{NetworkGoes, NetworkGoesNext, NetworkTakesCall, awaits, network_due_status, network_feed_status, network_line_status, network_link_status, network_status, network_submit_status, network_tick_status, steps_in};
+ghost use Rattle.toarmuts.specs.NetworkCalls.{IsNetworkOpened, NetworkGoes, NetworkGoesNext, NetworkTakesCall, awaits, is_unbootable, mote_due, network_due_status, network_feed_status, network_line_status, network_link_status, network_status, network_submit_status, network_tick_status, steps_in};
 ghost use Rattle.toarmuts.specs.Networks.{link_said, place_of};
 
 use crate::application::PlainApplication;
@@ -33,9 +34,11 @@ pub extern "C" fn toarmuts_network_open(
     motes: &[NetworkMote],
     network: &mut HeldNetwork,
 ) -> u32
-    ensures opened { result ≡ 0 → ((steps_in network.old) ≡ None) × (is_some (steps_in network.new) ≡ true) }
+    ensures opened { result ≡ 0 → ((steps_in network.old) ≡ None) × IsSomeAnd (steps_in network.new) (IsNetworkOpened sizes.now motes.now) }
     ensures unchanged { result ≢ 0 → (steps_in network.new) ≡ (steps_in network.old) }
     ensures is_open { (result ≡ 23) ↔ (is_some (steps_in network.old) ≡ true) }
+    ensures bad_sizes { result ≡ 19 → list_any is_unbootable motes.now ≡ true }
+    ensures else_memory { result ≢ 0 → result ≢ 19 → result ≢ 23 → result ≡ 21 }
 {
     if let Some(open_network) = network.take(alloc) {
         network.put(alloc, open_network);
@@ -221,6 +224,7 @@ pub extern "C" fn toarmuts_network_due(
     clock: &mut u64,
 ) -> u32
     ensures status { result ≡ network_status (steps_in network.old) (network_due_status mote) }
+    ensures clock { result ≡ 0 → IsSomeAnd (steps_in network.old) (λ steps. mote_due mote steps ≡ Some clock.new) }
     ensures no_clock { result ≢ 0 → clock.new ≡ clock.old }
     ensures unchanged { (steps_in network.new) ≡ (steps_in network.old) }
 {
