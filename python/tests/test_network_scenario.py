@@ -10,6 +10,8 @@ from toarmuts.scenario import is_line, read_file
 WORKED = [place for place in sorted((ROOT / "tests/networks").glob("*.net")) if not place.with_suffix(".run").exists()]
 MOTE = "mote N WORD.. sets up the next motes, N or N..M, as mote does with these words"
 LINK = "link A B delay D is for two motes that there are, and D is at least 1"
+RULE = ("links are between motes that there are, with a delay of at least 1; "
+        "every N takes at least 1, lot C seed S at most 65536 for C")
 DIFFERS = "== one\nnetwork\nmote 1 hello\ntick 3\n1 4 synch 129 - -> print 68690a\n1 4 answer done -> wait\n= 4\n== two\nnetwork\nmote 1\n"
 
 
@@ -48,7 +50,7 @@ def test_lines():
     ("mote 3 hello --mmem", MOTE), ("mote 3 hello --size 8", MOTE), ("mote 3..2", MOTE), ("mote 3 calls ", MOTE),
     ("mote 3 nobody", "no application nobody"), ("mote 3 calls kill", "kill lacks a word"),
     ("mote 3 calls wait,clock", "there is no space after a comma"), ("link 1 3 delay 1", LINK), ("link 1 2 delay 0", LINK),
-    ("link 1 2 delay 01", LINK), ("link 1 2 delay 1 every 0", LINK), ("link 1 2 delay 1 lot 5", LINK),
+    ("link 1 2 delay 01", LINK), ("link 1 2 delay 1 every 0", RULE), ("link 1 2 delay 1 lot 5", RULE),
     ("ring 1..2 delay 1", "ring N..M delay D is for three motes or more that there are, and D is at least 1"),
     ("grid 1..2 delay 1", "grid N..M width W delay D is for motes that there are, and W and D are at least 1"),
     ("rounds many", "room and rounds take a number up to 4294967295"),

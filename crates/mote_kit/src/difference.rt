@@ -1,18 +1,11 @@
-//! Where a text differs from the expected one, for a human reader: the first line that does, or all; and whether it fits one
-//! of which parts are left out. These two only promise that they are safe and end.
+//! Where a text differs from the expected one, for a human reader: the first line that does.
 
-ghost use Rattle.std.specs.Prelude.{◌≡◌, ◌≢◌, ◌≤◌, length, OnOk, OnErr};
+ghost use Rattle.std.specs.Prelude.{◌≡◌, ◌≢◌, ◌≤◌, ◌==◌, ◌+◌, ◌-◌, ◌^◌, filter, length, min, OnOk, OnErr};
 
-mod alignment;
-mod change;
-mod gaps;
-
-pub use change::{Change, changes};
-pub use gaps::{GAP, fits};
 use std::fmt;
 
-/// The number of lines shown before.
-pub(crate) const LINES_BEFORE: usize = 3;
+/// The number of lines shown before the one that differs.
+pub const LINES_BEFORE: usize = 3;
 
 /// The first line at which a text differs from the one that was wanted.
 #[derive(Clone, Copy, Drop)]
@@ -47,6 +40,13 @@ fn last_line_begins(text: &[u8]) -> usize
         Some(end) => end + 1,
         None => 0,
     }
+}
+
+/// The number of line ends in a text.
+fn line_ends(text: &[u8]) -> usize
+    ensures { result ≡ length (filter (λ byte. byte == 10) text.now) }
+{
+    text.iter().filter(|byte| **byte == b'\n').count()
 }
 
 /// The line of a text that begins at this offset, with its line end if it has one.
@@ -95,9 +95,10 @@ fn write_line<W: fmt::Write>(f: &mut fmt::Formatter<W>, title: &str, line: &[u8]
 
 impl Difference<'_> {
     /// The number of the line, from 1 on.
-    pub fn number(&self) -> usize {
-        let ends = self.before.iter().filter(|byte| **byte == b'\n').count();
-        ends.saturating_add(1)
+    pub fn number(&self) -> usize
+        ensures { result ≡ min (length (filter (λ byte. byte == 10) self.now.before.now) + 1) (2 ^ 64 - 1) }
+    {
+        line_ends(self.before).saturating_add(1)
     }
 }
 

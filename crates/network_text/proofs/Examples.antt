@@ -7,6 +7,7 @@ use Rattle.medium_core.specs.declared.link.Link.{Link}
 use Rattle.medium_core.specs.declared.link.Loss.{Loss}
 use Rattle.mote_text.specs.EntryText.{entry_line, line_of}
 use Rattle.mote_text.specs.Script.{read_line}
+use Rattle.mote_text.specs.Transcript.{prints_or_sends}
 use Rattle.mote_text.specs.declared.script.End.{End}
 use Rattle.mote_types.specs.declared.call.Call.{Call}
 use Rattle.mote_types.specs.declared.entry.Entry.{Entry}
@@ -85,7 +86,7 @@ waits = Happening.Makes 0 (Entry.Turn (record { 0 = 4 }) Origin.Answer (Stimulus
 
 quietly : log_text true (still_air 0 links) (waits ∷ sends ∷ Happening.Passes 9 ∷ Happening.Makes 1 Entry.Halt ∷ [])
     ≡ codes "1 note sent 0a0b\n2 halt\n"
-unfolding entry_line line_of digits encode_with
+unfolding prints_or_sends entry_line line_of digits encode_with
 quietly = refl
 
 -- ---- inputs

@@ -2,10 +2,13 @@
 //! that it ends; what a run writes is promised by the contracts of `mote_run`'s `run` and `network_setup`'s `run_setup`.
 #![tactic(auto)]
 
+mod alignment;
+mod change;
 mod command_line;
 mod fault;
 mod files;
 mod flaw;
+mod gaps;
 mod inputs;
 mod network;
 mod network_script;

@@ -47,6 +47,16 @@ fn form_of(word: &str) -> Option<&'static str> {
     }
 }
 
+/// What a malformed line should be: another text where it has links with a rule for losses.
+fn form_with_rule(form: &'static str, word: &str, line: &str) -> &'static str {
+    let has_links = matches!(word, "link" | "line" | "mesh" | "ring" | "grid");
+    if has_links && (line.contains(" every ") || line.contains(" lot ")) {
+        "links are between motes that there are, with a delay of at least 1; every N takes at least 1, lot C seed S at most 65536 for C"
+    } else {
+        form
+    }
+}
+
 /// What is wrong with the words of a mote, if that is one of its applications.
 fn fault_of_mote(text: &str) -> Option<Fault<'_>> {
     let (words, calls) = text.split_once(" calls ").unwrap_or((text, ""));
@@ -109,7 +119,9 @@ impl NetworkLines {
                 Err(LineFault::Malformed) if word == "mote" => {
                     return Err(fault_of_mote(rest).unwrap_or(Fault::Form(form)));
                 }
-                Err(LineFault::Malformed) => return Err(Fault::Form(form)),
+                Err(LineFault::Malformed) => return Err(Fault::Form(form_with_rule(
+                    form, word, line,
+                ))),
             }
         }
         Ok(())

@@ -2,11 +2,13 @@
 
 ghost use Rattle.std.specs.Prelude.{◌<◌};
 
+use crate::change::changes;
+use crate::gaps::fits;
 use crate::network_script::run_network_script;
 use crate::program::{Acts, Program};
 use crate::scenario::Scenario;
 use call_lists::Reactions;
-use mote_kit::difference::{changes, compare, fits};
+use mote_kit::difference::compare;
 use mote_kit::fault::MoteFault;
 use mote_kit::mote::run_boxes;
 use mote_kit::script::Script;

@@ -1,6 +1,7 @@
 //! A run of a file, and what the file says of its outcome. `docs/scenarios.md` has the format.
 
 use crate::fault::Fault;
+use crate::gaps::GAP;
 use crate::inputs::{Inputs, push_lines};
 use crate::network;
 use crate::network::NetworkLines;
@@ -8,7 +9,6 @@ use crate::parts::Part;
 use crate::program::Program;
 use crate::sizes::{Given, GivenSizes, are_few};
 use call_lists::number_of;
-use mote_kit::difference::GAP;
 use network_facts::read_network_line;
 use node_memory::Sizes;
 use std::alloc::{AllocError, Global};

@@ -1,10 +1,10 @@
 //! The text of a file in which each run has its transcript, and replaces the file by it.
 
 use crate::files::ScenarioFile;
+use crate::gaps::fits;
 use crate::parts::Part;
 use crate::run::{Outcome, WHOLE, lines_of, outcome_of};
 use crate::scenario::{Scenario, ToldLine};
-use mote_kit::difference::fits;
 use std::alloc::{AllocError, Global};
 use std::fs::{File, OpenFile};
 use std::io::Write;

@@ -37,6 +37,8 @@ _FORMS = {
     "room": "room and rounds take a number up to 4294967295",
     "rounds": "room and rounds take a number up to 4294967295",
 }
+_FORM_WITH_RULE = ("links are between motes that there are, with a delay of at least 1; "
+                   "every N takes at least 1, lot C seed S at most 65536 for C")
 
 
 def _span(word: str) -> range:
@@ -97,6 +99,12 @@ def _add_links(network: Network, line: str) -> None:
         network.grid(read_number(found["width"], MOST_NUMBER, 1), _span(found["cells"]), **numbers)
 
 
+def _form_of(word: str, line: str) -> str:
+    """What a malformed line of this first word should be."""
+    has_rule = word in ("link", "line", "mesh", "ring", "grid") and (" every " in line or " lot " in line)
+    return _FORM_WITH_RULE if has_rule else _FORMS[word]
+
+
 def _set_up(network: Network, word: str, line: str) -> None:
     """Does what a line says before the first input."""
     rest = line.partition(" ")[2]
@@ -153,9 +161,9 @@ class NetworkScenario(Scenario):
         try:
             _set_up(self.network, word, line)
         except BadCall as fault:
-            raise BadScenario(fault.reason if word == "mote" else _FORMS[word]) from None
+            raise BadScenario(fault.reason if word == "mote" else _form_of(word, line)) from None
         except (BadNetwork, BadSizes, NoApplication, TooManyApplications, WrongType) as fault:
-            raise BadScenario(str(fault) if str(fault).startswith("no application") else _FORMS[word]) from None
+            raise BadScenario(str(fault) if str(fault).startswith("no application") else _form_of(word, line)) from None
 
     def _take_input(self, word: str, line: str) -> None:
         read_only_by_program(line)

@@ -7,17 +7,20 @@ use Rattle.network_setup.proofs.links.add_line.Goals as goal
 
 pub loop-a-preserved : goal.loop-a-preserved
 loop-a-preserved c =
-    one_more (λ a. both_ways a (a + 1)) (line_links c.args.span.first c.args.span.last) c.loop-a.a (c.args.span.last) c.args.carriage.now c.loop-a.carriage c.add_pair.new.carriage (link_lists c.args.links.now)
+    one_more (λ a. both_ways a (a + 1)) (line_links c.args.span.first c.args.span.last) c.loop-a.a (c.args.span.last)
+    c.args.carriage.now c.loop-a.carriage c.add_pair.new.carriage (link_lists c.args.links.now)
     (link_lists c.loop-a.links) (link_lists c.add_pair.new.links) (omega arith) c.loop-a.invariant c.in_ok-add_pair.ensures
 
 pub returns-in_err-add_pair : goal.returns-in_err-add_pair
 returns-in_err-add_pair c =
     let p = err_from_is_err_and c.from_residual.result c.from_residual.ensures.1 in
     rw (p.1, p.2)
-    (one_fails (λ a. both_ways a (a + 1)) (line_links c.args.span.first c.args.span.last) c.loop-a.a (c.args.span.last) c.args.carriage.now c.loop-a.carriage c.add_pair.new.carriage (link_lists c.args.links.now)
+    (one_fails (λ a. both_ways a (a + 1)) (line_links c.args.span.first c.args.span.last) c.loop-a.a (c.args.span.last)
+    c.args.carriage.now c.loop-a.carriage c.add_pair.new.carriage (link_lists c.args.links.now)
     (link_lists c.loop-a.links) (link_lists c.add_pair.new.links) _ (omega arith) c.loop-a.invariant c.in_err-add_pair.ensures)
 
 pub returns : goal.returns
 returns c =
-    none_left (λ a. both_ways a (a + 1)) (line_links c.args.span.first c.args.span.last) c.loop-a.a (c.args.span.last) c.args.carriage.now c.loop-a.carriage c.loop-a.carriage (link_lists c.args.links.now)
+    none_left (λ a. both_ways a (a + 1)) (line_links c.args.span.first c.args.span.last) c.loop-a.a (c.args.span.last)
+    c.args.carriage.now c.loop-a.carriage c.loop-a.carriage (link_lists c.args.links.now)
     (link_lists c.loop-a.links) (link_lists c.loop-a.links) (omega arith) c.loop-a.invariant

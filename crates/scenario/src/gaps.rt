@@ -1,7 +1,7 @@
 //! Texts of which parts are left out.
 
 /// The line that matches any lines.
-pub const GAP: &str = "...";
+pub(crate) const GAP: &str = "...";
 
 /// The first position of these lines in a text, if they are there.
 fn place_of(lines: &[&str], text: &[&str]) -> Option<usize> {
@@ -16,7 +16,7 @@ fn behind<'x>(lines: &'x [&'x str], text: &'x [&'x str]) -> Option<&'x [&'x str]
 }
 
 /// Whether a text is as expected, where a line `...` of the expected one matches any lines, none included.
-pub fn fits<'x>(wanted: &'x [&'x str], found: &'x [&'x str]) -> bool {
+pub(crate) fn fits<'x>(wanted: &'x [&'x str], found: &'x [&'x str]) -> bool {
     let mut parts = wanted.split(|line| *line == GAP);
     let front = parts.next().unwrap_or(&[]);
     let Some(mut rest) = found.strip_prefix(front) else {
