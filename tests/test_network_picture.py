@@ -19,7 +19,7 @@ from typing import Iterator, Sequence
 
 import pytest
 
-import test_faults
+from fault_library import Faults
 from test_network import WORKED, how, with_stream
 from test_network_random import drawn_network
 from tools import EXAMPLES, ROOT, needs, program, run, succeed, told, write_program
@@ -31,19 +31,16 @@ PARTS = 4
 FIRST_LANE, TOP, ROW = 78, 78, 16
 START = re.compile(r"M(\d+),(\d+)")
 HEADER = bytes.fromhex("d4c3b2a1" "0200" "0400" "00000000" "00000000" "7f000000" "e6000000")
-faults = test_faults.faults
 
 Rows = list[tuple[int, str]]
 Arrows = Counter[tuple[str, str]]
 
 
 def drawn(transcript: bytes, *words: str) -> bytes:
-    """What the program writes."""
     return succeed(program("network_picture"), *words, stdin=transcript).stdout
 
 
 def transcript_of(script: str) -> bytes:
-    """The transcript of a network."""
     ran = run(program("network"), stdin=script.encode())
     assert ran.returncode in (0, 2, 3), told(ran)
     return ran.stdout
@@ -83,16 +80,14 @@ def test_capture_of_three(network_picture: Path) -> None:
     assert succeed(network_picture, "--pcap", stdin=THREE.with_suffix(".transcript")).stdout == wanted
 
 
-def test_capture_with_its_script(network_picture: Path) -> None:
+def test_capture_with_its_script() -> None:
     """A capture needs no script, and a script before the transcript changes nothing."""
     transcript = THREE.with_suffix(".transcript").read_bytes()
-    assert network_picture.exists()
     assert drawn(THREE.read_bytes() + transcript, "--pcap") == drawn(transcript, "--pcap")
 
 
-def test_captures_of_worked_networks(network_picture: Path) -> None:
+def test_captures_of_worked_networks() -> None:
     """Each frame of each worked network, with its moment."""
-    assert network_picture.exists()
     for script in WORKED:
         if not how(script)[1]:
             transcript = script.with_suffix(".transcript").read_bytes()
@@ -139,7 +134,6 @@ class Chart:
 
 
 def title_of(element: ElementTree.Element) -> str:
-    """What an element has for a title."""
     return (element[0].text or "") if len(element) else ""
 
 
@@ -150,7 +144,6 @@ def lane_of(left: int, width: int) -> int:
 
 
 def chart_of(picture: bytes) -> Chart:
-    """Reads a chart."""
     root = ElementTree.fromstring(picture)
     areas = [it for it in root if it.get("class") == "t"]
     width = int(areas[0].get("width") or 0) + 8 if areas else 1
@@ -180,9 +173,8 @@ SECOND = [(1, "1 > frame 0c"), (1, "1 4 event 139 1 -> mmem-alloc 0 1"), (1, "1 
           (3, "3 4 event 136 0 -> print 6f6e0a")]
 
 
-def test_chart_of_three(network_picture: Path) -> None:
+def test_chart_of_three() -> None:
     """Its rows, its clocks, three frames that are heard, one that is lost, and two from outside."""
-    assert network_picture.exists()
     chart = chart_of(drawn(THREE.read_bytes() + THREE.with_suffix(".transcript").read_bytes()))
     assert chart.rows == STARTED + FIRST + SECOND
     assert chart.heard == {("1 note sent 0a0b", "2 > frame 0a0b"): 1, ("2 note sent 0a0b", "3 > frame 0a0b"): 1,
@@ -191,12 +183,11 @@ def test_chart_of_three(network_picture: Path) -> None:
     assert chart.words[0] == "a network of 3"
     assert chart.words[1] == "clock 12, frames sent 4, heard 3, missed 0, lost 1, no room 0, under way 0, from outside 2"
     assert [word for word in chart.words if word.isdigit()] == ["1", "2", "3", "0", "3", "4", "5", "8", "10"]
-    assert "lost on the way to 3" in chart.words
+    assert "lost to 3" in chart.words
 
 
-def test_stored_chart(network_picture: Path) -> None:
+def test_stored_chart() -> None:
     """The picture in the pages is that of the program."""
-    assert network_picture.exists()
     assert drawn(THREE.read_bytes() + THREE.with_suffix(".transcript").read_bytes()) == THREE.with_suffix(".svg").read_bytes()
 
 
@@ -208,39 +199,35 @@ def test_chart_without_a_script(network_picture: Path) -> None:
     assert "No script: which send a frame belongs to isn't known." in chart.words
 
 
-def test_part_of_a_run(network_picture: Path) -> None:
+def test_part_of_a_run() -> None:
     """The rows between two clocks, both of them shown, and frames that are under way at these."""
-    assert network_picture.exists()
     chart = chart_of(drawn(THREE.read_bytes() + THREE.with_suffix(".transcript").read_bytes(), "--from", "3", "--to", "5"))
     assert chart.rows == FIRST[3:] + SECOND[:3]
     assert sum(chart.heard.values()) == 3
 
 
-def test_halted_motes(network_picture: Path) -> None:
+def test_halted_motes() -> None:
     """A frame that a halted mote misses, and an input that it misses."""
     script = "mote 1 relay\nmote 2 clock-watcher\nmote 3 relay\nlink 1 2 delay 1\nlink 1 3 delay 1\n1 frame 01\ntick 1\n2 frame 02\n"
-    assert network_picture.exists()
     chart = chart_of(drawn(script.encode() + transcript_of(script)))
     assert chart.missed == {("1 note sent 01", "missed 1 2"): 1}
     assert chart.heard == {("1 note sent 01", "3 > frame 01"): 1}
-    assert {"✗ halted", "✗ missed, from 1", "✗ missed, from outside"} <= set(chart.words)
+    assert {"✗ halted", "✗ missed from 1", "✗ missed from outside"} <= set(chart.words)
 
 
-def test_long_run(network_picture: Path) -> None:
+def test_long_run() -> None:
     """Of more than 1,000 rows the first 500 and the last 500 are shown, and the picture says how many are left out."""
     script = "mote 1 blink\ntick 15000\n"
     transcript = transcript_of(script)
-    assert network_picture.exists()
     chart = chart_of(drawn(script.encode() + transcript))
     rows = [line for line in transcript.decode().splitlines() if " 4 event " in line or " 4 synch " in line]
     assert len(rows) == 1501 and [line for _, line in chart.rows] == rows[:500] + rows[-500:]
     assert "501 rows are left out: --from and --to show them" in chart.words
 
 
-def test_many_motes(network_picture: Path) -> None:
+def test_many_motes() -> None:
     """Of more than 64 motes the first 64 have lanes, and the picture says so."""
     script = "mote 1..70 relay\nline 1..70 delay 1\n64 frame 01\ntick 1\n"
-    assert network_picture.exists()
     chart = chart_of(drawn(script.encode() + transcript_of(script)))
     assert "motes 65 to 70 are left out. " in chart.words
     assert chart.heard == {("64 note sent 01", "63 > frame 01"): 1}
@@ -248,9 +235,8 @@ def test_many_motes(network_picture: Path) -> None:
 
 
 @needs("xmllint")
-def test_worked_charts(network_picture: Path) -> None:
+def test_worked_charts() -> None:
     """The chart of each worked network is well-formed."""
-    assert network_picture.exists()
     for script in WORKED:
         if not how(script)[1]:
             picture = drawn(script.read_bytes() + b"\n" + script.with_suffix(".transcript").read_bytes())
@@ -261,7 +247,6 @@ def test_worked_charts(network_picture: Path) -> None:
 
 
 def is_row(line: str) -> bool:
-    """Whether a line has a row."""
     words = line.split()
     if words[0] == "=" or words[1:3] == [">", "tick"]:
         return False
@@ -318,9 +303,8 @@ def check_picture(seed: int) -> None:
 
 
 @pytest.mark.parametrize("part", range(PARTS))
-def test_random_networks(network: Path, network_picture: Path, part: int) -> None:
+def test_random_networks(network: Path, part: int) -> None:
     """Each row and each arrow is there."""
-    assert network.exists() and network_picture.exists()
     for seed in range(part, NETWORKS, PARTS):
         try:
             check_picture(seed)
@@ -337,10 +321,9 @@ SHAPES = {
 
 
 @pytest.mark.parametrize("shape", SHAPES)
-def test_shapes(network: Path, network_picture: Path, shape: str) -> None:
+def test_shapes(shape: str) -> None:
     """The links of each shape, both ways: no arrival is taken for one from outside but the four that are."""
     script = f"mote 1..4 relay\n{shape}\n" + "".join(f"{mote} frame 0{mote}\ntick 1\n" for mote in range(1, 5)) + "tick 1\n"
-    assert network.exists() and network_picture.exists()
     chart = chart_of(drawn(script.encode() + transcript_of(script)))
     assert chart.outside == [f"{mote} > frame 0{mote}" for mote in range(1, 5)]
     ways = {(int(sent.split()[0]), int(heard.split()[0])) for sent, heard in chart.heard}
@@ -380,7 +363,6 @@ def test_bad_scripts(network_picture: Path, line: str) -> None:
 
 
 def test_quiet_transcripts(network_picture: Path) -> None:
-    """A quiet transcript has no clock."""
     quiet = b"1 4 synch 129 - -> print 68690a\n1 4 answer done -> packet-send 0\n1 note sent 0a\n2 halt\n"
     for words in ((), ("--pcap",)):
         ran = run(network_picture, *words, stdin=quiet)
@@ -424,7 +406,7 @@ def both(tmp_path: Path) -> Path:
 
 
 @pytest.mark.parametrize("words", [(), ("--pcap",)], ids=["chart", "capture"])
-def test_refused_growths(network_picture: Path, faults: test_faults.Faults, both: Path, words: tuple[str, ...]) -> None:
+def test_refused_growths(network_picture: Path, faults: Faults, both: Path, words: tuple[str, ...]) -> None:
     """Where memory is refused, nothing is written."""
     whole = faults(both, "REFUSE", 0, network_picture, *words)
     assert (whole.status, whole.stderr) == (0, "")

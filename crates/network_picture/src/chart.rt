@@ -7,9 +7,9 @@ use crate::flying::{draw_flights, draw_outside};
 use crate::options::Wish;
 use crate::place::{CLOCK, Layout, MOST_LANES, ROW};
 use crate::reading::Run;
-use crate::rows::{MOST_ROWS, Row, Rows};
+use crate::rows::{MOST_ROWS, Rows};
 use crate::style::STYLE;
-use crate::words::{clipped, words_of};
+use crate::words::{Words, clipped, words_of};
 use network_facts::{Fate, Flights, Link, NetworkLine, flights_of};
 use picture_svg::markup::{Attribute, Content, Element, Tag};
 use picture_svg::page::pen::{Area, Pen, Place};
@@ -187,20 +187,22 @@ fn draw_clock(pen: &mut Pen, layout: &Layout, at: usize, clock: u64) -> Result<(
     pen.text("e", place, text.as_str())
 }
 
-/// Draws what a line says beside the lane of its mote; its whole text is its title.
-fn draw_row(
+/// What is drawn of a row: its words are above the frames, its area below them, so that one can point at a frame.
+#[derive(Clone, Copy, Drop)]
+enum Layer {
+    Area,
+    Words,
+}
+
+/// Draws the area of a row, with the whole line as its title, and the dot of its mote.
+fn draw_area(
     pen: &mut Pen,
     layout: &Layout,
     at: usize,
-    line: &NetworkLine<'_>,
+    words: &Words,
     text: &str,
 ) -> Result<(), AllocError> {
-    let words = words_of(pen.alloc, line)?;
-    let mote = words.mote.unwrap_or(1);
-    if !layout.has_lane(mote) {
-        return Ok(());
-    }
-    let left = layout.left_of(mote);
+    let left = layout.left_of(words.mote.unwrap_or(1));
     let area = Area {
         place: Place {
             left: left.saturating_sub(3),
@@ -213,12 +215,37 @@ fn draw_row(
     if words.mote.is_some() {
         draw_dot(pen, left, layout.middle_of(at))?;
     }
+    Ok(())
+}
+
+/// Draws the words of a row, as many characters as the lane has room for.
+fn draw_words(pen: &mut Pen, layout: &Layout, at: usize, words: &Words) -> Result<(), AllocError> {
     let short = clipped(pen.alloc, words.text.as_str(), layout.characters())?;
+    let left = layout.left_of(words.mote.unwrap_or(1));
     let place = Place {
         left: left.saturating_add(if words.has_cross { 18 } else { 14 }),
         top: layout.top_of(at).saturating_add(ROW - 5),
     };
     pen.text(if words.is_red { "r" } else { "n" }, place, short.as_str())
+}
+
+/// Draws a layer of what a line says beside the lane of its mote.
+fn draw_row(
+    pen: &mut Pen,
+    layout: &Layout,
+    at: usize,
+    line: &NetworkLine<'_>,
+    text: &str,
+    layer: Layer,
+) -> Result<(), AllocError> {
+    let words = words_of(pen.alloc, line)?;
+    if !layout.has_lane(words.mote.unwrap_or(1)) {
+        return Ok(());
+    }
+    match layer {
+        Layer::Area => draw_area(pen, layout, at, &words, text),
+        Layer::Words => draw_words(pen, layout, at, &words),
+    }
 }
 
 /// Draws that a mote does something.
@@ -234,37 +261,45 @@ fn draw_dot(pen: &mut Pen, left: usize, middle: usize) -> Result<(), AllocError>
     pen.area("s", area, "")
 }
 
-/// Draws a row, where it isn't left out, and the clock where it has changed.
-fn draw_line(
+/// Draws the clock before a row, where it has changed, or where rows are left out.
+fn draw_moment(
     pen: &mut Pen,
     chart: &Chart,
-    run: &Run<'_>,
-    number: usize,
-    row: Row,
+    at: usize,
+    clock: u64,
     before: Option<u64>,
 ) -> Result<(), AllocError> {
-    let Some(at) = chart.rows.shown_at(number) else {
-        return Ok(());
-    };
     let is_after_fold = chart.rows.folded > 0 && at == MOST_ROWS / 2 + 1;
-    if before != Some(row.clock) || is_after_fold {
-        draw_clock(pen, &chart.layout, at, row.clock)?;
+    if before != Some(clock) || is_after_fold {
+        draw_clock(pen, &chart.layout, at, clock)?;
     }
-    let (lines, texts) = (run.lines.as_slice(), run.texts.as_slice());
-    match (lines.get(row.line), texts.get(row.line)) {
-        (Some(line), Some(text)) => draw_row(pen, &chart.layout, at, line, text),
-        _ => Ok(()),
-    }
+    Ok(())
 }
 
-/// Draws all rows.
-fn draw_rows(pen: &mut Pen, chart: &Chart, run: &Run<'_>) -> Result<(), AllocError> {
-    let mut clock = None;
-    let mut number: usize = 0;
-    for row in chart.rows.rows.as_slice() {
-        draw_line(pen, chart, run, number, *row, clock)?;
-        clock = Some(row.clock);
-        number = number.saturating_add(1);
+/// Draws a layer of all rows that aren't left out.
+fn draw_rows(pen: &mut Pen, chart: &Chart, run: &Run<'_>, layer: Layer) -> Result<(), AllocError> {
+    let (lines, texts) = (run.lines.as_slice(), run.texts.as_slice());
+    for (number, row) in chart.rows.rows.iter().enumerate() {
+        let shown = (
+            chart.rows.shown_at(number),
+            lines.get(row.line),
+            texts.get(row.line),
+        );
+        if let (Some(at), Some(line), Some(text)) = shown {
+            draw_row(pen, &chart.layout, at, line, text, layer)?;
+        }
+    }
+    Ok(())
+}
+
+/// Draws the moments at which rows are.
+fn draw_moments(pen: &mut Pen, chart: &Chart) -> Result<(), AllocError> {
+    let mut before = None;
+    for (number, row) in chart.rows.rows.iter().enumerate() {
+        if let Some(at) = chart.rows.shown_at(number) {
+            draw_moment(pen, chart, at, row.clock, before)?;
+        }
+        before = Some(row.clock);
     }
     Ok(())
 }
@@ -330,9 +365,11 @@ fn drawn(alloc: Global, chart: &Chart, run: &Run<'_>) -> Result<Content, AllocEr
     draw_ground(&mut pen, &chart.layout)?;
     draw_head(&mut pen, chart, run)?;
     draw_lanes(&mut pen, &chart.layout)?;
-    draw_rows(&mut pen, chart, run)?;
-    draw_fold(&mut pen, chart)?;
+    draw_moments(&mut pen, chart)?;
+    draw_rows(&mut pen, chart, run, Layer::Area)?;
     draw_frames(&mut pen, chart, run)?;
+    draw_rows(&mut pen, chart, run, Layer::Words)?;
+    draw_fold(&mut pen, chart)?;
     Ok(pen.content)
 }
 

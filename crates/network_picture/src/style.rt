@@ -1,8 +1,8 @@
 //! How the classes of a chart look.
 
-/// The style of a chart: of texts `b` bold, `g` grey, `h` the head, `r` a frame that isn't heard, `e` ended where it stands, `c` in the middle;
-/// of areas `w` the ground, `t` a row, `s` what a mote does, `u` rows that are left out; of lines `d` a lane, `k` a moment, `a` a frame that is heard, `x` one that isn't, `o` one
-/// from outside.
+/// The style of a chart: of texts `b` bold, `g` grey, `h` the head, `n` a row, `r` a frame that isn't heard, `e` ended where it stands, `c`
+/// in the middle; of areas `w` the ground, `t` a row, `s` what a mote does, `u` rows that are left out; of lines `d` a lane, `k` a moment,
+/// `a` a frame that is heard, `x` one that isn't, `o` one from outside. The words of a row have a white edge, as arrows are behind them.
 pub(crate) const STYLE: &str = "\
 svg{font:10px 'DejaVu Sans',Verdana,sans-serif}\
 text{fill:#222;white-space:pre;pointer-events:none}\
@@ -10,6 +10,7 @@ text{fill:#222;white-space:pre;pointer-events:none}\
 .g{fill:#777}\
 .h{font-size:15px;font-weight:bold}\
 .r{fill:#c01818}\
+.n,.r{paint-order:stroke;stroke:#fff;stroke-width:3px;stroke-linejoin:round}\
 .e{text-anchor:end}\
 .c{text-anchor:middle}\
 .w{fill:#fff}\

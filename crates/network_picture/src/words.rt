@@ -69,10 +69,10 @@ pub(crate) fn words_of(alloc: Global, line: &NetworkLine<'_>) -> Result<Words, A
     match *line {
         NetworkLine::Clock(moment) => write!(text, "= {moment}")?,
         NetworkLine::Mote(_, told) => push_line(alloc, &mut text, &told)?,
-        NetworkLine::Lost(_, to) => write!(text, "lost on the way to {to}")?,
-        NetworkLine::Full(_, to) => write!(text, "no room on the way to {to}")?,
-        NetworkLine::Missed(from, _) => write!(text, "✗ missed, from {from}")?,
-        NetworkLine::Unheard(_) => text.push_str("✗ missed, from outside")?,
+        NetworkLine::Lost(_, to) => write!(text, "lost to {to}")?,
+        NetworkLine::Full(_, to) => write!(text, "no room to {to}")?,
+        NetworkLine::Missed(from, _) => write!(text, "✗ missed from {from}")?,
+        NetworkLine::Unheard(_) => text.push_str("✗ missed from outside")?,
         NetworkLine::Ending(ending) => push_end(&mut text, ending)?,
     }
     Ok(Words {
