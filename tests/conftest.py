@@ -8,8 +8,10 @@ from typing import Callable
 import pytest
 
 from contiki_programs import Contiki
+from fault_library import faults  # noqa: F401  a fixture
 from small_tree import Tree
 from tools import CRATES, EXAMPLES, current_library, library, once, program, sanitizes, succeed
+from web_page import browser, mote_page, native_library, page_file  # noqa: F401  fixtures
 
 # What still may be built while the other tests are carried out: the libraries for C, and then what is made of their modules.
 BUILT_LAST = ({"toarmuts_library", "modules_library"}, {"page_file", "proofs"})

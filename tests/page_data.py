@@ -79,14 +79,15 @@ def told_by_data(data: Any, line: int) -> dict[str, Any]:
 
 
 def told_by_replay(state: State) -> dict[str, Any]:
-    linked = [(16 * (name // 2) + block, name) for name, blocks in state.lists.items() for block in blocks]
+    memory, lists = state.memory, list(enumerate(state.memory.pools.lists))
+    linked = [(16 * (name // 2) + block, name) for name, blocks in lists for block in blocks]
     return {
         "active": state.active,
-        "managed": [[block.pid, block.pid != 3 and block.name, block.size] for block in state.managed],
-        "heap": sorted([block.pid, block.name, block.size] for block in state.heap),
-        "used": sorted([16 * pool + block, pid] for (pool, block), pid in state.used.items()),
+        "managed": [[pid, pid != 3 and name, len(data)] for (pid, name), data in memory.managed.blocks.items()],
+        "heap": sorted([*block.key, len(block.data)] for block in memory.heap.blocks),
+        "used": sorted([16 * pool + block, pid] for (pool, block), pid in memory.pools.owners.items()),
         "linked": sorted([block, name] for block, name in linked),
-        "lists": [[name, blocks] for name, blocks in sorted(state.lists.items()) if blocks],
+        "lists": [[name, blocks] for name, blocks in lists if blocks],
         "timers": sorted([pid, kind == "callback", number, due] for (pid, kind, number), due in state.armed().items()),
         "events": state.queue,
     }

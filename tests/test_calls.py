@@ -188,7 +188,8 @@ def test_refusals() -> None:
     assert {spoken(name): int(number) for name, number in re.findall(r"Refusal::(\w+) => (\d+),", code)} == REFUSALS
     codes = source("crates/mote_types/specs/Codes.antt")
     assert {spoken(name): int(number) for name, number in re.findall(r"^refusal_number Refusal\.(\w+) = (\d+)$", codes, re.M)} == REFUSALS
-    page = re.findall(r"^\| (\d+) \| (.*) \|$", source("docs/transcript.md"), re.M)
+    replies, _ = source("docs/transcript.md").split("## The status of a run")
+    page = re.findall(r"^\| (\d+) \| (.*) \|$", replies, re.M)
     assert [(int(number), about) for number, about in page] == [(rule["number"], rule["about"]) for rule in RULES["refusals"]]
 
 

@@ -12,7 +12,7 @@ from page_data import data_in, picture, template_parts, told_by_replay
 from run_replay import states_of
 from stored_runs import ALL, stored_run
 from tools import ROOT
-from web_page import browser, in_chromium, script  # noqa: F401  a fixture
+from web_page import in_chromium, script
 
 pytestmark = in_chromium
 MANY_LINES = 100_000
@@ -35,7 +35,7 @@ def page_of(words: Sequence[str], transcript: str) -> str:
 
 
 @pytest.fixture
-def ask(browser: Browser, tmp_path: Path) -> Ask:  # noqa: F811
+def ask(browser: Browser, tmp_path: Path) -> Ask:
     """Opens a page, and returns what the body of a function in it returns."""
     def ask_page(page: str, body: str, width: int = 1200, fragment: str = "") -> Any:
         file = tmp_path / "page.html"
@@ -109,7 +109,7 @@ def test_width(ask: Ask, width: int) -> None:
     assert told["rows"] >= 150 and told["panel"] >= 100 and told["words"] >= 100, told
 
 
-def test_many_lines(browser: Browser, tmp_path: Path) -> None:  # noqa: F811
+def test_many_lines(browser: Browser, tmp_path: Path) -> None:
     """A page of many lines opens in time, and makes only the rows that can be seen."""
     part = "> tick 10\n4 event 136 0 -> print 6f6e0a\n4 answer done -> timer-reset 0\n4 answer done -> wait\n"
     file = tmp_path / "page.html"

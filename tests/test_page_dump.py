@@ -6,6 +6,7 @@ from typing import Any
 import pytest
 
 from page_data import first_difference, picture
+from plain_memory import rounded
 from run_replay import State, answers_in, states_of
 from stored_runs import ALL, SAMPLES, StoredRun, stored_run
 from tools import needs, succeed
@@ -30,7 +31,7 @@ def value_of(state: State, pid: int) -> str:
 
 def values_wanted(state: State, sizes: dict[str, int]) -> dict[str, str]:
     """The values of the signals at a line, but for those of the heap."""
-    taken = sum(-(-block.size // 4) * 4 for block in state.managed)
+    taken = sum(rounded(len(data)) for data in state.memory.managed.blocks.values())
     values = {
         "running": "z" if state.running is None else str(state.running), "queue": str(len(state.queue)),
         "timers": str(len(state.armed())), "managed_free": str(sizes["mmem"] - taken),

@@ -309,15 +309,3 @@ def test_no_case_for_all_other_calls(pattern: str, cases: Callable[[str], Iterab
     """An author who adds a call gets a message on each table without it."""
     found = [f"{path.relative_to(CRATES)}: {case}" for path in CRATES.glob(pattern) for case in cases(path.read_text(encoding="utf-8"))]
     assert not found, "cases for all other calls: " + "\n".join(found)
-
-
-def test_examples_are_called() -> None:
-    """Each worked example is called, and so is what calls those of a file: else it does not run."""
-    all_files = (CRATES / "test_layers/src/examples.rt").read_text(encoding="utf-8")
-    forgotten = []
-    for path in sorted((CRATES / "test_layers/src/examples").glob("*.rt")):
-        text = path.read_text(encoding="utf-8")
-        forgotten += [f"{path.name}: {name}" for name in re.findall(r"^fn (\w+)", text, re.M) if len(re.findall(rf"\b{name}\b", text)) == 1]
-        if "fn check_all(" in text and f"{path.stem}::check_all(" not in all_files:
-            forgotten.append(f"{path.name}: check_all")
-    assert not forgotten, "examples that nothing calls: " + ", ".join(forgotten)

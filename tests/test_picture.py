@@ -13,12 +13,11 @@ from __future__ import annotations
 
 import re
 import xml.etree.ElementTree as ElementTree
-from dataclasses import dataclass
 from typing import Iterator, Sequence
 
 import pytest
 
-from run_replay import states_of
+from run_replay import TimerName, states_of
 from stored_runs import SAMPLES, WORKED_RUNS, StoredRun, stored_run
 from tools import EXAMPLES, Completed, program, run
 
@@ -27,6 +26,7 @@ OTHER_MANAGED = b"not the run's managed memory from line "
 HEAP_BLOCK = re.compile(r"heap block \d+ of process \d+: \d+ bytes, room for (\d+), from (\d+) to (\d+) with its header")
 USED = re.compile(r"block (\d+) of pool (\d+), taken by process (\d+)")
 LINKED = re.compile(r"block (\d+) of pool (\d+) is in list (\d+)")
+TIMER_TOLD = re.compile(r"(\d+) (event 136|callback) (\d+) -> ")
 FOLDED = re.compile(r"lines (\d+) to (\d+), (\d+) in all; the first: (.*)", re.DOTALL)
 
 # What an event is called that has a name, and why a call is refused.
@@ -43,22 +43,18 @@ Pools = tuple[Blocks, Blocks]
 
 
 def draw(words: Sequence[str], transcript: bytes) -> Completed:
-    """Runs the program on a transcript."""
     return run(program("mote_picture"), *words, stdin=transcript)
 
 
 def number_in(element: ElementTree.Element, name: str) -> int:
-    """An attribute that is a number."""
     return int(element.get(name) or 0)
 
 
 def title_of(element: ElementTree.Element) -> str:
-    """What an element has for a title."""
     return (element[0].text or "") if len(element) else ""
 
 
 def is_row(element: ElementTree.Element) -> bool:
-    """Whether an element is a row's."""
     return element.get("x") == "0" and element.get("class") in ("t", "i", "x")
 
 
@@ -137,40 +133,12 @@ def check_heap_map(picture: bytes, run: StoredRun) -> None:
         assert mapped[number] == stats, f"line {number + 1}: the heap's map is not what heap-stats tells"
 
 
-def answer_behind(lines: Lines, number: int) -> str:
-    """The reply to the call of a line, which is in the next line of its process, or nothing."""
-    process = lines[number].partition(" ")[0]
-    behind = next((line for line in lines[number + 1 :] if line.startswith(process + " ")), "")
-    return behind.partition(" -> ")[0].partition(" answer ")[2]
-
-
 def pools_told(lines: Lines) -> Iterator[Pools]:
     """For each line the blocks that are used, by pool and number, with their process, and those in a list, with the list's number:
     as they are once its call is carried out."""
-    used: Blocks = {}
-    linked: Blocks = {}
-    for number, line in enumerate(lines):
-        word, *arguments = line.partition(" -> ")[2].split(" ")
-        if word.startswith(("memb-", "list-")):
-            kind, _, value = answer_behind(lines, number).partition(" ")
-            if kind in ("done", "num"):
-                numbers = [int(argument) for argument in arguments if argument.isdigit()]
-                carry_out_on_pools(word, numbers, int(line.partition(" ")[0]), value, used, linked)
-        yield dict(used), dict(linked)
-
-
-def carry_out_on_pools(word: str, numbers: list[int], process: int, value: str, used: Blocks, linked: Blocks) -> None:
-    """Executes a call that is accepted."""
-    if word == "memb-alloc":
-        used[numbers[0], int(value)] = process
-    elif word == "memb-free":
-        del used[numbers[0], numbers[1]]
-    elif word in ("list-add", "list-push", "list-insert"):
-        linked[numbers[0] // 2, numbers[-1]] = numbers[0]
-    elif word == "list-remove":
-        del linked[numbers[0] // 2, numbers[1]]
-    elif word in ("list-pop", "list-chop"):
-        del linked[numbers[0] // 2, int(value)]
+    for state in states_of(list(lines)):
+        pools = state.memory.pools
+        yield pools.owners, {(number // 2, block): number for number, blocks in enumerate(pools.lists) for block in blocks}
 
 
 def pools_shown(picture: bytes) -> list[Pools] | None:
@@ -221,14 +189,12 @@ def bytes_told(digits: str, most: int = 24) -> str:
 
 
 def payload_told(payload: str) -> str:
-    """The words for an event's data."""
     if payload == "-":
         return ""
     return " " + (bytes_told(payload[1:]) if payload[0] == "x" else payload)
 
 
 def call_told(call: str) -> str:
-    """The words for a call."""
     word, *arguments = call.split(" ")
     if word == "print":
         arguments[-1] = bytes_told(arguments[-1], 48)
@@ -240,7 +206,6 @@ def call_told(call: str) -> str:
 
 
 def answer_told(answer: str) -> str:
-    """The words for a reply."""
     kind, _, value = answer.partition(" ")
     if kind == "refused":
         return f"  ✗ {REFUSALS[int(value) - 1]} ({value})"
@@ -267,40 +232,12 @@ def turn_told(line: str, above: str, late: int, lines_behind: Lines) -> str:
 
 def delays(lines: Lines) -> Iterator[int]:
     """How late the timer is that each line tells, or 0."""
-    clock = 0
-    timers: dict[tuple[str, str, str], Timer] = {}
-    for number, line in enumerate(lines):
-        told, _, call = line.partition(" -> ")
-        pid, *stimulus = told.split(" ")
-        if line.startswith("> tick "):
-            clock += int(line.split(" ")[2])
-        kind = {"event 136": "timer", "callback": "callback"}.get(" ".join(stimulus[:-1]), "")
-        timer = timers.get((pid, kind, stimulus[-1]), Timer()) if kind else Timer()
-        is_due = timer.is_armed and timer.start + timer.interval <= clock
-        yield clock - timer.start - timer.interval if is_due else 0
-        timer.is_armed = timer.is_armed and not is_due
-        word, *numbers = call.split(" ")
-        if word.startswith(("timer-", "callback-")) and answer_behind(lines, number) == "done":
-            set_timer(timers.setdefault((pid, word.partition("-")[0], numbers[0]), Timer()), word.partition("-")[2], numbers, clock)
-
-
-@dataclass
-class Timer:
-    """A timer, which keeps its start and interval."""
-    start: int = 0
-    interval: int = 0
-    is_armed: bool = False
-
-
-def set_timer(timer: Timer, what: str, numbers: list[str], clock: int) -> None:
-    """Executes a call on a timer."""
-    timer.is_armed = what != "stop"
-    if what == "set":
-        timer.start, timer.interval = clock, int(numbers[-1])
-    elif what == "restart":
-        timer.start = clock
-    elif what == "reset":
-        timer.start += timer.interval
+    armed: dict[TimerName, int] = {}
+    for line, state in zip(lines, states_of(list(lines))):
+        told = TIMER_TOLD.match(line)
+        due = armed.get((int(told[1]), "callback" if told[2] == "callback" else "timer", int(told[3]))) if told else None
+        yield max(0, state.clock - due) if due is not None else 0
+        armed = state.armed()
 
 
 def line_told(lines: Lines, number: int, late: int, is_quiet: bool) -> str:
@@ -337,7 +274,6 @@ def words_shown(picture: bytes) -> list[str]:
 
 
 def check_words(picture: bytes, lines: Lines, is_quiet: bool) -> None:
-    """Each row has the words for its line."""
     told = [line_told(lines, number, late, is_quiet) for number, late in enumerate(delays(lines))]
     for shown, wanted in zip(words_shown(picture), told):
         assert shown == wanted, "other words than for the line"
@@ -414,13 +350,11 @@ def counts_told(lines: Lines, first: int, end: int) -> Iterator[str]:
 
 
 def end_told(lines: Lines) -> str:
-    """How a run ended."""
     last = lines[-1] if lines else ""
     return "a bad line" if last.startswith("bad line") else last if last in ENDINGS else "at rest"
 
 
 def check_head(picture: bytes, lines: Lines, is_quiet: bool) -> None:
-    """The text above the overview."""
     title, counts = head_of(picture)
     told = list(counts_told(lines, 0, len(lines)))
     assert title.endswith("(a quiet transcript)") == is_quiet
@@ -446,7 +380,6 @@ def check_form(picture: Completed) -> None:
 
 @pytest.mark.parametrize("name", [*WORKED_RUNS, *SAMPLES])
 def test_transcript(name: str) -> None:
-    """A picture of a stored transcript."""
     run = stored_run(name)
     lines = run.lines
     whole = draw(["--unfolded", *run.sizes], run.transcript.encode())
@@ -498,7 +431,6 @@ def test_shared_rows() -> None:
 @pytest.mark.parametrize("line", [b"nonsense", b"", b"4 event 136 0 -> nothing", b"> tick 01", b"> tick \xff", b"3 synch 129 - -> wait",
                                   b"4 answer done -> wait "])
 def test_malformed_line(line: bytes) -> None:
-    """A line that is no line of a transcript."""
     ran = draw([], b"> tick 1\n" + line + b"\n")
     assert (ran.returncode, ran.stdout, ran.stderr) == (2, b"", b"mote_picture: line 2 is no line of a transcript\n")
 
@@ -515,7 +447,6 @@ NO_CLOCK = "mote_picture: a quiet transcript tells no clock for --from and --to\
     *(([option, "1"], b"4 synch 129 - -> print 61\n", NO_CLOCK) for option in ("--from", "--to")),
 ])
 def test_refused_words(words: list[str], transcript: bytes, reason: str) -> None:
-    """Words that the program refuses."""
     ran = draw(words, transcript)
     assert (ran.returncode, ran.stdout) == (64, b"") and ran.stderr.decode().startswith(reason), ran
 
@@ -614,7 +545,6 @@ def lines_in(picture: bytes, look: str) -> list[str]:
 
 
 def top_of(picture: bytes) -> int:
-    """Where the first row begins."""
     return min(number_in(element, "y") for element in ElementTree.fromstring(picture) if element.get("class") == "t")
 
 

@@ -122,7 +122,7 @@ STDIN = CRATES / "template_app/stdin"
     (64, "template_app: bad sizes\n", ["--mmem", "6", "beat"], b""),
 ], ids=["done", "bad line", "halt", "too long", "no text", "unknown option", "no application", "too many", "bad sizes"])
 def test_status(template: Path, status: int, wanted: str, words: list[str | bytes], script: bytes | Path) -> None:
-    """The statuses of the README's table, each with its text on standard error."""
+    """The statuses of the table in docs/transcript.md, each with its text on standard error."""
     ran = run(template, *words, stdin=script)
     assert ran.returncode == status and fnmatch.fnmatchcase(ran.stderr.decode(), wanted), told(ran)
 

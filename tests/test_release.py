@@ -15,7 +15,6 @@ from typing import Callable, NamedTuple
 import pytest
 
 from tools import CRATES, ROOT, Completed, Word, library, needs, once, program, run, succeed, told, write_program
-from web_page import page_file  # noqa: F401  a fixture
 
 VERSION = (ROOT / "VERSION").read_text(encoding="utf-8").strip()
 NAME = f"toarmuts-{VERSION}-linux-x86_64"
@@ -72,7 +71,7 @@ def proofs(shared: Path) -> None:
 
 
 @pytest.fixture(scope="module")
-def releases(proofs: None, page_file: Path, shared: Path) -> Path:  # noqa: F811
+def releases(proofs: None, page_file: Path, shared: Path) -> Path:
     """A folder with two releases, `first` and `second`, made in different places, and the archive of the first, unpacked."""
     def make(room: Path) -> None:
         shutil.rmtree(room, ignore_errors=True)

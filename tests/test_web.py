@@ -11,7 +11,7 @@ import pytest
 from call_rules import RULES
 from devtools import Browser
 from tools import ROOT, cases, program
-from web_page import Opened, browser, in_chromium, mote_page, opened, page_file, script  # noqa: F401  fixtures
+from web_page import Opened, in_chromium, opened, script
 
 pytestmark = in_chromium
 EXAMPLES: list[dict[str, Any]] = json.loads((ROOT / "web/examples.json").read_text(encoding="utf-8"))
@@ -50,7 +50,7 @@ def marks(it: Opened) -> list[Any]:
 
 # ---- Runs ----
 
-def test_examples(mote_page: Opened) -> None:  # noqa: F811
+def test_examples(mote_page: Opened) -> None:
     """There are ten, each with two sentences, and each has the transcript that the rules give it."""
     wanted = transcripts_wanted()
     assert [it["name"] for it in EXAMPLES] == list(wanted) and len(EXAMPLES) == 10
@@ -61,7 +61,7 @@ return [byId("lesson").textContent, transcript()];""")
         assert said == example["about"] and len(re.findall(r"\.(?= |$)", said)) == 2, example["name"]
 
 
-def test_examples_by_the_native_program(mote_page: Opened, tmp_path: Path) -> None:  # noqa: F811
+def test_examples_by_the_native_program(mote_page: Opened, tmp_path: Path) -> None:
     """The native program confirms the scenario file of each example of a mote, with its transcript."""
     for place, example in enumerate(EXAMPLES):
         if "network" in example["experiment"]:
@@ -73,7 +73,7 @@ def test_examples_by_the_native_program(mote_page: Opened, tmp_path: Path) -> No
 
 
 @pytest.mark.parametrize("applications, inputs, editor, line, words", cases("web_mistakes"))
-def test_mistakes(mote_page: Opened, applications: str, inputs: str, editor: str, line: int, words: str) -> None:  # noqa: F811
+def test_mistakes(mote_page: Opened, applications: str, inputs: str, editor: str, line: int, words: str) -> None:
     """A mistake is marked at its line, in words, also for screen readers; the mark goes once it is corrected."""
     set_fields(mote_page, applications, inputs)
     (marked,) = marks(mote_page)
@@ -85,7 +85,7 @@ def test_mistakes(mote_page: Opened, applications: str, inputs: str, editor: str
 
 
 @pytest.mark.parametrize("network, line, words", cases("web_network_mistakes"))
-def test_mistakes_of_a_network(mote_page: Opened, network: str, line: int, words: str) -> None:  # noqa: F811
+def test_mistakes_of_a_network(mote_page: Opened, network: str, line: int, words: str) -> None:
     """A malformed line is marked, with what to write; the run up to there is shown."""
     set_network(mote_page, network)
     assert marks(mote_page) == [["network", line, f"This line is malformed: {words}"]]
@@ -98,7 +98,7 @@ def test_mistakes_of_a_network(mote_page: Opened, network: str, line: int, words
     assert mote_page.ask("return transcript();") == "1 4 synch 129 - -> packet-open\n1 4 answer done -> wait\n"
 
 
-def test_network_as_typed(mote_page: Opened) -> None:  # noqa: F811
+def test_network_as_typed(mote_page: Opened) -> None:
     """The other kind of experiment begins with an example, and what is typed runs at once. What was written of each is kept."""
     set_fields(mote_page, "blink\n", "tick 10\n")
     network = EXAMPLES[-1]["experiment"]["network"]
@@ -111,7 +111,7 @@ def test_network_as_typed(mote_page: Opened) -> None:  # noqa: F811
     assert "> tick 10\n" in told[0] and told[1:] == [True, network + "3 serial 0a"]
 
 
-def test_network_that_halts(mote_page: Opened) -> None:  # noqa: F811
+def test_network_that_halts(mote_page: Opened) -> None:
     """A line that takes all its rounds is reported. A number of a mote that doesn't exist is marked where it is chosen."""
     set_network(mote_page, "mote 1 relay\nlink 1 1 delay 1\nrounds 5\n1 frame 0a\ntick 100\n")
     assert "The network halted" in mote_page.ask("return byId('said').textContent;")
@@ -127,19 +127,19 @@ def test_network_that_halts(mote_page: Opened) -> None:  # noqa: F811
     ({"quota": 2}, "quota", "A quota must be"), ({"mmem": 2**32 + 64}, "mmem", "Managed memory must be"), ({"heap": -4}, "heap", "from 20"),
     ({"mmem": 32, "quota": 32}, "quota", "a quota of each application and one of the frames"),
 ])
-def test_mistaken_sizes(mote_page: Opened, sizes: dict[str, Any], field: str, words: str) -> None:  # noqa: F811
+def test_mistaken_sizes(mote_page: Opened, sizes: dict[str, Any], field: str, words: str) -> None:
     set_fields(mote_page, "blink\n", "", **sizes)
     told = mote_page.ask(f"return [byId('said').textContent, byId('{field}').getAttribute('aria-invalid'), byId('sizes').open];")
     assert words in told[0] and told[1:] == ["true", True]
 
 
-def test_run_up_to_a_mistake(mote_page: Opened) -> None:  # noqa: F811
+def test_run_up_to_a_mistake(mote_page: Opened) -> None:
     set_fields(mote_page, "blink\n", "tick 10\ntock\n")
     told = mote_page.ask("return transcript();").splitlines()
     assert told[-1] == "bad line 2" and "> tick 10" in told
 
 
-def test_as_typed(mote_page: Opened) -> None:  # noqa: F811
+def test_as_typed(mote_page: Opened) -> None:
     """What is typed runs at once, or with the button where that is switched off."""
     set_fields(mote_page, "blink\n", "")
     mote_page.ask("editors.script.focus();")
@@ -157,7 +157,7 @@ def test_as_typed(mote_page: Opened) -> None:  # noqa: F811
     ("network", "", "gr", "grid N..M width W delay D: Rows", "grid "),
     ("network", "grid ", "1 calls packet-o", "packet-open: ", "grid 1 calls packet-open"),
 ])
-def test_completion(mote_page: Opened, editor: str, before: str, typed: str, found: str, text: str) -> None:  # noqa: F811
+def test_completion(mote_page: Opened, editor: str, before: str, typed: str, found: str, text: str) -> None:
     """Ctrl+Space names what a line may begin with, or the calls that begin so, with what they take, and Enter takes one."""
     if editor == "network":
         set_network(mote_page, before)
@@ -173,7 +173,7 @@ def test_completion(mote_page: Opened, editor: str, before: str, typed: str, fou
     assert mote_page.ask(f"return editors.{editor}.text;") == text
 
 
-def test_all_calls(mote_page: Opened) -> None:  # noqa: F811
+def test_all_calls(mote_page: Opened) -> None:
     """A list has each call of the rules, with its arguments and what it does."""
     told = mote_page.ask("byId('all-calls').open = true; return [...byId('all-calls').querySelectorAll('li')].map((it) => it.innerText);")
     assert [it.split(" ")[0] for it in told] == [it["name"] for it in RULES["calls"]]
@@ -182,7 +182,7 @@ def test_all_calls(mote_page: Opened) -> None:  # noqa: F811
 
 # ---- Buttons ----
 
-def test_input_buttons(mote_page: Opened) -> None:  # noqa: F811
+def test_input_buttons(mote_page: Opened) -> None:
     """Each appends its line to the script, which runs."""
     set_fields(mote_page, "echo\n", "# first")
     told = mote_page.ask("""
@@ -192,7 +192,7 @@ return [editors.script.text, transcript()];""")
     assert "> tick 10\n" in told[1] and "4 event 138 x68656c6c6f -> print 68656c6c6f\n" in told[1] and "> frame 0102\n" in told[1]
 
 
-def test_added_applications(mote_page: Opened) -> None:  # noqa: F811
+def test_added_applications(mote_page: Opened) -> None:
     set_fields(mote_page, "", "")
     told = mote_page.ask("""
 const found = [];
@@ -205,7 +205,7 @@ return [found, namesOf(readExperiment())];""")
     assert told == [[False] * 9, ["calls", "rows", *RULES["applications"]]]
 
 
-def test_network_buttons(mote_page: Opened) -> None:  # noqa: F811
+def test_network_buttons(mote_page: Opened) -> None:
     """Lines that set something up go before the first input, for the next mote or the last one; inputs go to the mote that is named."""
     set_network(mote_page, "# mine\nmote 1 relay\ntick 1")
     assert mote_page.ask(script("network_buttons")) == (
@@ -217,7 +217,7 @@ def test_network_buttons(mote_page: Opened) -> None:  # noqa: F811
                          "return editors.network.text.trim();") == "mote 1 relay"
 
 
-def test_sizes(mote_page: Opened) -> None:  # noqa: F811
+def test_sizes(mote_page: Opened) -> None:
     told = mote_page.ask(script("sizes"))
     assert "answer num 4096" in told[0] and "answer stats 20 16 4060 36 1" in told[0]
     assert "answer num 16" in told[1] and "answer stats 20 8 100 28 1" in told[1]
@@ -235,7 +235,7 @@ def downloaded(it: Opened, folder: Path, names: list[str]) -> list[str]:
     return [(folder / name).read_text(encoding="utf-8") for name in names]
 
 
-def test_saved_files(mote_page: Opened, tmp_path: Path) -> None:  # noqa: F811
+def test_saved_files(mote_page: Opened, tmp_path: Path) -> None:
     """The transcript, the scenario file and the picture are saved as they are shown."""
     set_fields(mote_page, 'rows\non line: print told, repeat\n', "text hello\n")
     transcript, scenario, picture = downloaded(mote_page, tmp_path, ["mote.transcript", "mote.scenario", "mote.svg"])
@@ -246,7 +246,7 @@ def test_saved_files(mote_page: Opened, tmp_path: Path) -> None:  # noqa: F811
     assert picture == drawn.stdout.decode()
 
 
-def test_saved_network(mote_page: Opened, tmp_path: Path) -> None:  # noqa: F811
+def test_saved_network(mote_page: Opened, tmp_path: Path) -> None:
     """The transcript of a network, its script, and the picture of the mote whose line is chosen; and those of one mote."""
     three = ROOT / "examples/networks/three"
     network, transcript = (three.with_suffix(it).read_text(encoding="utf-8") for it in (".net", ".transcript"))
@@ -260,7 +260,7 @@ def test_saved_network(mote_page: Opened, tmp_path: Path) -> None:  # noqa: F811
     assert downloaded(mote_page, tmp_path / "one", ["mote-2.transcript", "script.net", "mote-2.svg"]) == [own, network, drawn]
 
 
-def test_link_of_a_network(browser: Browser, page_file: Path, mote_page: Opened) -> None:  # noqa: F811
+def test_link_of_a_network(browser: Browser, page_file: Path, mote_page: Opened) -> None:
     """A link carries the script of a network, and the choice of one mote."""
     given: dict[str, Any] = {"network": "mote 1..2 echo\n# ü\n2 serial 410a\n", "only": 2, "quiet": True}
     set_network(mote_page, **given)
@@ -270,7 +270,7 @@ def test_link_of_a_network(browser: Browser, page_file: Path, mote_page: Opened)
         assert told[1] == "4 event 138 x41 -> print 41\n"
 
 
-def test_link(browser: Browser, page_file: Path, mote_page: Opened) -> None:  # noqa: F811
+def test_link(browser: Browser, page_file: Path, mote_page: Opened) -> None:
     """A link carries all of an experiment: another page that opens it has the same fields and the same transcript."""
     sizes: dict[str, Any] = {"mmem": 64, "heap": 128, "header": 8, "quota": 16, "quiet": False}
     given: dict[str, Any] = {"applications": 'calls timer-set 0 5, wait, print "ü<b>\\n"\nblink\n', "script": "tick 9\n# ü\n", **sizes}
@@ -284,14 +284,14 @@ def test_link(browser: Browser, page_file: Path, mote_page: Opened) -> None:  # 
         assert "The link is incomplete" in said[0] and said[1] > 0
 
 
-def test_stop(mote_page: Opened) -> None:  # noqa: F811
+def test_stop(mote_page: Opened) -> None:
     """A long run shows that it goes on, and is stopped by its button; the next run is right."""
     told = mote_page.ask(script("stop"))
     assert told["during"][:2] == [False, False] and told["during"][2].endswith(" ..")
     assert told["after"] == [True, True, "The run was stopped."] and told["transcript"] == transcripts_wanted()[EXAMPLES[0]["name"]]
 
 
-def test_hand(mote_page: Opened) -> None:  # noqa: F811
+def test_hand(mote_page: Opened) -> None:
     """The reader plays two processes: turns, refusals, mistakes, inputs, undo, and the experiment that comes of it."""
     told = mote_page.ask(script("hand"))
     said = told["said"]
@@ -311,7 +311,7 @@ def test_hand(mote_page: Opened) -> None:  # noqa: F811
 
 # ---- What is shown ----
 
-def test_lines(mote_page: Opened) -> None:  # noqa: F811
+def test_lines(mote_page: Opened) -> None:
     """Each line has its number, its clock where that changes, its words and its text; a chosen one is explained, by mouse and by keys."""
     set_fields(mote_page, "calls timer-set 9 1, print \"<b>\", wait\n", "tick 1234\nframe 0102\n")
     told = mote_page.ask(script("chosen_lines"))
@@ -326,7 +326,7 @@ def test_lines(mote_page: Opened) -> None:  # noqa: F811
     assert said[5] == said[0]
 
 
-def test_lines_of_a_network(mote_page: Opened) -> None:  # noqa: F811
+def test_lines_of_a_network(mote_page: Opened) -> None:
     """Each line has the network's clock, its mote and its words; a chosen one is explained, with the reply to its call."""
     set_network(mote_page, (ROOT / "examples/networks/three.net").read_text(encoding="utf-8"))
     told = mote_page.ask(script("chosen_lines"))
@@ -343,7 +343,7 @@ def test_lines_of_a_network(mote_page: Opened) -> None:  # noqa: F811
         "Line 49, of the network: The frame from mote 2 to 3 is lost: the link's rule.")
 
 
-def test_one_mote_of_a_network(mote_page: Opened) -> None:  # noqa: F811
+def test_one_mote_of_a_network(mote_page: Opened) -> None:
     """The lines of one mote are those of the native `network --only N`; its picture and its explorer are those of a mote."""
     script_file = ROOT / "examples/networks/three.net"
     set_network(mote_page, script_file.read_text(encoding="utf-8"))
@@ -361,7 +361,7 @@ def test_one_mote_of_a_network(mote_page: Opened) -> None:  # noqa: F811
     assert abouts[4].startswith("Mote 3. ")
 
 
-def test_folded_lines(mote_page: Opened) -> None:  # noqa: F811
+def test_folded_lines(mote_page: Opened) -> None:
     """Over 20,000 lines, repeated ones are folded, and shown where that is asked for; all of them are in the transcript."""
     told = mote_page.ask(script("folded_lines"))
     # At boot two lines; then each tick one, and three turns: at the clocks 10, 20, ..
@@ -369,14 +369,14 @@ def test_folded_lines(mote_page: Opened) -> None:  # noqa: F811
     assert "8 lines above" in told["fold"] and "repeated lines folded" in told["said"] and told["about"].startswith("Line 39,001: ")
 
 
-def test_many_lines(mote_page: Opened) -> None:  # noqa: F811
+def test_many_lines(mote_page: Opened) -> None:
     """50,000 lines that don't repeat are shown in time: only the rows that can be seen are made, and the picture is of the first lines."""
     told = mote_page.ask(script("many_lines"))
     assert told["lines"] == 50_001 and told["rows"] <= 1000 and told["took"] < 5000 and told["pictures"] == 1
     assert told["about"] == "The first 3,000 lines. Choose clocks to see others."
 
 
-def test_picture(mote_page: Opened, tmp_path: Path) -> None:  # noqa: F811
+def test_picture(mote_page: Opened, tmp_path: Path) -> None:
     """The picture is that of the native program, of the whole run and of a part; an invalid part is reported."""
     transcript = (ROOT / "examples/blink.transcript").read_text(encoding="utf-8")
     told = mote_page.ask(script("picture"))
@@ -387,14 +387,14 @@ def test_picture(mote_page: Opened, tmp_path: Path) -> None:  # noqa: F811
     assert told["none"] is None and told["elements"] == 0 and told["about"] == "--from 20 is above --to 5"
 
 
-def test_explorer(mote_page: Opened) -> None:  # noqa: F811
+def test_explorer(mote_page: Opened) -> None:
     set_fields(mote_page, "blink\n", "tick 10\n")
     mote_page.ask("await click('tab-explorer');")
     assert mote_page.page.ask_frame("document.querySelectorAll('.row').length", 6) == 6
     assert "1 input" in mote_page.page.ask_frame("byId('tally').textContent")
 
 
-def test_markup(mote_page: Opened) -> None:  # noqa: F811
+def test_markup(mote_page: Opened) -> None:
     """Markup that is printed, typed or carried by a link is shown as text: nothing is made of it, and no script of it runs."""
     markup = '</script><img src=x onerror="document.title=1"><script>document.title=1</script>'
     set_fields(mote_page, f'calls print "{markup[:20]}"\n{markup}\n', f"# {markup}\n{markup}\n")
@@ -405,7 +405,7 @@ return [document.title, document.images.length, byId("lines").innerText.includes
     assert told == ["A proved mote in your browser", 0, True]
 
 
-def test_about(mote_page: Opened, browser: Browser, page_file: Path) -> None:  # noqa: F811
+def test_about(mote_page: Opened, browser: Browser, page_file: Path) -> None:
     """The page says in one sentence what is proved and what is tested, and leads to the page on it, with the licences."""
     claim = mote_page.ask("return document.querySelector('#claim').textContent;")
     assert claim.startswith("The kernel's source code is proved; this build of it for browsers is tested, not proved.")
@@ -421,7 +421,7 @@ def test_about(mote_page: Opened, browser: Browser, page_file: Path) -> None:  #
 
 # ---- Keys, screen readers, looks ----
 
-def test_keys(mote_page: Opened) -> None:  # noqa: F811
+def test_keys(mote_page: Opened) -> None:
     """Tab goes through all fields in their order and out of the editors; arrows go from tab to tab."""
     set_fields(mote_page, "blink\n", "tick 10\n")
     mote_page.ask("byId('example').focus();")
@@ -443,7 +443,7 @@ def test_keys(mote_page: Opened) -> None:  # noqa: F811
         assert mote_page.ask(shown) == [tab, f"tab-{tab}", 1]
 
 
-def test_names_for_screen_readers(mote_page: Opened) -> None:  # noqa: F811
+def test_names_for_screen_readers(mote_page: Opened) -> None:
     """Each field, button, region and frame has a name, of a mote and of a network."""
     for tab, kind in [*((tab, "one-mote") for tab in TABS), ("transcript", "many-motes"), ("picture", "many-motes")]:
         mote_page.ask(f"await click('{kind}'); await click('tab-{tab}');")
@@ -454,7 +454,7 @@ def test_names_for_screen_readers(mote_page: Opened) -> None:  # noqa: F811
 
 @pytest.mark.parametrize("is_dark", [False, True], ids=["light", "dark"])
 @pytest.mark.parametrize("width", WIDTHS)
-def test_looks(browser: Browser, page_file: Path, width: int, is_dark: bool) -> None:  # noqa: F811
+def test_looks(browser: Browser, page_file: Path, width: int, is_dark: bool) -> None:
     """Nothing is wider than the window, every panel has room, and each text stands out from its ground."""
     with opened(browser, page_file.as_uri(), width, is_dark) as it:
         for tab in TABS:
@@ -467,7 +467,7 @@ def test_looks(browser: Browser, page_file: Path, width: int, is_dark: bool) -> 
         assert it.ask(script("contrast")) == []
 
 
-def test_nothing_leaves(browser: Browser, page_file: Path) -> None:  # noqa: F811
+def test_nothing_leaves(browser: Browser, page_file: Path) -> None:
     """The page's policy refuses each way out. That the page itself asks for nothing is looked at in every test."""
     page = browser.open(page_file.as_uri())
     page.wait_for("document.body?.dataset.isReady === 'yes'")

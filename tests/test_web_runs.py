@@ -14,7 +14,7 @@ from test_network import WORKED, how
 from test_network_random import drawn_network
 from tools import ROOT
 from web_cases import Case, Maker, NativeLibrary, native
-from web_page import Opened, browser, in_chromium, mote_page, native_library, page_file, script  # noqa: F401  fixtures
+from web_page import Opened, in_chromium, script
 
 pytestmark = in_chromium
 PARTS = 4
@@ -57,7 +57,7 @@ def is_played(case: Case) -> bool:
 
 
 @of_each_part
-def test_library(mote_page: Opened, native_library: NativeLibrary, part: int) -> None:  # noqa: F811
+def test_library(mote_page: Opened, native_library: NativeLibrary, part: int) -> None:
     """Random runs have the native answers and transcripts; lists of calls, played step by step, the same transcripts."""
     maker = Maker(1 + part)
     cases = [maker.case() for _ in range(RUNS)]
@@ -74,7 +74,7 @@ def test_library(mote_page: Opened, native_library: NativeLibrary, part: int) ->
 
 
 @of_each_part
-def test_pictures(mote_page: Opened, native_library: NativeLibrary, part: int) -> None:  # noqa: F811
+def test_pictures(mote_page: Opened, native_library: NativeLibrary, part: int) -> None:
     """Pictures, pages and dumps of random transcripts are the native program's; so is what it refuses."""
     maker = Maker(101 + part)
     cases = [maker.case() for _ in range(RUNS)]
@@ -89,7 +89,7 @@ def test_pictures(mote_page: Opened, native_library: NativeLibrary, part: int) -
 
 
 @of_each_part
-def test_scenarios(mote_page: Opened, part: int, tmp_path: Path) -> None:  # noqa: F811
+def test_scenarios(mote_page: Opened, part: int, tmp_path: Path) -> None:
     """Scenario files with rows, lists and quotes come out as by the native program; so does what is malformed, and what is no UTF-8."""
     maker = Maker(201 + part)
     # A comment in any letters comes first: the program looks at UTF-8 in blocks, with instructions that are rewritten for the page.
@@ -106,7 +106,7 @@ def test_scenarios(mote_page: Opened, part: int, tmp_path: Path) -> None:  # noq
 
 
 @of_each_part
-def test_networks(mote_page: Opened, part: int) -> None:  # noqa: F811
+def test_networks(mote_page: Opened, part: int) -> None:
     """Random networks come out as by the native program, of all motes, of one, and quiet; so does a mote that there isn't."""
     scripts = [drawn_network(FIRST_NETWORK + PARTS * place + part).script() for place in range(NETWORKS)]
     options: list[list[str]] = [[], ["--only", "2"], ["--quiet"], ["--only", "1", "--quiet"], [], ["--only", "12"]]
@@ -116,13 +116,13 @@ def test_networks(mote_page: Opened, part: int) -> None:  # noqa: F811
     assert {status for status, _, _ in told} >= {0, 64}
 
 
-def test_worked_networks(mote_page: Opened) -> None:  # noqa: F811
+def test_worked_networks(mote_page: Opened) -> None:
     given: list[dict[str, Any]] = [{"words": how(it)[1], "input": it.read_text(encoding="utf-8"), "file": None} for it in WORKED]
     wanted = [[how(it)[0], hashlib.sha256(it.with_suffix(".transcript").read_bytes()).hexdigest(), ""] for it in WORKED]
     assert differing(mote_page.ask(with_cases(PROGRAM_RUNS, given, "network")), wanted, WORKED) == []
 
 
-def test_examples_of_the_repository(mote_page: Opened) -> None:  # noqa: F811
+def test_examples_of_the_repository(mote_page: Opened) -> None:
     folder = ROOT / "examples"
     names = sorted(it.stem for it in folder.glob("*.script"))
     cases = [{"configuration": {"mmem": 4096, "heap": 4096, "header": 16, "quota": None, "quiet": False}, "applications": name,
@@ -132,7 +132,7 @@ def test_examples_of_the_repository(mote_page: Opened) -> None:  # noqa: F811
     assert [base64.b64decode(it["transcript"]).decode() for it in told] == [(folder / f"{name}.transcript").read_text() for name in names]
 
 
-def test_memory_refused(mote_page: Opened) -> None:  # noqa: F811
+def test_memory_refused(mote_page: Opened) -> None:
     """Where memory is refused, the library and the programs say so, and later runs are right."""
     told = mote_page.ask(PROGRAM_CLASS + script("memory_refused"))
     assert len(set(told["usuals"])) == 1 and told["usuals"][0].startswith("4 synch 129 - -> timer-set 0 10\n") and told["motes"] > 1

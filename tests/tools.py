@@ -71,6 +71,12 @@ def cases(name: str, takes_name: bool = False) -> list[Any]:
     return [pytest.param(*row[not takes_name:], id=row[0]) for row in table(name)]
 
 
+def texts(name: str) -> list[Any]:
+    """The cases of tests/tables/NAME.txt, for the same: below a line `=== CASE` a text, or several with a line `---` between two."""
+    parts = re.split(r"^=== (.*)\n", (ROOT / f"tests/tables/{name}.txt").read_text(encoding="utf-8"), flags=re.M)
+    return [pytest.param(*re.split(r"^---\n", text, flags=re.M), id=case) for case, text in zip(parts[1::2], parts[2::2])]
+
+
 def program(name: str) -> Path:
     built = CRATES / name / "out" / name
     if not built.exists():
