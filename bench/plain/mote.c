@@ -4,307 +4,33 @@
 //   gcc -O2 -o plain bench/plain/mote.c && ./plain [--quiet] [blink|echo|hello|ping|relay].. < SCRIPT
 #include "text.h"
 
-enum { WORK_LIMIT = 10000, EVENTS = 32, APPLICATIONS = 16, FIRST_APPLICATION = 4, FRAMES = 8 };
-enum { CHUNK = 64, LINE = 127, FRAME = 127, SERIAL = 256, RING = 128, MMEM = 4096 };
-enum { LINE_LIMIT = 1024, SCRIPT_LIMIT = 16777216 };
-enum { INIT = 129, POLL = 130, CONTINUE = 133, TIMER = 136, SERIAL_LINE = 138, PACKET = 139, FIRST_FREE = 140 };
-enum refusal { FULL = 1, ALREADY = 3, BUSY = 4, NO_ROOM = 12 };
+enum { APPLICATIONS = 16, LINE = 127, SERIAL = 256, RING = 128, FIRST_FREE = 140 };
+
+#define ONE_MOTE
 
 static bool quiet;
 
-// Processes and events.
-
-struct payload {
-  enum { EMPTY, NUMBER, LINE_OF_TEXT } kind;
-  uint32_t number;      // of a line: its length
-  const uint8_t *bytes; // which stay as they are until the event is delivered
-};
-
-struct event {
-  uint8_t code;
-  struct payload payload;
-};
-
-struct process {
-  struct process *next;
-  void (*thread)(struct process *self, const struct event *event);
-  uint8_t number;
-  bool needs_poll;
-};
-
-static const struct payload no_payload = {EMPTY, 0, NULL};
-static struct process *process_list, *current;
-static struct {
-  struct process *to; // NULL: all
-  struct event event;
-} events[EVENTS];
-static unsigned first_event, event_count, polls, work;
-
-// What the current process was told last: an event, or the answer to its call.
-static struct {
-  enum { EVENT, SYNCH, DONE, REFUSED, NUM, BYTES } kind;
-  const struct event *event;
-  uint32_t number;
-  const uint8_t *bytes;
-} told;
-
-static bool
-process_post(struct process *to, uint8_t code, struct payload payload)
+static void
+begin_line(void)
 {
-  if(event_count == EVENTS) return false;
-  unsigned place = (first_event + event_count++) % EVENTS;
-  events[place].to = to;
-  events[place].event = (struct event){code, payload};
-  return true;
 }
 
 static void
-process_poll(struct process *process)
+carry(const uint8_t *bytes, uint32_t length)
 {
-  if(process->needs_poll) return;
-  process->needs_poll = true;
-  polls++;
+  (void)bytes;
+  (void)length;
 }
 
-// Counts a turn or a round of this input.
 static void
-count_work(void)
+halt(void)
 {
-  if(work++ < WORK_LIMIT) return;
   PUT("halt\n");
   flush();
   exit(STATUS_HALTED);
 }
 
-static void
-put_event(const struct event *event)
-{
-  put_number(event->code);
-  PUT(" ");
-  switch(event->payload.kind) {
-  case EMPTY:
-    PUT("-");
-    break;
-  case NUMBER:
-    put_number(event->payload.number);
-    break;
-  case LINE_OF_TEXT:
-    PUT("x");
-    put_hex(event->payload.bytes, event->payload.number);
-    break;
-  }
-}
-
-static void
-put_told(void)
-{
-  switch(told.kind) {
-  case EVENT:
-    PUT(" event ");
-    put_event(told.event);
-    break;
-  case SYNCH:
-    PUT(" synch ");
-    put_event(told.event);
-    break;
-  case DONE:
-    PUT(" answer done");
-    break;
-  case REFUSED:
-    PUT(" answer refused ");
-    put_number(told.number);
-    break;
-  case NUM:
-    PUT(" answer num ");
-    put_number(told.number);
-    break;
-  case BYTES:
-    PUT(" answer bytes ");
-    put_bytes(told.bytes, told.number);
-    break;
-  }
-}
-
-// Begins the line of a turn. Whether it is shown, so that the call is to follow. A quiet transcript has what prints or sends.
-static bool
-begin_turn(bool prints_or_sends)
-{
-  count_work();
-  if(quiet && !prints_or_sends) return false;
-  make_room();
-  put_number(current->number);
-  put_told();
-  PUT(" -> ");
-  return true;
-}
-
-static bool
-done(void)
-{
-  told.kind = DONE;
-  return true;
-}
-
-static bool
-refused(enum refusal refusal)
-{
-  told.kind = REFUSED;
-  told.number = refusal;
-  return false;
-}
-
-static void
-call_process(struct process *process, const struct event *event)
-{
-  if(process->number < FIRST_APPLICATION) {
-    process->thread(process, event);
-    return;
-  }
-  current = process;
-  told.kind = event->code == INIT ? SYNCH : EVENT;
-  told.event = event;
-  process->thread(process, event);
-  if(begin_turn(false)) PUT("wait\n");
-}
-
-static void
-process_start(struct process *process)
-{
-  process->next = process_list;
-  process_list = process;
-  call_process(process, &(struct event){INIT, no_payload});
-}
-
-static void
-do_poll(void)
-{
-  for(struct process *p = process_list; p && polls > 0; p = p->next) {
-    if(!p->needs_poll) continue;
-    p->needs_poll = false;
-    polls--;
-    call_process(p, &(struct event){POLL, no_payload});
-  }
-}
-
-static void
-do_event(void)
-{
-  if(event_count == 0) return;
-  struct process *to = events[first_event].to;
-  struct event event = events[first_event].event;
-  first_event = (first_event + 1) % EVENTS;
-  event_count--;
-  if(to) {
-    call_process(to, &event);
-    return;
-  }
-  for(struct process *p = process_list; p; p = p->next) {
-    do_poll();
-    call_process(p, &event);
-  }
-}
-
-static void
-process_run(void)
-{
-  while(polls > 0 || event_count > 0) {
-    count_work();
-    do_poll();
-    do_event();
-  }
-}
-
-// Event timers. The list has those that are armed.
-
-struct etimer {
-  struct etimer *next;
-  struct process *process;
-  uint64_t start;
-  uint32_t interval;
-  bool is_armed;
-};
-
-static struct etimer *timers;
-static uint64_t now, next_expiry = UINT64_MAX;
-
-static void
-etimer_thread(struct process *self, const struct event *event)
-{
-  if(event->code != POLL) return;
-  struct etimer **link = &timers;
-  next_expiry = UINT64_MAX;
-  while(*link) {
-    struct etimer *timer = *link;
-    uint64_t deadline = timer->start + timer->interval;
-    if(deadline <= now && process_post(timer->process, TIMER, (struct payload){NUMBER, 0, NULL})) {
-      timer->is_armed = false;
-      *link = timer->next;
-      continue;
-    }
-    if(deadline < next_expiry) next_expiry = deadline;
-    link = &timer->next;
-  }
-  if(next_expiry <= now) process_poll(self);
-}
-
-static struct process etimer_process = {NULL, etimer_thread, 0, false};
-
-static void
-etimer_arm(struct etimer *timer)
-{
-  if(!timer->is_armed) {
-    timer->is_armed = true;
-    timer->next = timers;
-    timers = timer;
-  }
-  process_poll(&etimer_process);
-}
-
-// Only where a timer is due there is anything to do.
-static void
-tick(uint32_t ticks)
-{
-  now += ticks;
-  if(next_expiry <= now) process_poll(&etimer_process);
-}
-
-// Managed memory: the blocks lie one behind the other. Where one is freed, those behind it move down.
-
-struct mmem {
-  struct mmem *next;
-  size_t size; // the room, a multiple of 4
-  uint8_t *bytes;
-};
-
-static uint8_t memory[MMEM];
-static size_t memory_used;
-static struct mmem *blocks, **blocks_end = &blocks;
-
-static bool
-mmem_alloc(struct mmem *block, size_t length)
-{
-  size_t size = (length + 3) & ~(size_t)3;
-  if(size > MMEM - memory_used) return false;
-  *block = (struct mmem){NULL, size, memory + memory_used};
-  memset(block->bytes, 0, length);
-  *blocks_end = block;
-  blocks_end = &block->next;
-  memory_used += size;
-  return true;
-}
-
-static void
-mmem_free(struct mmem *block)
-{
-  uint8_t *behind = block->bytes + block->size;
-  memmove(block->bytes, behind, (size_t)(memory + memory_used - behind));
-  memory_used -= block->size;
-  struct mmem **link = &blocks;
-  while(*link != block) link = &(*link)->next;
-  *link = block->next;
-  if(!block->next) blocks_end = link;
-  for(struct mmem *moved = block->next; moved; moved = moved->next) moved->bytes -= block->size;
-}
+#include "mote.h"
 
 // The serial line.
 
@@ -345,91 +71,7 @@ serial_input(const uint8_t *bytes, size_t length)
   process_poll(&serial_process);
 }
 
-// Frames that came in, and the process that is told of them.
-
-struct frame {
-  struct mmem block;
-  uint32_t length;
-};
-
-static struct frame frames[FRAMES];
-static unsigned first_frame, frame_count, announced;
-static struct process *receiver;
-
-static void
-packet_thread(struct process *self, const struct event *event)
-{
-  if(event->code != POLL || !receiver) return;
-  while(announced < frame_count) {
-    uint32_t length = frames[(first_frame + announced) % FRAMES].length;
-    if(!process_post(receiver, PACKET, (struct payload){NUMBER, length, NULL})) {
-      process_poll(self);
-      return;
-    }
-    announced++;
-  }
-}
-
-static struct process packet_process = {NULL, packet_thread, 3, false};
-
-// Why the frame is lost, 0 where it is held.
-static enum refusal
-frame_input(const uint8_t *bytes, size_t length)
-{
-  struct frame *frame = &frames[(first_frame + frame_count) % FRAMES];
-  if(frame_count == FRAMES) return FULL;
-  if(!mmem_alloc(&frame->block, length)) return NO_ROOM;
-  frame->length = (uint32_t)length;
-  memcpy(frame->block.bytes, bytes, length);
-  frame_count++;
-  process_poll(&packet_process);
-  return 0;
-}
-
-// The calls of applications: each is a turn, and its answer is told in the next one.
-
-struct application {
-  struct process process;
-  struct etimer timer;
-  struct mmem block;
-  uint32_t block_length;
-  bool is_lit;
-  uint8_t event;
-  uint32_t count;
-};
-
-static void
-print(const uint8_t *bytes, size_t length)
-{
-  if(begin_turn(true)) {
-    PUT("print ");
-    end_with_bytes(bytes, length);
-  }
-  done();
-}
-
-static void
-timer_set(struct application *self, uint32_t interval)
-{
-  if(begin_turn(false)) {
-    PUT("timer-set 0 ");
-    end_with_number(interval);
-  }
-  self->timer.process = &self->process;
-  self->timer.start = now;
-  self->timer.interval = interval;
-  etimer_arm(&self->timer);
-  done();
-}
-
-static void
-timer_reset(struct application *self)
-{
-  if(begin_turn(false)) PUT("timer-reset 0\n");
-  self->timer.start += self->timer.interval;
-  etimer_arm(&self->timer);
-  done();
-}
+// Calls and applications that only this program has.
 
 static uint8_t
 alloc_event(void)
@@ -453,115 +95,11 @@ broadcast(uint8_t code, uint32_t number)
   return process_post(NULL, code, (struct payload){NUMBER, number, NULL}) ? done() : refused(FULL);
 }
 
-static bool
-block_alloc(struct application *self, uint32_t length)
-{
-  if(begin_turn(false)) {
-    PUT("mmem-alloc 0 ");
-    end_with_number(length);
-  }
-  self->block_length = length;
-  return mmem_alloc(&self->block, length) ? done() : refused(NO_ROOM);
-}
-
-static void
-block_free(struct application *self)
-{
-  if(begin_turn(false)) PUT("mmem-free 0\n");
-  mmem_free(&self->block);
-  done();
-}
-
-static void
-block_write(struct application *self, uint32_t at, const uint8_t *bytes, uint32_t length)
-{
-  if(begin_turn(false)) {
-    PUT("mmem-write 0 ");
-    put_number(at);
-    PUT(" ");
-    end_with_bytes(bytes, length);
-  }
-  memcpy(self->block.bytes + at, bytes, length);
-  done();
-}
-
-static bool
-packet_open(struct application *self)
-{
-  if(begin_turn(false)) PUT("packet-open\n");
-  if(receiver) return refused(receiver == &self->process ? ALREADY : BUSY);
-  receiver = &self->process;
-  process_poll(&packet_process);
-  return done();
-}
-
-static void
-packet_read(uint32_t at, uint32_t length, uint8_t *chunk)
-{
-  if(begin_turn(false)) {
-    PUT("packet-read ");
-    put_number(at);
-    PUT(" ");
-    end_with_number(length);
-  }
-  memcpy(chunk, frames[first_frame].block.bytes + at, length);
-  told.kind = BYTES;
-  told.number = length;
-  told.bytes = chunk;
-}
-
-static void
-packet_send(struct application *self)
-{
-  if(begin_turn(true)) {
-    PUT("packet-send 0\nnote sent ");
-    end_with_bytes(self->block.bytes, self->block_length);
-  }
-  done();
-}
-
-static void
-packet_done(void)
-{
-  if(begin_turn(false)) PUT("packet-done\n");
-  mmem_free(&frames[first_frame].block);
-  first_frame = (first_frame + 1) % FRAMES;
-  frame_count--;
-  announced--;
-  done();
-}
-
-// The applications.
-
 static void
 hello(struct process *process, const struct event *event)
 {
   (void)process;
-  if(event->code == INIT) print((const uint8_t *)"hi\n", 3);
-}
-
-static void
-blink(struct process *process, const struct event *event)
-{
-  struct application *self = (struct application *)process;
-  if(event->code == INIT) {
-    timer_set(self, 10);
-  } else if(event->code == TIMER) {
-    self->is_lit = !self->is_lit;
-    const char *text = self->is_lit ? "on\n" : "off\n";
-    print((const uint8_t *)text, strlen(text));
-    timer_reset(self);
-  }
-}
-
-static void
-echo(struct process *process, const struct event *event)
-{
-  (void)process;
-  if(event->code != SERIAL_LINE) return;
-  const struct payload *line = &event->payload;
-  print(line->bytes, line->number < CHUNK ? line->number : CHUNK);
-  if(line->number > CHUNK) print(line->bytes + CHUNK, line->number - CHUNK);
+  if(event->code == INIT) print("hi\n", 3);
 }
 
 static void
@@ -578,33 +116,8 @@ ping(struct process *process, const struct event *event)
     char text[11];
     char *end = write_number(event->payload.number, text);
     *end++ = '\n';
-    print((const uint8_t *)text, (size_t)(end - text));
+    print(text, (size_t)(end - text));
   }
-}
-
-// Copies a part of the frame into the block.
-static void
-copy_part(struct application *self, uint32_t at, uint32_t length)
-{
-  uint8_t chunk[CHUNK];
-  packet_read(at, length, chunk);
-  block_write(self, at, chunk, length);
-}
-
-static void
-relay(struct process *process, const struct event *event)
-{
-  struct application *self = (struct application *)process;
-  if(event->code == INIT) packet_open(self);
-  if(event->code != PACKET) return;
-  uint32_t length = event->payload.number;
-  if(block_alloc(self, length)) {
-    copy_part(self, 0, length < CHUNK ? length : CHUNK);
-    if(length > CHUNK) copy_part(self, CHUNK, length - CHUNK);
-    packet_send(self);
-    block_free(self);
-  }
-  packet_done();
 }
 
 // The script.
@@ -713,7 +226,7 @@ carry_out(void)
   const char *line;
   size_t length;
   for(uint32_t number = 1; (line = next_line(&length)); number++) {
-    work = 0;
+    MOTE->work = 0;
     make_room();
     if(!read_line(line, length)) {
       PUT("bad line ");
@@ -756,9 +269,9 @@ main(int argc, char **argv)
     else
       name_application(count++, argv[i]);
   }
-  serial_process.next = &etimer_process;
-  packet_process.next = &serial_process;
-  process_list = &packet_process;
+  begin_mote();
+  serial_process.next = &MOTE->etimer;
+  MOTE->packet.next = &serial_process;
   for(unsigned i = 0; i < count; i++) process_start(&applications[i].process);
   process_run();
   int status = carry_out();
