@@ -41,6 +41,8 @@ class Board:
 MICROBIT = Board("microbit", "256K", "16K", "2K")
 STELLARIS = Board("lm3s6965evb", "256K", "64K", "4K")
 NETDUINO = Board("netduinoplus2", "1024K", "128K", "4K")
+# 18 KB of the stack are for toarmuts_open.
+STELLARIS_WITH_KERNEL = Board("lm3s6965evb", "256K", "64K", "18K")
 LARGE_M3 = Board("mps2-an385", "4096K", "16M", "1M", "0x21000000")
 LARGE_M4 = Board("mps2-an386", "4096K", "16M", "1M", "0x21000000")
 # A model of a part for each core, and a board with RAM enough for any test. qemu has no large board with a Cortex-M0, whose
@@ -269,9 +271,17 @@ def kernel(room: Path, toarmuts_library: Path) -> Path:
     return archive(room, "toarmuts", "cortex-m4")
 
 
-def compile_kernel_test(room: Path, kernel: Path, source: Path, has_memory: bool = True) -> Path:
+@pytest.fixture(scope="session")
+def kernel_m3(room: Path, toarmuts_library: Path) -> Path:
+    """The same for a Cortex-M3."""
+    assert toarmuts_library.exists()
+    return archive(room, "toarmuts", "cortex-m3")
+
+
+def compile_kernel_test(room: Path, kernel: Path, source: Path, has_memory: bool = True, board: Board = KERNEL_BOARD,
+                        core: str = "cortex-m4") -> Path:
     sources = [*KERNEL_SOURCES, source, *([MEMORY_CALLS] if has_memory else [])]
-    return once(room / f"kernel-{source.stem}", lambda program: compile_for(KERNEL_BOARD, "cortex-m4", program, sources, [kernel]))
+    return once(room / f"kernel-{source.stem}-{core}", lambda program: compile_for(board, core, program, sources, [kernel]))
 
 
 @pytest.mark.parametrize("sample", OF_MOTE)
@@ -287,6 +297,14 @@ def test_kernel_step_by_step(room: Path, kernel: Path, sample: str) -> None:
     program = compile_kernel_test(room, kernel, HERE / "boards/replay.c")
     transcript = EXAMPLES / f"{sample}.transcript"
     assert run_on(KERNEL_BOARD, program, transcript) == transcript.read_text(encoding="utf-8")
+
+
+@pytest.mark.parametrize("sample", OF_MOTE)
+def test_kernel_on_a_part_of_64_kb(room: Path, kernel_m3: Path, sample: str) -> None:
+    """With the default sizes, tables, heap and the stack of an opening fit in 64 KB of RAM."""
+    program = compile_kernel_test(room, kernel_m3, HERE / "boards/replay.c", board=STELLARIS_WITH_KERNEL, core="cortex-m3")
+    transcript = EXAMPLES / f"{sample}.transcript"
+    assert run_on(STELLARIS_WITH_KERNEL, program, transcript) == transcript.read_text(encoding="utf-8")
 
 
 def test_kernel_asks_an_application(room: Path, kernel: Path) -> None:

@@ -1,11 +1,17 @@
 /*
  * replay FILE: a mote asked step by step makes a transcript once more. Each turn's call and each input is read from it, and what the
- * mote prints is written out, so the output is the transcript again where the mote behaves as it did.
+ * mote prints is written out, so the output is the transcript again where the mote behaves as it did. Its status is 97 where the stack
+ * was too small.
  */
 #include "../c/steps.h"
+#include "startup.h"
 
-enum { ROOM = 65536 };
+/* For a transcript of a sample, on a part with 64 KB of RAM. */
+enum { ROOM = 2048 };
 static char transcript[ROOM];
+
+/* From board.ld. */
+extern uint8_t stack_low[], stack_top[];
 
 /* As the proved side has it on every processor. */
 _Static_assert(_Alignof(struct toarmuts_mote) == 8 && offsetof(struct toarmuts_mote, is_open) == 8, "a pointer has a slot of 8 bytes");
@@ -65,7 +71,7 @@ read_call(const char *line)
   return call;
 }
 
-/* Reads the transcript, its line ends made string ends. Returns its length. */
+/* Reads the transcript, its line ends made string ends. Returns its length; 0 where there is no room for it. */
 static size_t
 read_transcript(const char *name)
 {
@@ -77,7 +83,7 @@ read_transcript(const char *name)
   for(size_t i = 0; i < length; i++) {
     transcript[i] = transcript[i] == '\n' ? '\0' : transcript[i];
   }
-  return length;
+  return length < sizeof transcript - 1 ? length : 0;
 }
 
 /* How many applications a transcript has: the boot starts them, as processes 4, 5, .. */
@@ -121,6 +127,10 @@ main(int count, char **words)
     toarmuts_line(&mote, line, sizeof line, &told);
     printf("%.*s\n", (int)told, (const char *)line);
     next += strlen(next) + 1;
+  }
+  if(board_stack_used() == (size_t)(stack_top - stack_low)) {
+    /* It may have written over variables. */
+    return 97;
   }
   return (int)toarmuts_close(&mote);
 }
