@@ -13,9 +13,10 @@ pub use Rattle.process_core.specs.Code.Nesting.{AreIn, IsNested, IsSound, answer
 pub use Rattle.process_core.specs.Code.OpenWork.{agenda_of, base_items, front_items, items_of, poll_items, receiver_items}
 pub use Rattle.process_core.specs.Code.ProcessList.{EndsWithKernel, IsKept, kernel_numbers, listed, others, process_at, state_at}
 unfoldable pub use Rattle.process_core.specs.Code.ProcessList.{mark_at, with_bit}
-pub use Rattle.process_core.specs.Code.SchedulerFields.{BootsKnown, HoldsEvent, IsBare, IsInOrder, IsOrdered, StartsKnown, active_in, front_after, queued_of, scheduler_behind, scheduler_of, turn_in}
+pub use Rattle.process_core.specs.Code.SchedulerFields.{BootsKnown, IsBare, IsInOrder, IsOrdered, StartsKnown, active_in, front_after, queued_of, scheduler_behind, scheduler_of, turn_in}
 pub use Rattle.process_core.specs.Code.SchedulerView.{job_of}
 pub use Rattle.process_core.specs.Code.Walks.{from_application, from_marked, is_broadcast, is_kernel_next, passes_receiver, receiver_is_next}
+pub use Rattle.process_core.specs.Code.FindsJob.{FindsJob}
 pub use Rattle.process_core.specs.Code.Yields.{Yields}
 pub use Rattle.process_core.specs.Idle.{is_empty, is_idle}
 pub use Rattle.process_core.specs.Processes.{at_first, changed, is_any_marked, is_ending, is_kernel_process, is_marked, numbers, state_of, with_mark, with_state, without}
@@ -36,6 +37,6 @@ pub use Rattle.process_core.specs.declared.process.Process.{Process}
 pub use Rattle.process_core.specs.declared.open_work.Base.{Base}
 pub use Rattle.process_core.specs.declared.open_work.Continuation.{Continuation}
 pub use Rattle.process_core.specs.declared.state.State.{State}
-pub use Rattle.std.proofs.Common.{Bool, IfNone, List, None, Option, Some, [], add-one, ap, arith, drop, eqb, false, flat_map, if◌then◌else◌, is_some, length, lit<, map, nat_eq, nat_lt, not, refl, replicate, reverse, set, slice_get, suc, sym, take, true, zero, ℕ, ◌&&◌, ◌*◌, ◌++◌, ◌+◌, ◌-◌, ◌<◌, ◌==◌, ◌^◌, ◌∙◌, ◌∷◌, ◌≡◌, ◌≢◌, ◌≤◌}
+pub use Rattle.std.proofs.Common.{Bool, IfNone, List, None, Option, Some, [], add-one, ap, arith, drop, eqb, false, flat_map, if◌then◌else◌, is_some, length, lit<, map, nat_eq, nat_lt, not, option_map, refl, replicate, reverse, set, slice_get, suc, sym, take, true, zero, ℕ, ◌&&◌, ◌*◌, ◌++◌, ◌+◌, ◌-◌, ◌<◌, ◌==◌, ◌^◌, ◌∙◌, ◌∷◌, ◌≡◌, ◌≢◌, ◌≤◌}
 pub use Rattle.process_core.specs.declared.scheduler_fields.SchedulerFields.{SchedulerFields}
 pub use Rattle.process_core.specs.declared.front.Front.{Front}

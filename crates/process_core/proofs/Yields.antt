@@ -1,8 +1,9 @@
 -- Work that is done in parts.
-use Rattle.process_core.proofs.Common.{◌≡◌, ℕ, zero, suc, Bool, true, false, List, [], ◌∷◌, ◌++◌, refl, sym, ◌∙◌, ap, arith, Option, Some, None, is_some, drop, map, slice_get, ◌≤◌, Stimulus, Pid, scheduler_behind, queued_of, from_marked, Event, Origin, POLL, plain_event, numbers, is_any_marked, is_marked, with_mark, Item, Job, Scheduler, after_front, job, after_items, in_front, state_in, Yields, SchedulerFields, State, is_empty, poll_items, Base, IsBare}
+use Rattle.process_core.proofs.Common.{◌≡◌, ℕ, zero, suc, Bool, true, false, List, [], ◌∷◌, ◌++◌, refl, sym, ◌∙◌, ap, arith, Option, Some, None, is_some, drop, map, slice_get, ◌≤◌, Stimulus, Pid, scheduler_behind, queued_of, from_marked, Event, Origin, POLL, plain_event, numbers, is_any_marked, is_marked, with_mark, Item, Job, Scheduler, after_front, job, after_items, in_front, state_in, FindsJob, Yields, SchedulerFields, State, is_empty, poll_items, Base, IsBare, job_of, option_map}
 use Rattle.process_core.proofs.Rest.{none_first}
 use Rattle.circular_buffer.specs.Buffer.{Buffer}
 use Rattle.process_core.specs.declared.queued.Queued as code
+use Rattle.process_core.specs.declared.next_job.NextJob.{NextJob}
 
 module _ {X : Type 0} where
   -- the first item is no job
@@ -178,16 +179,39 @@ module _ (d : SchedulerFields) where
       )
 
   -- none is marked any more
-  pub polls_end : (left : List ℕ) (next : Option (Job ℕ)) (after : Scheduler ℕ)
+  pub polls_end : (left : List ℕ) {ready : Option NextJob} {buffer : Stimulus} {after : SchedulerFields}
       → d.stack.items ≡ [] → None ≡ slice_get (from_marked d.processes d.polls) 0 → left ≡ drop 1 (from_marked d.processes d.polls)
-      → Yields (scheduler_behind (record d { polls = left })) next after
-      → Yields (scheduler_behind d) next after
-  polls_end left next after bare none behind y =
+      → FindsJob (scheduler_behind (record d { polls = left })) ready buffer after
+      → FindsJob (scheduler_behind d) ready buffer after
+  polls_end left bare none behind f =
       let all = none_first (from_marked d.processes d.polls) (sym none) in
       let over : left ≡ [] = rw all at behind in
       let s = scheduler_behind (record d { polls = [] }) in
       let start : scheduler_behind d ≡ in_front (poll_items d.polls) s = rw bare refl in
-      rw start (
-      yields_after (in_front (poll_items d.polls) s) (in_front (poll_items (from_marked d.processes d.polls)) s) next after
-      (unmarked_pass s d.polls) (rw all (rw over at y))
-      )
+      record {
+        yields =
+            rw start (
+            yields_after (in_front (poll_items d.polls) s) (in_front (poll_items (from_marked d.processes d.polls)) s) _ _
+            (unmarked_pass s d.polls) (rw all (rw over at f.yields))
+            );
+        told = f.told;
+        front = f.front;
+        order = f.order;
+      }
+
+-- what a step finds from one scheduler it finds from one that leads there, too
+pub finds_from : {s t : Scheduler ℕ} {ready : Option NextJob} {buffer : Stimulus} {after : SchedulerFields}
+    → (Yields s (option_map (λ r. job_of r buffer) ready) (scheduler_behind after)
+    → Yields t (option_map (λ r. job_of r buffer) ready) (scheduler_behind after))
+    → FindsJob s ready buffer after → FindsJob t ready buffer after
+finds_from leads f = record { yields = leads f.yields; told = f.told; front = f.front; order = f.order }
+
+-- the first item is no job
+pub finds_next : {s : Scheduler ℕ} {ready : Option NextJob} {buffer : Stimulus} {after : SchedulerFields}
+    → job s ≡ None → FindsJob (after_front s) ready buffer after → FindsJob s ready buffer after
+finds_next {s} none f = record { yields = yields_next s _ _ none f.yields; told = f.told; front = f.front; order = f.order }
+
+-- what leads to no job, and then finds one
+pub finds_after : {s : Scheduler ℕ} {ready : Option NextJob} {told buffer : Stimulus} {between after : SchedulerFields}
+    → FindsJob s None told between → FindsJob (scheduler_behind between) ready buffer after → FindsJob s ready buffer after
+finds_after {s} {between = between} first f = finds_from (yields_after s (scheduler_behind between) _ _ first.yields) f

@@ -1,6 +1,7 @@
 -- The code's invariants, and what the scheduler promises the kernel. Not needed to know what a mote does.
 pub mod ByValue
 pub mod Conditions
+pub mod FindsJob
 pub mod Invariant
 pub mod Items
 pub mod KernelReceivers

@@ -1,13 +1,12 @@
 //! How a process gets a stimulus.
 
-ghost use Rattle.std.specs.Prelude.{◌≡◌, ◌<◌, ◌+◌, ◌∷◌, [], length, drop, option_map, IfNone};
+ghost use Rattle.std.specs.Prelude.{◌≡◌, ◌<◌, ◌+◌, ◌∷◌, [], length, drop, IfNone};
 ghost use Rattle.mote_types.specs.Codes as codes;
 ghost use Rattle.process_core.specs.Agenda.{Item};
 ghost use Rattle.process_core.specs.Code.Weights.{weight};
-ghost use Rattle.process_core.specs.Code.SchedulerView.{job_of};
-ghost use Rattle.process_core.specs.Code.SchedulerFields.{scheduler_behind, front_after, HoldsEvent, IsBare, IsInOrder};
+ghost use Rattle.process_core.specs.Code.SchedulerFields.{scheduler_behind, IsBare, IsInOrder};
 ghost use Rattle.process_core.specs.Scheduler.{in_front};
-ghost use Rattle.process_core.specs.Code.Yields.{Yields};
+ghost use Rattle.process_core.specs.Code.FindsJob.{FindsJob};
 ghost use Rattle.process_core.specs.declared.open_work.Base.{Base};
 ghost use Rattle.process_core.specs.declared.front.Front.{Front};
 
@@ -44,11 +43,8 @@ impl SchedulerFields {
     pub fn give(&mut self, pid: Pid, origin: Origin, told: &Stimulus) -> Option<NextJob>
         requires order { IsInOrder self.old }
         requires idle { self.old.front ≡ Front.Nothing }
-        ensures yields { Yields (in_front (Item.Give pid.0 origin told.now ∷ []) (scheduler_behind self.old))
-            (option_map (λ r. job_of r told.now) result) (scheduler_behind self.new) }
-        ensures told { HoldsEvent result told.now }
-        ensures front { self.new.front ≡ front_after result }
-        ensures order { IsInOrder self.new }
+        ensures finds { FindsJob (in_front (Item.Give pid.0 origin told.now ∷ []) (scheduler_behind self.old))
+            result told.now self.new }
         ensures kept { self.new ≡ record self.old { processes = self.new.processes; front = self.new.front } }
     {
         if pid.0 < FIRST_APPLICATION {
@@ -72,11 +68,7 @@ impl SchedulerFields {
         requires known { pid.0 < 4 + self.old.applications }
         requires order { IsInOrder self.old }
         requires idle { self.old.front ≡ Front.Nothing }
-        ensures yields { Yields (in_front (Item.Start pid.0 ∷ []) (scheduler_behind self.old))
-            (option_map (λ r. job_of r told.new) result) (scheduler_behind self.new) }
-        ensures told { HoldsEvent result told.new }
-        ensures front { self.new.front ≡ front_after result }
-        ensures order { IsInOrder self.new }
+        ensures finds { FindsJob (in_front (Item.Start pid.0 ∷ []) (scheduler_behind self.old)) result told.new self.new }
         ensures kept { self.new ≡ record self.old { processes = self.new.processes; front = self.new.front } }
     {
         match self.processes.state_of(pid) {
@@ -94,11 +86,7 @@ impl SchedulerFields {
     pub fn poll_one(&mut self, pid: Pid, told: &mut Stimulus) -> Option<NextJob>
         requires order { IsInOrder self.old }
         requires idle { self.old.front ≡ Front.Nothing }
-        ensures yields { Yields (in_front (Item.PollOne pid.0 ∷ []) (scheduler_behind self.old))
-            (option_map (λ r. job_of r told.new) result) (scheduler_behind self.new) }
-        ensures told { HoldsEvent result told.new }
-        ensures front { self.new.front ≡ front_after result }
-        ensures order { IsInOrder self.new }
+        ensures finds { FindsJob (in_front (Item.PollOne pid.0 ∷ []) (scheduler_behind self.old)) result told.new self.new }
         ensures kept { self.new ≡ record self.old { processes = self.new.processes; front = self.new.front } }
     {
         if !self.processes.is_marked(pid) {
@@ -115,11 +103,7 @@ impl SchedulerFields {
         requires order { IsInOrder self.old }
         requires idle { self.old.front ≡ Front.Nothing }
         requires bare { IsBare self.old Base.Nothing }
-        ensures yields { Yields (in_front (Item.Deliver ∷ []) (scheduler_behind self.old))
-            (option_map (λ r. job_of r told.new) result) (scheduler_behind self.new) }
-        ensures told { HoldsEvent result told.new }
-        ensures front { self.new.front ≡ front_after result }
-        ensures order { IsInOrder self.new }
+        ensures finds { FindsJob (in_front (Item.Deliver ∷ []) (scheduler_behind self.old)) result told.new self.new }
         ensures falls { IfNone result (weight self.new < weight self.old + 1300) }
     {
         // Delivers or stores an event without a copy of the whole slot: that takes fewer moves.

@@ -1,12 +1,11 @@
 //! How open work is done.
 
-ghost use Rattle.std.specs.Prelude.{◌≡◌, ◌<◌, [], ◌∷◌, Some, IfNone, length, option_map, reverse};
+ghost use Rattle.std.specs.Prelude.{◌≡◌, ◌<◌, [], ◌∷◌, Some, IfNone, length, reverse};
 ghost use Rattle.mote_types.specs.declared.event.Pid.{Pid as At};
 ghost use Rattle.mote_types.specs.declared.event.Stimulus.{Stimulus as ToldStimulus};
 ghost use Rattle.process_core.specs.Code.Weights.{weight, weight_over};
-ghost use Rattle.process_core.specs.Code.SchedulerView.{job_of};
-ghost use Rattle.process_core.specs.Code.SchedulerFields.{scheduler_of, scheduler_behind, scheduler_over, front_after, found, HoldsEvent, IsBare, IsInOrder, IsOrdered};
-ghost use Rattle.process_core.specs.Code.Yields.{Yields};
+ghost use Rattle.process_core.specs.Code.SchedulerFields.{scheduler_of, scheduler_behind, scheduler_over, found, IsBare, IsInOrder, IsOrdered};
+ghost use Rattle.process_core.specs.Code.FindsJob.{FindsJob};
 ghost use Rattle.process_core.specs.declared.front.Front.{Front};
 ghost use Rattle.process_core.specs.declared.open_work.Base.{Base};
 ghost use Rattle.process_core.specs.declared.open_work.Continuation.{Continuation};
@@ -26,11 +25,7 @@ impl SchedulerFields {
     #[inline(always)]
     pub fn take_front(&mut self, told: &mut Stimulus) -> Option<NextJob>
         requires order { IsInOrder self.old }
-        ensures yields { Yields (scheduler_of self.old)
-            (option_map (λ r. job_of r told.new) result) (scheduler_behind self.new) }
-        ensures told { HoldsEvent result told.new }
-        ensures front { self.new.front ≡ front_after result }
-        ensures order { IsInOrder self.new }
+        ensures { FindsJob (scheduler_of self.old) result told.new self.new }
     {
         match self.front {
             Front::Nothing => None,
@@ -58,11 +53,7 @@ impl SchedulerFields {
     fn find_rare_front(&mut self, told: &mut Stimulus) -> bool
         requires order { IsInOrder self.old }
         requires rare { (p : At) → self.old.front ≡ Front.Answer p → ⊥ }
-        ensures yields { Yields (scheduler_of self.old)
-            (option_map (λ r. job_of r told.new) (found result self.new.ready)) (scheduler_behind self.new) }
-        ensures told { HoldsEvent (found result self.new.ready) told.new }
-        ensures front { self.new.front ≡ front_after (found result self.new.ready) }
-        ensures order { IsInOrder self.new }
+        ensures { FindsJob (scheduler_of self.old) (found result self.new.ready) told.new self.new }
     {
         match self.take_rare_front(told) {
             Some(ready) => {
@@ -77,11 +68,7 @@ impl SchedulerFields {
     fn take_rare_front(&mut self, told: &mut Stimulus) -> Option<NextJob>
         requires order { IsInOrder self.old }
         requires rare { (p : At) → self.old.front ≡ Front.Answer p → ⊥ }
-        ensures yields { Yields (scheduler_of self.old)
-            (option_map (λ r. job_of r told.new) result) (scheduler_behind self.new) }
-        ensures told { HoldsEvent result told.new }
-        ensures front { self.new.front ≡ front_after result }
-        ensures order { IsInOrder self.new }
+        ensures { FindsJob (scheduler_of self.old) result told.new self.new }
     {
         let front = self.front;
         self.front = Front::Nothing;
@@ -109,11 +96,8 @@ impl SchedulerFields {
     ) -> Option<NextJob>
         requires order { IsOrdered self.old (Continuation.Leave pid walk exits ∷ reverse self.old.stack.items) }
         requires idle { self.old.front ≡ Front.Nothing }
-        ensures yields { Yields (scheduler_over self.old (Continuation.Leave pid walk exits ∷ reverse self.old.stack.items))
-            (option_map (λ r. job_of r told.new) result) (scheduler_behind self.new) }
-        ensures told { HoldsEvent result told.new }
-        ensures front { self.new.front ≡ front_after result }
-        ensures order { IsInOrder self.new }
+        ensures finds { FindsJob (scheduler_over self.old (Continuation.Leave pid walk exits ∷ reverse self.old.stack.items))
+            result told.new self.new }
         ensures falls { IfNone result
             (weight self.new < weight_over self.old (Continuation.Leave pid walk exits ∷ reverse self.old.stack.items)) }
     {
@@ -154,11 +138,7 @@ impl SchedulerFields {
         requires bare { IsBare self.old Base.Boot }
         requires order { IsInOrder self.old }
         requires idle { self.old.front ≡ Front.Nothing }
-        ensures yields { Yields (scheduler_behind self.old)
-            (option_map (λ r. job_of r told.new) (found result self.new.ready)) (scheduler_behind self.new) }
-        ensures told { HoldsEvent (found result self.new.ready) told.new }
-        ensures front { self.new.front ≡ front_after (found result self.new.ready) }
-        ensures order { IsInOrder self.new }
+        ensures finds { FindsJob (scheduler_behind self.old) (found result self.new.ready) told.new self.new }
         ensures falls { IfNone (found result self.new.ready) (weight self.new < weight self.old) }
     {
         match self.resume_boot(told) {
@@ -175,11 +155,7 @@ impl SchedulerFields {
         requires bare { IsBare self.old Base.Boot }
         requires order { IsInOrder self.old }
         requires idle { self.old.front ≡ Front.Nothing }
-        ensures yields { Yields (scheduler_behind self.old)
-            (option_map (λ r. job_of r told.new) result) (scheduler_behind self.new) }
-        ensures told { HoldsEvent result told.new }
-        ensures front { self.new.front ≡ front_after result }
-        ensures order { IsInOrder self.new }
+        ensures finds { FindsJob (scheduler_behind self.old) result told.new self.new }
         ensures falls { IfNone result (weight self.new < weight self.old) }
     {
         match self.walk.advance() {
@@ -197,11 +173,7 @@ impl SchedulerFields {
         requires bare { IsBare self.old (Base.Deliver is_polled) }
         requires order { IsInOrder self.old }
         requires idle { self.old.front ≡ Front.Nothing }
-        ensures yields { Yields (scheduler_behind self.old)
-            (option_map (λ r. job_of r told.new) result) (scheduler_behind self.new) }
-        ensures told { HoldsEvent result told.new }
-        ensures front { self.new.front ≡ front_after result }
-        ensures order { IsInOrder self.new }
+        ensures finds { FindsJob (scheduler_behind self.old) result told.new self.new }
         ensures falls { IfNone result (weight self.new < weight self.old) }
     {
         if !is_polled && self.processes.is_any_marked() {
@@ -219,11 +191,7 @@ impl SchedulerFields {
         requires bare { IsBare self.old (Base.Broadcast is_polled) }
         requires order { IsInOrder self.old }
         requires idle { self.old.front ≡ Front.Nothing }
-        ensures yields { Yields (scheduler_behind self.old)
-            (option_map (λ r. job_of r told.new) result) (scheduler_behind self.new) }
-        ensures told { HoldsEvent result told.new }
-        ensures front { self.new.front ≡ front_after result }
-        ensures order { IsInOrder self.new }
+        ensures finds { FindsJob (scheduler_behind self.old) result told.new self.new }
         ensures falls { IfNone result (weight self.new < weight self.old) }
     {
         if !is_polled && self.processes.is_any_marked() && !self.walk.is_over() {
@@ -250,11 +218,7 @@ impl SchedulerFields {
         requires bare { self.old.stack.items ≡ [] }
         requires order { IsInOrder self.old }
         requires idle { self.old.front ≡ Front.Nothing }
-        ensures yields { Yields (scheduler_behind self.old)
-            (option_map (λ r. job_of r told.new) result) (scheduler_behind self.new) }
-        ensures told { HoldsEvent result told.new }
-        ensures front { self.new.front ≡ front_after result }
-        ensures order { IsInOrder self.new }
+        ensures finds { FindsJob (scheduler_behind self.old) result told.new self.new }
         ensures falls { IfNone result (weight self.new < weight self.old) }
     {
         if let Some(pid) = self.polls.next_marked(&self.processes) {
@@ -280,11 +244,7 @@ impl SchedulerFields {
         requires open { 0 < length self.old.stack.items }
         requires order { IsInOrder self.old }
         requires idle { self.old.front ≡ Front.Nothing }
-        ensures yields { Yields (scheduler_behind self.old)
-            (option_map (λ r. job_of r told.new) (found result self.new.ready)) (scheduler_behind self.new) }
-        ensures told { HoldsEvent (found result self.new.ready) told.new }
-        ensures front { self.new.front ≡ front_after (found result self.new.ready) }
-        ensures order { IsInOrder self.new }
+        ensures finds { FindsJob (scheduler_behind self.old) (found result self.new.ready) told.new self.new }
         ensures falls { IfNone (found result self.new.ready) (weight self.new < weight self.old) }
     {
         match self.resume_within(told) {
@@ -301,11 +261,7 @@ impl SchedulerFields {
         requires open { 0 < length self.old.stack.items }
         requires order { IsInOrder self.old }
         requires idle { self.old.front ≡ Front.Nothing }
-        ensures yields { Yields (scheduler_behind self.old)
-            (option_map (λ r. job_of r told.new) result) (scheduler_behind self.new) }
-        ensures told { HoldsEvent result told.new }
-        ensures front { self.new.front ≡ front_after result }
-        ensures order { IsInOrder self.new }
+        ensures finds { FindsJob (scheduler_behind self.old) result told.new self.new }
         ensures falls { IfNone result (weight self.new < weight self.old) }
     {
         match self.stack.pop() {
@@ -329,11 +285,7 @@ impl SchedulerFields {
     pub fn resume(&mut self, told: &mut Stimulus) -> Option<NextJob>
         requires order { IsInOrder self.old }
         requires idle { self.old.front ≡ Front.Nothing }
-        ensures yields { Yields (scheduler_behind self.old)
-            (option_map (λ r. job_of r told.new) result) (scheduler_behind self.new) }
-        ensures told { HoldsEvent result told.new }
-        ensures front { self.new.front ≡ front_after result }
-        ensures order { IsInOrder self.new }
+        ensures finds { FindsJob (scheduler_behind self.old) result told.new self.new }
         ensures falls { IfNone result (weight self.new < weight self.old) }
     {
         if self.stack.is_empty() {
@@ -350,11 +302,7 @@ impl SchedulerFields {
     pub fn work_on(&mut self, told: &mut Stimulus) -> NextJob
         requires order { IsInOrder self.old }
         requires idle { self.old.front ≡ Front.Nothing }
-        ensures yields { Yields (scheduler_behind self.old)
-            (Some (job_of result told.new)) (scheduler_behind self.new) }
-        ensures told { HoldsEvent (Some result) told.new }
-        ensures front { self.new.front ≡ front_after (Some result) }
-        ensures order { IsInOrder self.new }
+        ensures { FindsJob (scheduler_behind self.old) (Some result) told.new self.new }
     {
         'open: loop {
             if let Some(ready) = self.resume(told) {
@@ -369,11 +317,7 @@ impl SchedulerFields {
         requires order { IsInOrder self.old }
         requires idle { self.old.front ≡ Front.Nothing }
         requires bare { IsBare self.old Base.Nothing }
-        ensures yields { (told : ToldStimulus) →
-            Yields (scheduler_behind self.old) (Some (job_of result told)) (scheduler_behind self.new) }
-        ensures told { (told : ToldStimulus) → HoldsEvent (Some result) told }
-        ensures front { self.new.front ≡ front_after (Some result) }
-        ensures order { IsInOrder self.new }
+        ensures { (told : ToldStimulus) → FindsJob (scheduler_behind self.old) (Some result) told self.new }
     {
         if !self.processes.is_any_marked() && self.events.is_empty() {
             return NextJob::Rest;

@@ -1,43 +1,27 @@
-use Rattle.process_core.proofs.Lemmas.{Some, scheduler_behind, scheduler_of, IsInOrder, ComesTo, job_of, HoldsEvent, behind_is_all, applications_from_comes_to, idle_from_rest, served_below, nothing_shown, yields_after}
+use Rattle.process_core.proofs.Lemmas.{Some, scheduler_of, ComesTo, FindsJob, job_of, behind_is_all, applications_from_comes_to, finds_after, idle_from_rest, served_below, nothing_shown}
 use Rattle.process_core.proofs.scheduler.Scheduler.next_to.Goals as goal
 use Rattle.process_core.proofs.scheduler.Scheduler.next_to.Goals.{in-Some, in-None}
 
 -- either the front led to the job, or the work after it
+finds : (c : goal.After-each_is_once)
+    → FindsJob (scheduler_of c.self.inside.fields) (Some c.match-take_front.ready) c.match-take_front.told
+    c.match-take_front.self-inside.fields
+finds c =
+    elim c.match-take_front.branch [
+      | in-Some w ↦ rw (w.told-is, w.ready-is, w.self-inside-is) w.in-Some.ensures
+      | in-None w ↦ rw (w.told-is, w.ready-is, w.self-inside-is) (finds_after w.in-None.ensures w.work_on-ready.ensures)
+    ]
+
 comes_to : (c : goal.After-each_is_once)
     → ComesTo c.args.self.now.state (job_of c.match-take_front.ready c.match-take_front.told)
     (scheduler_of c.match-take_front.self-inside.fields)
 comes_to c =
-    rw (← c.self.view_is)
-    (elim c.match-take_front.branch [
-      | in-Some w ↦
-          rw (w.told-is, w.ready-is, w.self-inside-is)
-          (rw (behind_is_all c.take_front.new.self (Some w.in-Some.ready) w.in-Some.ensures.front) at w.in-Some.ensures.yields)
-      | in-None w ↦
-          rw (w.told-is, w.ready-is, w.self-inside-is)
-          (yields_after (scheduler_of c.self.inside.fields) (scheduler_behind c.take_front.new.self)
-          (Some (job_of w.work_on-ready.result w.work_on-ready.new.told))
-          (scheduler_of w.work_on-ready.new.self) w.in-None.ensures.yields
-          (rw (behind_is_all w.work_on-ready.new.self (Some w.work_on-ready.result) w.work_on-ready.ensures.front)
-          at w.work_on-ready.ensures.yields))
-    ])
-
-in_order : (c : goal.After-each_is_once) → IsInOrder c.match-take_front.self-inside.fields
-in_order c =
-    elim c.match-take_front.branch [
-      | in-Some w ↦ rw w.self-inside-is w.in-Some.ensures.order
-      | in-None w ↦ rw w.self-inside-is w.work_on-ready.ensures.order
-    ]
-
-holds_event : (c : goal.After-each_is_once) → HoldsEvent (Some c.match-take_front.ready) c.match-take_front.told
-holds_event c =
-    elim c.match-take_front.branch [
-      | in-Some w ↦ rw (w.told-is, w.ready-is) w.in-Some.ensures.told
-      | in-None w ↦ rw (w.told-is, w.ready-is) w.work_on-ready.ensures.told
-    ]
+    let f = finds c in
+    rw (← c.self.view_is) (rw (behind_is_all c.match-take_front.self-inside.fields (Some c.match-take_front.ready) f.front) at f.yields)
 
 pub returns-clause-served : goal.returns-clause-served
 returns-clause-served c = λ p serves.
-    let held = rw serves at (holds_event c) in (
+    let held = rw serves at ((finds c).told) in (
       served_below c.args.self.now.state p.0 held.0 (scheduler_of c.match-take_front.self-inside.fields)
           (rw (serves, held.1) at (comes_to c)),
       held.0,
@@ -59,7 +43,7 @@ returns-clause-applications c =
 
 pub returns-clause-standing : goal.returns-clause-standing
 returns-clause-standing c =
-    let order = in_order c in
+    let order = (finds c).order in
     record {
       few = order.few;
       mote = order.sound.mote;

@@ -1,15 +1,22 @@
 use Rattle.process_core.proofs.Lemmas.{arith, sym, ◌∙◌, refl, scheduler_behind, give_yields_nothing, idle_sound, in_order, sound-given}
+use Rattle.std.proofs.Common.{rules}
 use Rattle.process_core.proofs.scheduler_fields.SchedulerFields.give.Goals as goal
 
-pub returns-in-Running-clause-order : goal.returns-in-Running-clause-order
-returns-in-Running-clause-order c =
+pub returns-in-Running-clause-finds : goal.returns-in-Running-clause-finds
+returns-in-Running-clause-finds c =
     let d = c.args.self.now in
-    in_order d c.requires.order
-    (rw c.set_state.ensures
-    (sound-given c.args.pid (idle_sound d c.requires.order c.requires.idle) (omega arith) (sym c.in-Running.ensures.value))) tt
+    record {
+      yields = search rules;
+      told = tt;
+      front = refl;
+      order =
+          in_order d c.requires.order
+          (rw c.set_state.ensures
+          (sound-given c.args.pid (idle_sound d c.requires.order c.requires.idle) (omega arith) (sym c.in-Running.ensures.value))) tt;
+    }
 
-pub returns-in_default-state_of : goal.returns-in_default-state_of
-returns-in_default-state_of c =
+pub returns-in_default-state_of-clause-finds : goal.returns-in_default-state_of-clause-finds
+returns-in_default-state_of-clause-finds c =
     record {
       yields =
           give_yields_nothing (scheduler_behind c.args.self.now) c.args.pid.0 c.args.origin c.args.told.now
@@ -18,5 +25,4 @@ returns-in_default-state_of c =
       told = tt;
       front = c.requires.idle;
       order = c.requires.order;
-      kept = refl;
     }

@@ -1,16 +1,23 @@
-use Rattle.process_core.proofs.Lemmas.{◌≡◌, false, sym, ◌∙◌, is_any_marked, delivered, polled_first}
+use Rattle.process_core.proofs.Lemmas.{◌≡◌, false, sym, ◌∙◌, is_any_marked, delivered, finds_from, polled_first}
+use Rattle.std.proofs.Common.{rules}
 use Rattle.process_core.proofs.scheduler_fields.SchedulerFields.resume_deliver.Goals as goal
 use Rattle.process_core.proofs.scheduler_fields.SchedulerFields.resume_deliver.Goals.{else-not-is_polled-via-then-not-is_polled+else-is_any_marked, else-not-is_polled-via-else-not-is_polled}
 
-pub returns-clause-yields : goal.returns-clause-yields
-returns-clause-yields c =
+pub returns-clause-finds : goal.returns-clause-finds
+returns-clause-finds c =
     let unmarked : (c.args.is_polled ≡ false → is_any_marked c.args.self.now.processes ≡ false) = elim c.else-not-is_polled.branch [
       | else-not-is_polled-via-then-not-is_polled+else-is_any_marked w ↦ λ e. sym w.is_any_marked.ensures ∙ w.if-is_any_marked.false
       | else-not-is_polled-via-else-not-is_polled w ↦ λ e. absurd (cc)
     ] in
-    delivered c.args.self.now c.args.is_polled _ _ c.requires.bare unmarked c.deliver.ensures.yields
+    finds_from (delivered c.args.self.now c.args.is_polled _ _ c.requires.bare unmarked) c.deliver.ensures.finds
 
-pub returns-then-is_any_marked-clause-yields : goal.returns-then-is_any_marked-clause-yields
-returns-then-is_any_marked-clause-yields c =
-    polled_first c.args.self.now c.args.is_polled c.walk_to_poll-self.result c.requires.bare c.if-not-is_polled.true
-    (sym c.is_any_marked.ensures ∙ c.if-is_any_marked.true) c.walk_to_poll-self.ensures.rest
+pub returns-then-is_any_marked-clause-finds : goal.returns-then-is_any_marked-clause-finds
+returns-then-is_any_marked-clause-finds c =
+    record {
+      yields =
+          polled_first c.args.self.now c.args.is_polled c.walk_to_poll-self.result c.requires.bare c.if-not-is_polled.true
+          (sym c.is_any_marked.ensures ∙ c.if-is_any_marked.true) c.walk_to_poll-self.ensures.rest;
+      told = tt;
+      front = c.requires.idle;
+      order = search rules;
+    }

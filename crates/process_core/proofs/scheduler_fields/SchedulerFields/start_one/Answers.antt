@@ -1,4 +1,4 @@
-use Rattle.process_core.proofs.Lemmas.{[], ◌∷◌, Item, refl, sym, scheduler_behind, idle_sound, in_front, in_order, sound-started, yields_next}
+use Rattle.process_core.proofs.Lemmas.{refl, sym, finds_next, idle_sound, in_order, sound-started}
 use Rattle.process_core.proofs.scheduler_fields.SchedulerFields.start_one.Goals as goal
 
 pub give-requires-clause-order : goal.give-requires-clause-order
@@ -9,8 +9,8 @@ give-requires-clause-order c =
     (sound-started c.args.pid.0 (idle_sound d c.requires.order c.requires.idle) c.requires.known (sym c.in-Absent.ensures.value)))
     c.requires.order.starts
 
-pub returns-in-Absent-clause-yields : goal.returns-in-Absent-clause-yields
-returns-in-Absent-clause-yields c =
+pub returns-in-Absent-clause-finds : goal.returns-in-Absent-clause-finds
+returns-in-Absent-clause-finds c =
     rw c.plain_event.ensures
-    (yields_next (in_front (Item.Start c.args.pid.0 ∷ []) (scheduler_behind c.args.self.now)) _ _ refl
-    (rw (← c.in-Absent.ensures.value) (rw (c.add.ensures, c.plain_event.ensures) at c.give.ensures.yields)))
+    (finds_next refl
+    (rw (← c.in-Absent.ensures.value) (rw (c.add.ensures, c.plain_event.ensures) at c.give.ensures.finds)))
