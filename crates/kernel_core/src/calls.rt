@@ -1,15 +1,13 @@
 //! What the kernel does at an application's call.
 
-ghost use Rattle.std.specs.Prelude.{◌≡◌, ◌≤◌, None, Some, length};
+ghost use Rattle.std.specs.Prelude.{◌≡◌, ◌≤◌, Some, length};
 ghost use Rattle.mote_types.specs.declared.reply.Reply.{Reply as Answered};
 ghost use Rattle.node_memory.specs.Code.Outcomes.{reply_to};
 ghost use Rattle.process_core.specs.Requests as request;
 ghost use Rattle.process_core.specs.Code.SchedulerView.{awaiting_nothing};
 ghost use Rattle.kernel_core.specs.Calls.{after_call};
 ghost use Rattle.kernel_core.specs.Code.CallKinds.{kind_of};
-ghost use Rattle.kernel_core.specs.Code.Draws.{drawn_in_all};
-ghost use Rattle.kernel_core.specs.Machine as machine;
-ghost use Rattle.kernel_core.specs.Code.View.{machine_of, no_pending_entries, IsAtTurn, IsCarriedOut, IsOnlyScheduled};
+ghost use Rattle.kernel_core.specs.Code.View.{machine_of, no_pending_entries, IsAnswered, IsAtTurn, IsCarriedOut};
 ghost use Rattle.kernel_core.specs.declared.call_kind.CallKind as kinds;
 
 use crate::call_kind::CallKind;
@@ -38,11 +36,7 @@ impl KernelFields {
     pub fn answer(&mut self, pid: Pid, reply: Reply)
         requires turn { self.old.scheduler.turn ≡ Some pid }
         requires nothing_shown { self.old.pending ≡ no_pending_entries }
-        ensures machine { machine_of self.new ≡ machine.answer pid.0 reply (machine_of self.old) }
-        ensures kept { IsOnlyScheduled self.old self.new }
-        ensures turn { self.new.scheduler.turn ≡ None }
-        ensures events { self.new.scheduler.state.events ≡ self.old.scheduler.state.events }
-        ensures draws { drawn_in_all self.new ≡ drawn_in_all self.old }
+        ensures { IsAnswered pid reply self.old self.new }
     {
         self.scheduler.answered(pid, reply);
     }
@@ -51,11 +45,7 @@ impl KernelFields {
     pub fn refuse(&mut self, pid: Pid, refusal: Refusal)
         requires turn { self.old.scheduler.turn ≡ Some pid }
         requires nothing_shown { self.old.pending ≡ no_pending_entries }
-        ensures machine { machine_of self.new ≡ machine.refuse pid.0 refusal (machine_of self.old) }
-        ensures kept { IsOnlyScheduled self.old self.new }
-        ensures turn { self.new.scheduler.turn ≡ None }
-        ensures events { self.new.scheduler.state.events ≡ self.old.scheduler.state.events }
-        ensures draws { drawn_in_all self.new ≡ drawn_in_all self.old }
+        ensures { IsAnswered pid (Answered.Refused refusal) self.old self.new }
     {
         self.answer(pid, Reply::Refused(refusal));
     }
@@ -65,11 +55,7 @@ impl KernelFields {
     pub fn tell(&mut self, pid: Pid, outcome: Result<(), Refusal>)
         requires turn { self.old.scheduler.turn ≡ Some pid }
         requires nothing_shown { self.old.pending ≡ no_pending_entries }
-        ensures machine { machine_of self.new ≡ machine.answer pid.0 (reply_to outcome) (machine_of self.old) }
-        ensures kept { IsOnlyScheduled self.old self.new }
-        ensures turn { self.new.scheduler.turn ≡ None }
-        ensures events { self.new.scheduler.state.events ≡ self.old.scheduler.state.events }
-        ensures draws { drawn_in_all self.new ≡ drawn_in_all self.old }
+        ensures { IsAnswered pid (reply_to outcome) self.old self.new }
     {
         match outcome {
             Ok(()) => self.answer(pid, Reply::Done),

@@ -1,11 +1,9 @@
 //! Open turns: the kernel works until an application must take one; then its call is executed, whoever made it.
 
-ghost use Rattle.std.specs.Prelude.{◌≡◌, ◌≢◌, ◌≤◌, ◌+◌, false};
+ghost use Rattle.std.specs.Prelude.{◌≡◌, ◌≤◌, ◌+◌, false};
 ghost use Rattle.kernel_core.specs.Calls.{after_call};
-ghost use Rattle.kernel_core.specs.Code.OpenTurns.{AwaitsCall, HasWorked, IsMidTurn};
+ghost use Rattle.kernel_core.specs.Code.OpenTurns.{IsMidTurn, WorksUpTo};
 ghost use Rattle.kernel_core.specs.Code.View.{entries_left_in, machine_of, IsInOrder};
-ghost use Rattle.kernel_core.specs.Run.{Answers};
-ghost use Rattle.kernel_core.specs.Code.Steps.{GoesOn, stepped};
 
 use crate::kernel_fields::KernelFields;
 use crate::step::StepOutcome;
@@ -20,12 +18,7 @@ impl KernelFields {
     #[inline]
     pub fn next(&mut self, turn: &mut Turn, other: &mut Entry) -> StepOutcome
         requires order { IsInOrder self.old }
-        ensures awaits { result ≡ StepOutcome.Turn → (answers : Answers) →
-            AwaitsCall answers (machine_of self.old) turn.new.pid turn.new.origin turn.new.stimulus (machine_of self.new) }
-        ensures open { result ≡ StepOutcome.Turn → IsMidTurn turn.new.pid self.new }
-        ensures goes { result ≢ StepOutcome.Turn → (answers : Answers) →
-            GoesOn answers (machine_of self.old) (stepped result turn.new other.new) (machine_of self.new) }
-        ensures worked { HasWorked result turn.new other.old other.new self.old self.new }
+        ensures { WorksUpTo result turn.new other.old other.new self.old self.new }
     {
         if self.halted {
             return StepOutcome::Halted;

@@ -16,8 +16,8 @@ use Rattle.kernel_core.specs.Calls.{after_call}
 use Rattle.kernel_core.specs.Mote.{Mote}
 use Rattle.kernel_core.specs.Run.{Answers, heard, work_limit}
 use Rattle.kernel_core.specs.Code.Draws.{drawn_in_all}
-use Rattle.kernel_core.specs.Code.Steps.{MakesEntry, made, stepped}
-use Rattle.kernel_core.specs.Code.View.{IsAtTurn, IsInOrder, entries_left_in, mote_of}
+use Rattle.kernel_core.specs.Code.Steps.{GoesOn, MakesEntry, made, stepped}
+use Rattle.kernel_core.specs.Code.View.{IsAtTurn, IsInOrder, entries_left_in, machine_of, mote_of}
 
 -- from old the machine reaches a turn, whatever its call: once the call is executed on new, the turn is made
 abbrev pub AwaitsCall : Answers → Machine → Pid → Origin → Stimulus → Machine → Type 0
@@ -49,6 +49,15 @@ pub record HasWorked (outcome : StepOutcome) (turn : Turn) (before other : Entry
   pub inputs : new.inputs ≡ old.inputs
   pub progress : TakesEntry (stepped outcome turn other) (mote_of old) (mote_of new)
   pub unmade : outcome ≢ StepOutcome.Other → other ≡ before
+
+-- likewise, and the machine has come to that: to an application's open turn, to the entry or to rest
+pub record WorksUpTo (outcome : StepOutcome) (turn : Turn) (before other : Entry) (old new : KernelFields) : Type 0 where
+  pub awaits : outcome ≡ StepOutcome.Turn → (answers : Answers)
+      → AwaitsCall answers (machine_of old) turn.pid turn.origin turn.stimulus (machine_of new)
+  pub opens : outcome ≡ StepOutcome.Turn → IsMidTurn turn.pid new
+  pub goes : outcome ≢ StepOutcome.Turn → (answers : Answers)
+      → GoesOn answers (machine_of old) (stepped outcome turn other) (machine_of new)
+  pub worked : HasWorked outcome turn before other old new
 
 -- what contracts see of a kernel that awaits the call of each turn
 pub record AwaitingMote : Type 0 where

@@ -5,6 +5,7 @@ use Rattle.mote_types.specs.declared.entry.Entry.{Entry}
 use Rattle.mote_types.specs.declared.entry.Input.{Input}
 use Rattle.mote_types.specs.declared.entry.Note.{Note}
 use Rattle.mote_types.specs.declared.event.Pid.{Pid}
+use Rattle.mote_types.specs.declared.reply.Reply.{Reply}
 use Rattle.device_core.specs.declared.frame.Frame.{Frame}
 use Rattle.node_memory.specs.Code.Conditions.{frame_in}
 use Rattle.node_memory.specs.Memory.{Memory}
@@ -19,7 +20,7 @@ use Rattle.process_core.specs.Processes.{numbers}
 use Rattle.process_core.specs.Scheduler.{in_front}
 use Rattle.kernel_core.specs.declared.kernel_fields.KernelFields.{KernelFields}
 use Rattle.kernel_core.specs.declared.pending_entries.PendingEntries.{PendingEntries}
-use Rattle.kernel_core.specs.Machine.{Machine}
+use Rattle.kernel_core.specs.Machine.{Machine, answer}
 use Rattle.kernel_core.specs.Run.{Answers, is_at_rest, one_step, job_done, work_limit}
 use Rattle.kernel_core.specs.Code.Steps.{GoesSilently}
 use Rattle.kernel_core.specs.Code.Cost.{costs, present}
@@ -131,6 +132,14 @@ pub record IsOnlyScheduled (old new : KernelFields) : Type 0 where
   pub after_front : IsOnlyWorked old new
   pub left : LeavesFrames old new
   pub timers : new.timers ≡ old.timers
+
+-- the application gets this reply in its next turn, and only the scheduler was changed
+pub record IsAnswered (pid : Pid) (reply : Reply) (old new : KernelFields) : Type 0 where
+  pub machine : machine_of new ≡ answer pid.0 reply (machine_of old)
+  pub kept : IsOnlyScheduled old new
+  pub turn : new.scheduler.turn ≡ None
+  pub events : new.scheduler.state.events ≡ old.scheduler.state.events
+  pub draws : drawn_in_all new ≡ drawn_in_all old
 
 -- a call was executed that leaves memory and frames unchanged: it draws at most four numbers
 pub record IsCallDone (old new : KernelFields) : Type 0 where

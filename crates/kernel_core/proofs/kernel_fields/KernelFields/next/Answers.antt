@@ -1,26 +1,27 @@
-use Rattle.std.proofs.Common.{◌≡◌, ◌∙◌, ap, false}
+use Rattle.std.proofs.Common.{◌≡◌, ◌∙◌, ap, false, rules}
 use Rattle.kernel_core.proofs.Common.{KernelFields, machine_of}
 use Rattle.kernel_core.specs.Code.Steps.{stepped}
 use Rattle.kernel_core.proofs.Reaching.{entry_is_shown, goes_after, makes_after, worked_after}
 use Rattle.kernel_core.proofs.kernel_fields.KernelFields.next.Goals as goal
 
-pub returns-then-not-is_empty-clause-goes : goal.returns-then-not-is_empty-clause-goes
-returns-then-not-is_empty-clause-goes c =
-    λ is answers. entry_is_shown c.args.self.now c.take_first.new.self c.if-self.false c.take_first.ensures.first
+pub returns-then-not-is_empty : goal.returns-then-not-is_empty
+returns-then-not-is_empty c = record {
+  awaits = search rules;
+  opens = search rules;
+  goes = λ is answers. entry_is_shown c.args.self.now c.take_first.new.self c.if-self.false c.take_first.ensures.first;
+  worked = search rules;
+}
 
-pub returns-clause-awaits : goal.returns-clause-awaits
-returns-clause-awaits c =
-    λ is answers. makes_after (c.pass_idle_poll.ensures.passed answers) (c.work_to_entry.ensures.awaits is answers)
-
-pub returns-clause-goes : goal.returns-clause-goes
-returns-clause-goes c =
+pub returns : goal.returns
+returns c =
     let running : c.pass_idle_poll.new.self.halted ≡ false =
-    ap (λ (k : KernelFields). k.halted) c.pass_idle_poll.ensures.kept ∙ c.if-self.false in
-    λ is answers. goes_after (machine_of c.args.self.now) (machine_of c.pass_idle_poll.new.self) (machine_of c.work_to_entry.new.self)
-    (stepped c.work_to_entry.result c.work_to_entry.new.turn c.work_to_entry.new.other) running (c.pass_idle_poll.ensures.passed answers)
-    (c.work_to_entry.ensures.goes is answers)
-
-pub returns-clause-worked : goal.returns-clause-worked
-returns-clause-worked c =
-    worked_after c.args.self.now c.pass_idle_poll.new.self c.work_to_entry.new.self c.pass_idle_poll.ensures.kept
-    c.pass_idle_poll.ensures.applications c.pass_idle_poll.ensures.work c.work_to_entry.ensures.worked
+    ap (λ (k : KernelFields). k.halted) c.pass_idle_poll.ensures.kept ∙ c.if-self.false in record {
+      awaits = λ is answers. makes_after (c.pass_idle_poll.ensures.passed answers) (c.work_to_entry.ensures.awaits is answers);
+      opens = c.work_to_entry.ensures.opens;
+      goes = λ is answers. goes_after (machine_of c.args.self.now) (machine_of c.pass_idle_poll.new.self) (machine_of c.work_to_entry.new.self)
+          (stepped c.work_to_entry.result c.work_to_entry.new.turn c.work_to_entry.new.other) running (c.pass_idle_poll.ensures.passed answers)
+          (c.work_to_entry.ensures.goes is answers);
+      worked =
+          worked_after c.args.self.now c.pass_idle_poll.new.self c.work_to_entry.new.self c.pass_idle_poll.ensures.kept
+          c.pass_idle_poll.ensures.applications c.pass_idle_poll.ensures.work c.work_to_entry.ensures.worked;
+    }

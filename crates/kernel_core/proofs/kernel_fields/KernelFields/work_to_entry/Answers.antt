@@ -3,16 +3,24 @@ use Rattle.kernel_core.proofs.Reaching.{then_job, job_makes, job_silently}
 use Rattle.kernel_core.proofs.Common.{present, KernelFields}
 use Rattle.kernel_core.proofs.kernel_fields.KernelFields.work_to_entry.Goals as goal
 
-pub returns-then-begin_turn-clause-awaits : goal.returns-then-begin_turn-clause-awaits
-returns-then-begin_turn-clause-awaits c =
-    λ is answers. job_makes (then_job (c.job.invariant.so_far answers) (c.in-TakeTurn.ensures.reached answers))
-    (c.begin_turn.ensures.begins (search rules) _)
+pub returns-then-begin_turn : goal.returns-then-begin_turn
+returns-then-begin_turn c = record {
+  awaits = λ is answers. job_makes (then_job (c.job.invariant.so_far answers) (c.in-TakeTurn.ensures.reached answers))
+      (c.begin_turn.ensures.begins (search rules) _);
+  opens = search rules;
+  goes = search rules;
+  worked = search rules;
+}
 
-pub returns-in-TakeTurn-clause-goes : goal.returns-in-TakeTurn-clause-goes
-returns-in-TakeTurn-clause-goes c =
-    λ is answers.
-    job_makes (then_job (c.job.invariant.so_far answers) (c.in-TakeTurn.ensures.reached answers))
-    (c.begin_turn.ensures.halts (search rules) (answers c.in-TakeTurn.pid.0 c.next_job.new.told))
+pub returns-in-TakeTurn : goal.returns-in-TakeTurn
+returns-in-TakeTurn c = record {
+  awaits = search rules;
+  opens = search rules;
+  goes = λ is answers.
+      job_makes (then_job (c.job.invariant.so_far answers) (c.in-TakeTurn.ensures.reached answers))
+      (c.begin_turn.ensures.halts (search rules) (answers c.in-TakeTurn.pid.0 c.next_job.new.told));
+  worked = search rules;
+}
 
 pub job-preserved-in-Serve : goal.job-preserved-in-Serve
 job-preserved-in-Serve c = record {
@@ -35,17 +43,25 @@ job-preserved-in-CallBack c = record {
       omega (arith, paid.1, c.expire.ensures.kept.present, c.job.invariant.present);
 }
 
-pub returns-in-Rest-clause-goes : goal.returns-in-Rest-clause-goes
-returns-in-Rest-clause-goes c =
-    λ is answers. record {
-      before = job_silently (then_job (c.job.invariant.so_far _) (c.in-Rest.ensures.reached _)) refl;
-      at_rest = search rules;
-    }
+pub returns-in-Rest : goal.returns-in-Rest
+returns-in-Rest c = record {
+  awaits = search rules;
+  opens = search rules;
+  goes = λ is answers. record {
+    before = job_silently (then_job (c.job.invariant.so_far _) (c.in-Rest.ensures.reached _)) refl;
+    at_rest = search rules;
+  };
+  worked = search rules;
+}
 
-pub returns-then-not-begin_round-clause-goes : goal.returns-then-not-begin_round-clause-goes
-returns-then-not-begin_round-clause-goes c =
-    λ is answers. job_makes (then_job (c.job.invariant.so_far _) (c.in-Round.ensures.reached _))
-    (c.begin_round.ensures.halts (search rules))
+pub returns-then-not-begin_round : goal.returns-then-not-begin_round
+returns-then-not-begin_round c = record {
+  awaits = search rules;
+  opens = search rules;
+  goes = λ is answers. job_makes (then_job (c.job.invariant.so_far _) (c.in-Round.ensures.reached _))
+      (c.begin_round.ensures.halts (search rules));
+  worked = search rules;
+}
 
 pub job-preserved : goal.job-preserved
 job-preserved c = record {
