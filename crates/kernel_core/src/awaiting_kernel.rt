@@ -4,16 +4,13 @@ ghost use Rattle.std.specs.Prelude.{◌≡◌, ◌≢◌, ◌<◌, ◌≤◌, �
 ghost use Rattle.std.specs.List.{list_any};
 ghost use Rattle.mote_types.specs.Entries.{is_halt};
 ghost use Rattle.process_core.specs.Code.Conditions.{IsApplication};
-ghost use Rattle.node_memory.specs.Memory.{fresh_memory};
-ghost use Rattle.node_memory.specs.Code.Placed.{last_owner};
-ghost use Rattle.timer_core.specs.Code.NumberedTimers.{at_boot as timers_at_boot};
-ghost use Rattle.kernel_core.specs.Code.View.{machine_of, IsInOrder};
+ghost use Rattle.kernel_core.specs.Code.AtBoot.{AreAtBoot, IsBooted};
 ghost use Rattle.kernel_core.specs.Calls.{after_call};
 ghost use Rattle.kernel_core.specs.Code.OpenTurns.{AwaitsCall};
 ghost use Rattle.kernel_core.specs.Code.Steps.{GoesOn, made as made_by, stepped};
 ghost use Rattle.kernel_core.specs.Inputs.{fed};
 ghost use Rattle.kernel_core.specs.Code.Conditions.{has_bytes, ticks_of};
-ghost use Rattle.kernel_core.specs.Machine.{is_bootable, booted, sizes_of};
+ghost use Rattle.kernel_core.specs.Machine.{is_bootable, booted};
 ghost use Rattle.kernel_core.specs.Code.Conditions.{TakesEntry};
 ghost use Rattle.kernel_core.specs.Run.{Answers, heard, is_at_rest};
 ghost use Rattle.timer_core.specs.Deadlines.{next_deadline};
@@ -40,13 +37,8 @@ fn fields_on_heap(
     config: Config,
     tables: Tables,
 ) -> Result<Box<KernelFields>, AllocError>
-    requires few { config.apps ≤ 16 }
-    requires fresh { tables.memory.value.contents ≡ fresh_memory (sizes_of config) }
-    requires owners { 3 + config.apps ≤ last_owner tables.memory.value }
-    requires unarmed { tables.timers.value ≡ timers_at_boot }
-    ensures machine { IfOk result (λ fields. machine_of fields.value ≡ booted config) }
-    ensures order { IfOk result (λ fields. IsInOrder fields.value) }
-    ensures inputs { IfOk result (λ fields. fields.value.inputs ≡ 0) }
+    requires { AreAtBoot config tables }
+    ensures { IfOk result (λ fields. IsBooted config fields.value) }
 {
     let Ok(scheduler) = Scheduler::new(alloc, config.apps) else {
         return Err(AllocError);

@@ -8,8 +8,8 @@ ghost use Rattle.node_memory.specs.Sizes.{are_sizes};
 ghost use Rattle.process_core.specs.Code.SchedulerView.{awaiting_nothing};
 ghost use Rattle.process_core.specs.Scheduler.{at_boot as scheduler_at_boot};
 ghost use Rattle.timer_core.specs.Code.NumberedTimers.{at_boot as timers_at_boot};
-ghost use Rattle.kernel_core.specs.Code.View.{machine_of, IsInOrder};
-ghost use Rattle.kernel_core.specs.Machine.{is_bootable, booted, sizes_of};
+ghost use Rattle.kernel_core.specs.Code.AtBoot.{AreAtBoot, IsBooted};
+ghost use Rattle.kernel_core.specs.Machine.{is_bootable, sizes_of};
 
 use crate::config::Config;
 use crate::kernel_fields::KernelFields;
@@ -69,10 +69,7 @@ fn timers_on_heap(alloc: Global) -> Result<Box<Timers>, AllocError>
 /// # Errors
 /// As `Kernel::boot`.
 pub fn tables_at_boot(alloc: Global, config: Config) -> Result<Tables, BootFault>
-    ensures few { IfOk result (λ _. config.apps ≤ 16) }
-    ensures fresh { IfOk result (λ tables. tables.memory.value.contents ≡ fresh_memory (sizes_of config)) }
-    ensures owners { IfOk result (λ tables. 3 + config.apps ≤ last_owner tables.memory.value) }
-    ensures unarmed { IfOk result (λ tables. tables.timers.value ≡ timers_at_boot) }
+    ensures fresh { IfOk result (λ tables. AreAtBoot config tables) }
     ensures bad_sizes { IsErrOf result BootFault.BadSizes ↔ (is_bootable config ≡ false) }
 {
     if config.apps > MOST_APPLICATIONS {
@@ -96,15 +93,10 @@ impl KernelFields {
         scheduler: Scheduler,
         serial: SerialLine,
     ) -> KernelFields
-        requires few { config.apps ≤ 16 }
-        requires fresh { tables.memory.value.contents ≡ fresh_memory (sizes_of config) }
-        requires owners { 3 + config.apps ≤ last_owner tables.memory.value }
-        requires unarmed { tables.timers.value ≡ timers_at_boot }
+        requires tables { AreAtBoot config tables }
         requires scheduler { scheduler ≡ awaiting_nothing (scheduler_at_boot config.apps) }
         requires serial { serial ≡ quiet_line }
-        ensures machine { machine_of result ≡ booted config }
-        ensures order { IsInOrder result }
-        ensures inputs { result.inputs ≡ 0 }
+        ensures { IsBooted config result }
     {
         let Tables { memory, timers } = tables;
         KernelFields {

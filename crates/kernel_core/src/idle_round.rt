@@ -2,11 +2,10 @@
 
 ghost use Rattle.std.specs.Prelude.{◌≡◌, ◌≤◌, ◌<◌, ◌+◌, ◌^◌, true, false, is_some};
 ghost use Rattle.timer_core.specs.Timers.{first_due};
-ghost use Rattle.kernel_core.specs.Code.View.{machine_of, IsAtWork, IsInOrder};
+ghost use Rattle.kernel_core.specs.Code.View.{machine_of, IsAtWork, IsInOrder, StepsSilently};
 ghost use Rattle.kernel_core.specs.Code.IdleRound.{is_idle_tick, RestsAfter};
 ghost use Rattle.kernel_core.specs.Code.Conditions.{ticks_of};
 ghost use Rattle.kernel_core.specs.Run.{Answers, is_at_rest};
-ghost use Rattle.kernel_core.specs.Code.Steps.{GoesSilently};
 
 use crate::kernel_fields::{KernelFields, WORK_LIMIT};
 use mote_types::entry::Input;
@@ -27,10 +26,8 @@ impl KernelFields {
     #[inline]
     pub fn pass_idle_poll(&mut self)
         requires at_work { IsAtWork self.old }
-        ensures passed { (answers : Answers) → GoesSilently answers (machine_of self.old) (machine_of self.new) }
-        ensures order { IsInOrder self.new }
+        ensures steps { StepsSilently self.old self.new }
         ensures kept { self.new ≡ record self.old { work = self.new.work; scheduler = self.new.scheduler } }
-        ensures applications { self.new.scheduler.state.applications ≡ self.old.scheduler.state.applications }
         ensures work { self.old.work ≤ self.new.work }
     {
         if !self.scheduler.polls_alone(ETIMER)

@@ -7,11 +7,10 @@ ghost use Rattle.kernel_core.specs.Code.Carrying.{job_carrying};
 ghost use Rattle.process_core.specs.Code.SchedulerView.{served};
 ghost use Rattle.kernel_core.specs.Code.Cost.{present};
 ghost use Rattle.kernel_core.specs.Code.Draws.{HasQueueableEvents, draws_of_job};
-ghost use Rattle.kernel_core.specs.Code.View.{entries_left_in, machine_of, IsAtWork, IsInOrder, IsServed};
+ghost use Rattle.kernel_core.specs.Code.View.{entries_left_in, machine_of, IsAtWork, IsServed, StepsSilently};
 ghost use Rattle.kernel_core.specs.Code.IdleReceivers.{idle_receivers_passed};
 ghost use Rattle.kernel_core.specs.Code.CallKinds.{kind_of};
 ghost use Rattle.kernel_core.specs.Run.{Answers, job_done, silent};
-ghost use Rattle.kernel_core.specs.Code.Steps.{GoesSilently};
 ghost use Rattle.kernel_core.specs.TimerProcesses.{exited_application};
 
 use crate::call_kind::CallKind;
@@ -50,9 +49,7 @@ impl KernelFields {
         ensures value { self.new ≡ record self.old {
           scheduler = record self.old.scheduler { state = idle_receivers_passed (kind_of last.now) self.old.scheduler.state };
         } }
-        ensures passed { (answers : Answers) → GoesSilently answers (machine_of self.old) (machine_of self.new) }
-        ensures order { IsInOrder self.new }
-        ensures applications { self.new.scheduler.state.applications ≡ self.old.scheduler.state.applications }
+        ensures steps { StepsSilently self.old self.new }
         ensures present { present self.new.scheduler.state ≡ present self.old.scheduler.state }
         ensures left { entries_left_in self.new ≡ entries_left_in self.old }
     {

@@ -1,10 +1,10 @@
 //! Process 3 (packet), which announces frames to the receiver.
 
-ghost use Rattle.std.specs.Prelude.{◌≡◌, ◌+◌, true, false, length};
+ghost use Rattle.std.specs.Prelude.{◌≡◌, true};
 ghost use Rattle.mote_types.specs.Codes.{number_event};
 ghost use Rattle.process_core.specs.Scheduler.{has_room};
 ghost use Rattle.kernel_core.specs.Code.Draws.{HasQueueableEvents};
-ghost use Rattle.kernel_core.specs.Code.View.{machine_of, IsServed};
+ghost use Rattle.kernel_core.specs.Code.View.{machine_of, IsServed, PostsOne};
 ghost use Rattle.kernel_core.specs.Machine.{free_places};
 ghost use Rattle.kernel_core.specs.PacketProcess as process;
 ghost use Rattle.kernel_core.specs.Repeating.{times};
@@ -28,10 +28,7 @@ impl KernelFields {
     fn announce_next(&mut self) -> bool
         requires room { has_room self.old.scheduler.state ≡ true }
         requires events { HasQueueableEvents self.old }
-        ensures machine { machine_of self.new ≡ process.announce_next (machine_of self.old) }
-        ensures nothing { result ≡ false → machine_of self.new ≡ machine_of self.old }
-        ensures posted { result ≡ true → length self.new.scheduler.state.events ≡ length self.old.scheduler.state.events + 1 }
-        ensures kept { IsServed 0 self.old self.new }
+        ensures { PostsOne process.announce_next result self.old self.new }
     {
         let Some(receiver) = self.packets.receiver() else {
             return false;

@@ -1,6 +1,6 @@
 //! Process 0 (etimer), which posts the timers that have run out, and process 1 (ctimer), for callback timers.
 
-ghost use Rattle.std.specs.Prelude.{◌≡◌, ◌<◌, ◌+◌, ◌^◌, true, false, length, None, Some};
+ghost use Rattle.std.specs.Prelude.{◌≡◌, ◌<◌, ◌^◌, true, None, Some};
 ghost use Rattle.process_core.specs.Scheduler.{has_room};
 ghost use Rattle.timer_core.specs.Code.Conditions.{IsNamed};
 ghost use Rattle.timer_core.specs.declared.timer.Timer.{Timer};
@@ -10,7 +10,7 @@ ghost use Rattle.kernel_core.specs.Repeating.{times};
 ghost use Rattle.kernel_core.specs.Machine.{free_places};
 ghost use Rattle.kernel_core.specs.TimerProcesses as processes;
 ghost use Rattle.kernel_core.specs.TimerProcesses.{exited_application};
-ghost use Rattle.kernel_core.specs.Code.View.{machine_of, is_cancelled, no_pending_entries, IsExpired, IsServed};
+ghost use Rattle.kernel_core.specs.Code.View.{machine_of, is_cancelled, no_pending_entries, IsExpired, IsServed, PostsOne};
 ghost use Rattle.kernel_core.specs.Code.Carrying.{job_carrying};
 ghost use Rattle.kernel_core.specs.Run.{Answers, job_done, silent};
 ghost use Rattle.process_core.specs.Agenda.{Job};
@@ -34,10 +34,7 @@ impl KernelFields {
     fn post_first_due(&mut self) -> bool
         requires room { has_room self.old.scheduler.state ≡ true }
         requires events { HasQueueableEvents self.old }
-        ensures machine { machine_of self.new ≡ processes.post_first_due (machine_of self.old) }
-        ensures nothing { result ≡ false → machine_of self.new ≡ machine_of self.old }
-        ensures posted { result ≡ true → length self.new.scheduler.state.events ≡ length self.old.scheduler.state.events + 1 }
-        ensures kept { IsServed 0 self.old self.new }
+        ensures { PostsOne processes.post_first_due result self.old self.new }
     {
         match self.timers.take_due(self.clock) {
             Some(Due::Timer { pid, number }) => {

@@ -98,6 +98,12 @@ pub record IsAtWork (k : KernelFields) : Type 0 where
   pub running : k.halted ≡ false
   pub shown : k.pending ≡ no_pending_entries
 
+-- steps that make no entry have left the fields in order
+pub record StepsSilently (old new : KernelFields) : Type 0 where
+  pub passed : (answers : Answers) → GoesSilently answers (machine_of old) (machine_of new)
+  pub order : IsInOrder new
+  pub applications : new.scheduler.state.applications ≡ old.scheduler.state.applications
+
 -- an application has the turn, and all that was to be shown is shown
 pub record IsAtTurn (pid : Pid) (k : KernelFields) : Type 0 where
   pub turn : k.scheduler.turn ≡ Some pid
@@ -183,6 +189,13 @@ pub record IsServed (most : ℕ) (old new : KernelFields) : Type 0 where
   pub agenda : new.scheduler.state.agenda ≡ old.scheduler.state.agenda
   pub present : present new.scheduler.state ≡ present old.scheduler.state
   pub draws : drawn_in_all new ≤ drawn_in_all old + most
+
+-- a kernel process that posts one event after the other did so once: `work` is what the machine does then
+pub record PostsOne (work : Machine → Machine) (is_posted : Bool) (old new : KernelFields) : Type 0 where
+  pub machine : machine_of new ≡ work (machine_of old)
+  pub nothing : is_posted ≡ false → machine_of new ≡ machine_of old
+  pub posted : is_posted ≡ true → length new.scheduler.state.events ≡ length old.scheduler.state.events + 1
+  pub kept : IsServed 0 old new
 
 -- an expiry left the queue: where it counts, the callback is put on the agenda
 pub record IsExpired (old new : KernelFields) : Type 0 where

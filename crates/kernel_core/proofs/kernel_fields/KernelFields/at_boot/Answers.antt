@@ -6,16 +6,16 @@ use Rattle.kernel_core.specs.Code.Draws.{draws_of_item}
 use Rattle.kernel_core.proofs.Totals.{total-none}
 use Rattle.kernel_core.proofs.kernel_fields.KernelFields.at_boot.Goals as goal
 
-pub returns-clause-order : goal.returns-clause-order
-returns-clause-order c =
-    let packets : c.new.result ≡ no_packets = search rules in
-    let starts = total-none draws_of_item (λ p. Item.Start p) (range_with_len 4 c.args.config.apps) (λ p. refl) in
-    let frames = no_frames (sizes_of c.args.config) in
-    rw (c.requires.fresh, packets) (search (rules, starts))
-
-pub returns-clause-machine : goal.returns-clause-machine
-returns-clause-machine c =
+pub returns : goal.returns
+returns c =
     let packets : c.new.result ≡ no_packets = search rules in
     let pending : c.none.result ≡ no_pending_entries = search rules in
-    let timers : c.args.tables.timers.value.timers ≡ no_timers = rw c.requires.unarmed refl in
-    rw c.requires.fresh (rw c.requires.scheduler (rw timers (rw c.requires.serial (rw packets (rw pending refl)))))
+    let timers : c.args.tables.timers.value.timers ≡ no_timers = rw c.requires.tables.unarmed refl in
+    let starts = total-none draws_of_item (λ p. Item.Start p) (range_with_len 4 c.args.config.apps) (λ p. refl) in
+    let frames = no_frames (sizes_of c.args.config) in
+    record {
+      machine =
+          rw c.requires.tables.fresh (rw c.requires.scheduler (rw timers (rw c.requires.serial (rw packets (rw pending refl)))));
+      order = rw (c.requires.tables.fresh, packets) (search (rules, starts));
+      inputs = refl;
+    }
