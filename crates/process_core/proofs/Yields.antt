@@ -199,7 +199,7 @@ module _ (d : SchedulerFields) where
         order = f.order;
       }
 
--- what a step finds from one scheduler it finds from one that leads there, too
+-- what is found from one scheduler is found from one that leads there, too
 pub finds_from : {s t : Scheduler ℕ} {ready : Option NextJob} {buffer : Stimulus} {after : SchedulerFields}
     → (Yields s (option_map (λ r. job_of r buffer) ready) (scheduler_behind after)
     → Yields t (option_map (λ r. job_of r buffer) ready) (scheduler_behind after))
@@ -211,7 +211,7 @@ pub finds_next : {s : Scheduler ℕ} {ready : Option NextJob} {buffer : Stimulus
     → job s ≡ None → FindsJob (after_front s) ready buffer after → FindsJob s ready buffer after
 finds_next {s} none f = record { yields = yields_next s _ _ none f.yields; told = f.told; front = f.front; order = f.order }
 
--- what leads to no job, and then finds one
+-- what is found after a step that found no job
 pub finds_after : {s : Scheduler ℕ} {ready : Option NextJob} {told buffer : Stimulus} {between after : SchedulerFields}
     → FindsJob s None told between → FindsJob (scheduler_behind between) ready buffer after → FindsJob s ready buffer after
 finds_after {s} {between = between} first f = finds_from (yields_after s (scheduler_behind between) _ _ first.yields) f

@@ -50,7 +50,7 @@ pub record HasWorked (outcome : StepOutcome) (turn : Turn) (before other : Entry
   pub progress : TakesEntry (stepped outcome turn other) (mote_of old) (mote_of new)
   pub unmade : outcome ≢ StepOutcome.Other → other ≡ before
 
--- likewise, and the machine has come to that: to an application's open turn, to the entry or to rest
+-- likewise, and the machine has come as far: to a turn whose call is awaited, to the entry or to rest
 pub record WorksUpTo (outcome : StepOutcome) (turn : Turn) (before other : Entry) (old new : KernelFields) : Type 0 where
   pub awaits : outcome ≡ StepOutcome.Turn → (answers : Answers)
       → AwaitsCall answers (machine_of old) turn.pid turn.origin turn.stimulus (machine_of new)

@@ -190,7 +190,7 @@ pub record IsServed (most : ℕ) (old new : KernelFields) : Type 0 where
   pub present : present new.scheduler.state ≡ present old.scheduler.state
   pub draws : drawn_in_all new ≤ drawn_in_all old + most
 
--- a kernel process that posts one event after the other did so once: `work` is what the machine does then
+-- a kernel process posted its next event, or had none to post: `work` is what the machine does then
 pub record PostsOne (work : Machine → Machine) (is_posted : Bool) (old new : KernelFields) : Type 0 where
   pub machine : machine_of new ≡ work (machine_of old)
   pub nothing : is_posted ≡ false → machine_of new ≡ machine_of old

@@ -18,9 +18,9 @@ returns c =
     ap (λ (k : KernelFields). k.halted) c.pass_idle_poll.ensures.kept ∙ c.if-self.false in record {
       awaits = λ is answers. makes_after (c.pass_idle_poll.ensures.steps.passed answers) (c.work_to_entry.ensures.awaits is answers);
       opens = c.work_to_entry.ensures.opens;
-      goes = λ is answers. goes_after (machine_of c.args.self.now) (machine_of c.pass_idle_poll.new.self) (machine_of c.work_to_entry.new.self)
-          (stepped c.work_to_entry.result c.work_to_entry.new.turn c.work_to_entry.new.other) running (c.pass_idle_poll.ensures.steps.passed answers)
-          (c.work_to_entry.ensures.goes is answers);
+      goes = λ is answers. goes_after _ _ (machine_of c.work_to_entry.new.self)
+          (stepped c.work_to_entry.result c.work_to_entry.new.turn c.work_to_entry.new.other) running
+          (c.pass_idle_poll.ensures.steps.passed answers) (c.work_to_entry.ensures.goes is answers);
       worked =
           worked_after c.args.self.now c.pass_idle_poll.new.self c.work_to_entry.new.self c.pass_idle_poll.ensures.kept
           c.pass_idle_poll.ensures.steps.applications c.pass_idle_poll.ensures.work c.work_to_entry.ensures.worked;

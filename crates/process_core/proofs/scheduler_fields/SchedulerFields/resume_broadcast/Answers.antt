@@ -12,7 +12,8 @@ returns-in-Some-clause-finds c =
       | else-not-is_polled-via-else-not-is_polled w ↦ λ e. absurd (cc)
     ] in
     rw c.tell.ensures
-    (finds_from (received c.args.self.now c.args.is_polled c.in-Some.pid.0 c.advance.new.self _ _ c.requires.bare c.in-Some.ensures unmarked)
+    (finds_from
+    (received c.args.self.now c.args.is_polled c.in-Some.pid.0 c.advance.new.self _ _ c.requires.bare c.in-Some.ensures unmarked)
     (rw c.tell.ensures at c.give.ensures.finds))
 
 pub returns-then-not-is_over-clause-finds : goal.returns-then-not-is_over-clause-finds
