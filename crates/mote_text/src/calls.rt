@@ -201,9 +201,9 @@ fn put_arguments(page: &mut Page, at: usize, call: &Call) -> usize
     }
 }
 
-/// Puts an arrow and what a process called, at most 297 bytes.
-#[inline(always)]
-pub(crate) fn put_call(page: &mut Page, at: usize, call: &Call) -> usize
+/// Puts an arrow and a call that is not `Wait`, which most are.
+#[inline(never)]
+fn put_other_call(page: &mut Page, at: usize, call: &Call) -> usize
     requires { at + 320 ≤ 4096 }
     ensures { Puts page.old.bytes page.new.bytes at result 297 (blanked (codes "->" ∷ call_words call.now)) }
 {
@@ -211,4 +211,16 @@ pub(crate) fn put_call(page: &mut Page, at: usize, call: &Call) -> usize
     let (block, len) = word_of(call);
     let at = page.put_front(at, block, len + 1);
     put_arguments(page, at, call)
+}
+
+/// Puts an arrow and what a process called, at most 297 bytes.
+#[inline(always)]
+pub(crate) fn put_call(page: &mut Page, at: usize, call: &Call) -> usize
+    requires { at + 320 ≤ 4096 }
+    ensures { Puts page.old.bytes page.new.bytes at result 297 (blanked (codes "->" ∷ call_words call.now)) }
+{
+    match call {
+        Call::Wait => page.put_front(at, b"-> wait         ", 8),
+        _ => put_other_call(page, at, call),
+    }
 }

@@ -92,6 +92,8 @@ pub fn push_input_line(input: &Input, line: &mut OutputBuffer)
 /// Appends the line of a turn, with its end.
 ///
 /// Source: the transcript format is this project's profile.
+// Most lines are turns: where it is called once, it saves no registers of its own.
+#[inline(always)]
 pub fn push_turn_line(
     pid: Pid,
     origin: Origin,
