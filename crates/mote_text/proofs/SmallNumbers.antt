@@ -1,37 +1,29 @@
--- Each number below 256 is in the table, at four times itself.
-use Rattle.std.proofs.Common.{◌≡◌, ◌*◌, ◌<◌, ◌≤◌, ◌++◌, ℕ, List, Bool, true, false, ◌∷◌, ◌&&◌, ◌==◌, decimal, codes, drop, take, refl, arith, []}
+-- Each number below 256 is in a table, at eight times itself: all are tried.
+use Rattle.std.proofs.Common.{◌≡◌, ◌+◌, ◌*◌, ◌<◌, ◌≤◌, ◌++◌, ℕ, List, Bool, true, ◌&&◌, ◌==◌, decimal, codes, drop, length, nat_le, slice_index, take, refl, arith}
 use Rattle.std.specs.Fmt.{digits}
+use Rattle.std.specs.Str.{bytes_eq}
 use Rattle.std.proofs.lemmas.Bool.{eqb-true}
-use Rattle.mote_text.specs.Code.SmallNumbers.{small_numbers, small_width}
+use Rattle.std.proofs.lemmas.Slice.Eq.{bytes_eq-Decides}
+use Rattle.mote_text.specs.Code.SmallNumbers.{HasSmallNumbers}
 use Rattle.mote_text.proofs.Common.{and_parts, nat_tests}
 use Rattle.mote_text.proofs.EachByte.{holds_at, holds_below}
 
-abbrev are_same : List ℕ → List ℕ → Bool
-are_same [] [] = true
-are_same [] (y ∷ ys) = false
-are_same (x ∷ xs) [] = false
-are_same (x ∷ xs) (y ∷ ys) = x == y && are_same xs ys
+abbrev is_right : List ℕ → ℕ → Bool
+is_right table n =
+    bytes_eq (take (length (decimal n) + 1) (drop (8 * n) table)) (decimal n ++ codes " ")
+    && slice_index table (8 * n + 4) == length (decimal n) + 49
 
-different : false ≡ true → ⊥
-different is = grind (arith, is)
+pub all_in : (table : List ℕ) → holds_below (is_right table) 256 ≡ true → HasSmallNumbers table
+all_in table right n below =
+    let parts = and_parts _ _ (holds_at (is_right table) 256 n right below) in
+    ((bytes_eq-Decides _ _).0 parts.0, eqb-true _ _ parts.1)
 
-same : (xs ys : List ℕ) → are_same xs ys ≡ true → xs ≡ ys
-same [] [] _ = refl
-same [] (y ∷ ys) is = absurd (different is)
-same (x ∷ xs) [] is = absurd (different is)
-same (x ∷ xs) (y ∷ ys) is =
-    let parts = and_parts (x == y) (are_same xs ys) is in
-    rw (eqb-true x y parts.0, same xs ys parts.1) refl
+abbrev is_narrow : ℕ → Bool
+is_narrow n = nat_le (length (decimal n)) 3
 
-abbrev is_right : ℕ → Bool
-is_right n = are_same (take (small_width n) (drop (4 * n) small_numbers)) (decimal n ++ codes " ")
+all_narrow : holds_below is_narrow 256 ≡ true
+unfolding digits
+all_narrow = refl
 
-all_right : holds_below is_right 256 ≡ true
-unfolding small_numbers digits
-all_right = refl
-
-pub is_in_table : (n : ℕ) → n < 256 → take (small_width n) (drop (4 * n) small_numbers) ≡ decimal n ++ codes " "
-is_in_table n below = same _ _ (holds_at is_right 256 n all_right below)
-
-pub narrow : (n : ℕ) → small_width n ≤ 4
-narrow n = grind (arith, nat_tests)
+pub narrow : (n : ℕ) → n < 256 → length (decimal n) ≤ 3
+narrow n below = grind (arith, nat_tests, holds_at is_narrow 256 n all_narrow below)

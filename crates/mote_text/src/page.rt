@@ -6,7 +6,7 @@ ghost use Rattle.hex.specs.Hex.{encode_lower};
 ghost use Rattle.mote_text.specs.EntryText.{hex};
 ghost use Rattle.mote_text.specs.Code.EntryLines.{blanked};
 ghost use Rattle.mote_text.specs.Code.Appending.{Puts};
-ghost use Rattle.mote_text.specs.Code.SmallNumbers.{small_numbers, small_width};
+ghost use Rattle.mote_text.specs.Code.SmallNumbers.{HasSmallNumbers};
 
 use crate::hex_digits::DigitPairs;
 use itoa::Buffer;
@@ -15,46 +15,48 @@ use std::simd::Simd;
 /// How many bytes a page holds.
 pub(crate) const CAPACITY: usize = 4_096;
 
-/// The numbers below 256, four bytes each: their digits, and blanks.
-const SMALL_NUMBERS: &[u8; 1_024] = b"\
-0   1   2   3   4   5   6   7   8   9   10  11  12  13  14  15  \
-16  17  18  19  20  21  22  23  24  25  26  27  28  29  30  31  \
-32  33  34  35  36  37  38  39  40  41  42  43  44  45  46  47  \
-48  49  50  51  52  53  54  55  56  57  58  59  60  61  62  63  \
-64  65  66  67  68  69  70  71  72  73  74  75  76  77  78  79  \
-80  81  82  83  84  85  86  87  88  89  90  91  92  93  94  95  \
-96  97  98  99  100 101 102 103 104 105 106 107 108 109 110 111 \
-112 113 114 115 116 117 118 119 120 121 122 123 124 125 126 127 \
-128 129 130 131 132 133 134 135 136 137 138 139 140 141 142 143 \
-144 145 146 147 148 149 150 151 152 153 154 155 156 157 158 159 \
-160 161 162 163 164 165 166 167 168 169 170 171 172 173 174 175 \
-176 177 178 179 180 181 182 183 184 185 186 187 188 189 190 191 \
-192 193 194 195 196 197 198 199 200 201 202 203 204 205 206 207 \
-208 209 210 211 212 213 214 215 216 217 218 219 220 221 222 223 \
-224 225 226 227 228 229 230 231 232 233 234 235 236 237 238 239 \
-240 241 242 243 244 245 246 247 248 249 250 251 252 253 254 255 ";
+/// The numbers below 256, eight bytes each: in four its digits and blanks, then how many bytes it has with one blank.
+const SMALL_NUMBERS: &[u8; 2_048] = b"\
+0   2   1   2   2   2   3   2   4   2   5   2   6   2   7   2   \
+8   2   9   2   10  3   11  3   12  3   13  3   14  3   15  3   \
+16  3   17  3   18  3   19  3   20  3   21  3   22  3   23  3   \
+24  3   25  3   26  3   27  3   28  3   29  3   30  3   31  3   \
+32  3   33  3   34  3   35  3   36  3   37  3   38  3   39  3   \
+40  3   41  3   42  3   43  3   44  3   45  3   46  3   47  3   \
+48  3   49  3   50  3   51  3   52  3   53  3   54  3   55  3   \
+56  3   57  3   58  3   59  3   60  3   61  3   62  3   63  3   \
+64  3   65  3   66  3   67  3   68  3   69  3   70  3   71  3   \
+72  3   73  3   74  3   75  3   76  3   77  3   78  3   79  3   \
+80  3   81  3   82  3   83  3   84  3   85  3   86  3   87  3   \
+88  3   89  3   90  3   91  3   92  3   93  3   94  3   95  3   \
+96  3   97  3   98  3   99  3   100 4   101 4   102 4   103 4   \
+104 4   105 4   106 4   107 4   108 4   109 4   110 4   111 4   \
+112 4   113 4   114 4   115 4   116 4   117 4   118 4   119 4   \
+120 4   121 4   122 4   123 4   124 4   125 4   126 4   127 4   \
+128 4   129 4   130 4   131 4   132 4   133 4   134 4   135 4   \
+136 4   137 4   138 4   139 4   140 4   141 4   142 4   143 4   \
+144 4   145 4   146 4   147 4   148 4   149 4   150 4   151 4   \
+152 4   153 4   154 4   155 4   156 4   157 4   158 4   159 4   \
+160 4   161 4   162 4   163 4   164 4   165 4   166 4   167 4   \
+168 4   169 4   170 4   171 4   172 4   173 4   174 4   175 4   \
+176 4   177 4   178 4   179 4   180 4   181 4   182 4   183 4   \
+184 4   185 4   186 4   187 4   188 4   189 4   190 4   191 4   \
+192 4   193 4   194 4   195 4   196 4   197 4   198 4   199 4   \
+200 4   201 4   202 4   203 4   204 4   205 4   206 4   207 4   \
+208 4   209 4   210 4   211 4   212 4   213 4   214 4   215 4   \
+216 4   217 4   218 4   219 4   220 4   221 4   222 4   223 4   \
+224 4   225 4   226 4   227 4   228 4   229 4   230 4   231 4   \
+232 4   233 4   234 4   235 4   236 4   237 4   238 4   239 4   \
+240 4   241 4   242 4   243 4   244 4   245 4   246 4   247 4   \
+248 4   249 4   250 4   251 4   252 4   253 4   254 4   255 4   ";
 
 /// The table of these numbers.
 #[inline(always)]
 fn small_numbers() -> &'static [u8]
-    ensures table { result.now ≡ small_numbers }
-    ensures size { length result.now ≡ 1024 }
+    ensures numbers { HasSmallNumbers result.now }
+    ensures size { length result.now ≡ 2048 }
 {
     &SMALL_NUMBERS[..]
-}
-
-/// How many bytes a number below 256 has in decimal, with a blank.
-#[inline(always)]
-fn small_width(n: u8) -> usize
-    ensures { result ≡ small_width n }
-{
-    if n < 10 {
-        2
-    } else if n < 100 {
-        3
-    } else {
-        4
-    }
 }
 
 /// Moves the first N bytes of a block, in one load and one store: `copy_from_slice` would ask first whether the two overlap.
@@ -146,8 +148,10 @@ impl Page {
         requires { at + 4 ≤ 4096 }
         ensures { Puts self.old.bytes self.new.bytes at result 4 (blanked (decimal n ∷ [])) }
     {
-        let from = 4 * n as usize;
-        self.put_block::<4>(at, &small_numbers()[from..], small_width(n))
+        let from = 8 * n as usize;
+        let numbers = small_numbers();
+        let width = numbers[from + 4] as usize - b'0' as usize;
+        self.put_block::<4>(at, &numbers[from..], width)
     }
 
     /// Puts a number in decimal and a blank, however many digits it has.

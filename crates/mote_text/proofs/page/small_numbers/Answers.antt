@@ -1,10 +1,11 @@
+use Rattle.std.specs.Fmt.{digits}
 use Rattle.std.proofs.Common.{refl}
-use Rattle.mote_text.specs.Code.SmallNumbers.{small_numbers}
+use Rattle.mote_text.proofs.SmallNumbers.{all_in}
 use Rattle.mote_text.proofs.page.small_numbers.Goals as goal
 
 pub returns : goal.returns
-unfolding small_numbers
+unfolding digits
 returns c = record {
-  table = refl;
+  numbers = all_in _ refl;
   size = refl;
 }

@@ -1,14 +1,21 @@
 use Rattle.std.proofs.Common.{arith, ap, sym, ◌∙◌, ◌++◌, take, decimal}
+use Rattle.std.proofs.lemmas.List.{take-take}
 use Rattle.mote_text.proofs.Blanked.{blanked_one}
-use Rattle.mote_text.proofs.SmallNumbers.{is_in_table, narrow}
+use Rattle.mote_text.proofs.SmallNumbers.{narrow}
 use Rattle.mote_text.proofs.page.Page.put_small_number.Goals as goal
 
+pub put_block-requires-clause-few : goal.put_block-requires-clause-few
+put_block-requires-clause-few c = omega (arith, narrow c.args.n (omega arith), (c.small_numbers-numbers.ensures.numbers c.args.n (omega arith)).1)
+
 pub returns : goal.returns
-returns c = record {
-  text =
-      c.put_block.ensures.text
-      ∙ ap (λ text. take c.args.at c.args.self.now.bytes ++ text) (
-      grind (arith, c.small_numbers.ensures.table) ∙ is_in_table c.args.n (omega arith) ∙ sym (blanked_one (decimal c.args.n))
-      );
-  few = omega (arith, c.put_block.ensures.few, narrow c.args.n);
-}
+returns c =
+    let few = narrow c.args.n (omega arith) in
+    let number = c.small_numbers-numbers.ensures.numbers c.args.n (omega arith) in
+    record {
+      text =
+          c.put_block.ensures.text
+          ∙ ap (λ text. take c.args.at c.args.self.now.bytes ++ text) (
+          grind (arith, few, number.1, take-take) ∙ number.0 ∙ sym (blanked_one (decimal c.args.n))
+          );
+      few = omega (arith, c.put_block.ensures.few, few, number.1);
+    }
