@@ -1,42 +1,92 @@
 -- Digits of many bytes.
-use Rattle.std.proofs.Common.{◌≡◌, ◌+◌, ◌*◌, ◌/◌, ◌%◌, ◌<◌, ◌≤◌, ◌++◌, ◌∷◌, ◌∙◌, ℕ, zero, suc, List, Bool, true, ◌&&◌, ◌==◌, drop, length, length-take-le, set, sym, take, refl, ap, arith, slice_index, [], nat_lt, if◌then◌else◌}
-use Rattle.std.specs.Int.Bits.{bit_and, bit_or}
+use Rattle.std.proofs.Common.{get_or, All, cond, ltb, map, replicate, subst, ◌≡◌, ◌+◌, ◌*◌, ◌/◌, ◌%◌, ◌<◌, ◌≤◌, ◌++◌, ◌∷◌, ◌∙◌, ℕ, zero, suc, List, Bool, true, ◌==◌, drop, length, length-take-le, sym, take, refl, ap, arith, slice_index, [], nat_lt, if◌then◌else◌}
+use Rattle.std.specs.Int.Bits.{bit_or}
+use Rattle.std.specs.List.{flat_map, range_with_len}
+use Rattle.std.specs.Simd.Lanes.{pick_l, sel_l, top, zip2}
+use Rattle.std.proofs.lemmas.Simd.{pick_l_whole, zip2_splat}
 use Rattle.std.proofs.lemmas.Bool.{eqb-true}
-use Rattle.std.proofs.lemmas.List.{append_assoc, drop-drop, length-set, length-drop, take-take, take-append-le, take_all}
+use Rattle.std.proofs.lemmas.List.Elements.{All-map}
+use Rattle.std.proofs.lemmas.List.{get_or_default, append_assoc, drop-drop, length-drop, take-take, take-append-le, take_all}
 use Rattle.hex.specs.Hex.{lower_digits}
-use Rattle.mote_text.proofs.Common.{and_parts, encode_lower, encode_with, le-ltb, lt-ltb}
+use Rattle.mote_text.proofs.Common.{encode_lower, encode_with, le-ltb, lt-ltb}
 use Rattle.mote_text.proofs.EachByte.{holds_at, holds_below}
 use Rattle.mote_text.specs.Code.HexDigits.{value_or_none}
 
--- both digits of a byte, worked out at once
-abbrev pub worked_out : ℕ → ℕ
-worked_out byte =
-    let values = byte / 16 + 256 * (byte % 16) in
-    values + 12336 + 39 * bit_and ((values + 1542) / 16) 257
+abbrev digit : ℕ → ℕ
+digit value = slice_index lower_digits value
+
+-- the digit of a value, as it is worked out
+abbrev worked_out : ℕ → ℕ
+worked_out value = ((value + 48) % 256 + cond (top 7 (cond (ltb 9 value) 255 0)) 39 0) % 256
 
 abbrev is_right : ℕ → Bool
-is_right byte =
-    worked_out byte % 256 == slice_index lower_digits (byte / 16) && worked_out byte / 256 == slice_index lower_digits (byte % 16)
+is_right value = worked_out value == digit value
 
-all_right : holds_below is_right 256 ≡ true
+all_right : holds_below is_right 16 ≡ true
 all_right = refl
 
-module _ (byte : ℕ) (below : byte < 256) where
-  parts_right : ((worked_out byte % 256 == slice_index lower_digits (byte / 16)) ≡ true) × ((worked_out byte / 256 == slice_index lower_digits (byte % 16)) ≡ true)
-  parts_right = and_parts _ _ (holds_at is_right 256 byte all_right below)
+abbrev added : List ℕ → List ℕ → List ℕ
+added xs ys = zip2 (λ x y. (x + y) % 256) xs ys
 
-  pub high_right : worked_out byte % 256 ≡ slice_index lower_digits (byte / 16)
-  high_right = eqb-true _ _ parts_right.0
+abbrev all_worked_out : ℕ → List ℕ → List ℕ
+all_worked_out n values =
+    let past_numbers = map (top 7) (zip2 (λ x y. cond (ltb x y) 255 0) (replicate n 9) values) in
+    added (added values (replicate n 48)) (sel_l past_numbers (replicate n 39) (replicate n 0))
 
-  pub low_right : worked_out byte / 256 ≡ slice_index lower_digits (byte % 16)
-  low_right = eqb-true _ _ parts_right.1
+abbrev AreSmall : List ℕ → Type 0
+AreSmall values = All (λ value. value < 16) values
+
+pub digits_right : (n : ℕ) (values : List ℕ) → length values ≡ n → AreSmall values → all_worked_out n values ≡ map digit values
+digits_right zero [] is few = refl
+digits_right (suc n) [] is few = absurd (omega (arith, is))
+digits_right zero (x ∷ xs) is few = absurd (omega (arith, is))
+digits_right (suc n) (x ∷ xs) is few =
+    ap (λ later. worked_out x ∷ later) (digits_right n xs (omega (arith, is)) (λ k d inside. few (suc k) d (omega (arith, inside))))
+    ∙ ap (λ first. first ∷ map digit xs) (eqb-true _ _ (holds_at is_right 16 x all_right (few 0 0 (omega arith))))
+
+abbrev quotient : ℕ → ℕ → ℕ
+quotient x y = x / y
+
+abbrev remainder : ℕ → ℕ → ℕ
+remainder x y = x % y
+
+-- the digits of high halves and of low ones, in turn
+abbrev woven : List ℕ → List ℕ → List ℕ
+woven high low = pick_l 0 (map digit high ++ map digit low) (flat_map (λ k. k ∷ (16 + k) ∷ []) (range_with_len 0 16))
+
+abbrev halves : (ℕ → ℕ → ℕ) → List ℕ → List ℕ
+halves f bytes = map (λ byte. f byte 16) bytes
+
+all_woven : (bytes : List ℕ) → length bytes ≡ 16 → woven (halves quotient bytes) (halves remainder bytes) ≡ encode_lower bytes
+unfolding encode_with
+all_woven bytes is = subst (λ them. woven (halves quotient them) (halves remainder them) ≡ encode_lower them) (pick_l_whole 0 bytes 16 is) refl
+
+module _ (bytes : List ℕ) (is : length bytes ≡ 16) where
+  -- as a vector's lanes have them
+  abbrev lanes : (ℕ → ℕ → ℕ) → List ℕ
+  lanes f = zip2 f (take 16 bytes) (replicate 16 16)
+
+  split : (f : ℕ → ℕ → ℕ) → lanes f ≡ halves f bytes
+  split f = ap (λ them. zip2 f them (replicate 16 16)) (take_all 16 bytes (omega (arith, is))) ∙ zip2_splat f bytes 16 16 is
+
+  small : (f : ℕ → ℕ → ℕ) → All (λ byte. f byte 16 < 16) bytes → AreSmall (lanes f)
+  small f few = subst AreSmall (sym (split f)) (All-map (λ value. value < 16) (λ byte. f byte 16) bytes few)
+
+  pub high_small : ((i : ℕ) → get_or bytes i 0 < 256) → AreSmall (lanes quotient)
+  high_small fits = small quotient (λ k d inside. omega (arith, fits k, get_or_default bytes k d 0 inside))
+
+  pub low_small : AreSmall (lanes remainder)
+  low_small = small remainder (λ k d inside. omega arith)
+
+  pub both_written : woven (lanes quotient) (lanes remainder) ≡ encode_lower bytes
+  both_written = rw (split quotient, split remainder) (all_woven bytes is)
 
 -- what two parts have, one after the other
 pub encode_parts : (n : ℕ) (bytes : List ℕ) → encode_lower (take n bytes) ++ encode_lower (drop n bytes) ≡ encode_lower bytes
 unfolding encode_with
 encode_parts zero bytes = refl
 encode_parts (suc n) [] = refl
-encode_parts (suc n) (byte ∷ rest) = ap (λ later. slice_index lower_digits (byte / 16) ∷ slice_index lower_digits (byte % 16) ∷ later) (encode_parts n rest)
+encode_parts (suc n) (byte ∷ rest) = ap (λ later. digit (byte / 16) ∷ digit (byte % 16) ∷ later) (encode_parts n rest)
 
 double : (n : ℕ) → 2 * suc n ≡ suc (suc (2 * n))
 double n = omega arith
@@ -46,10 +96,7 @@ unfolding encode_with
 encode_front zero bytes = refl
 encode_front (suc n) [] = rw (double n) refl
 encode_front (suc n) (byte ∷ rest) =
-    rw (double n) (ap (λ later. slice_index lower_digits (byte / 16) ∷ slice_index lower_digits (byte % 16) ∷ later) (encode_front n rest))
-
-pub same_size : (text : List ℕ) (i j x y : ℕ) {size : ℕ} → length text ≡ size → length (set (set text i x) j y) ≡ size
-same_size text i j x y is = length-set (set text i x) j y ∙ length-set text i x ∙ is
+    rw (double n) (ap (λ later. digit (byte / 16) ∷ digit (byte % 16) ∷ later) (encode_front n rest))
 
 -- the digits of n bytes were written from a position on
 abbrev pub Writes : List ℕ → List ℕ → List ℕ → ℕ → ℕ → Type 0

@@ -1,9 +1,11 @@
 //! Digits in hex of many bytes: sixteen bytes at a time, worked out side by side. What they are the crate `hex` decides: each
 //! contract here says so.
 
-ghost use Rattle.std.specs.Prelude.{◌≡◌, ◌≤◌, ◌+◌, ◌*◌, ◌/◌, ◌%◌, ◌++◌, EachIndex, drop, length, slice_index, take};
+ghost use Rattle.std.specs.Prelude.{All, map, ◌<◌, ◌≡◌, ◌≤◌, ◌+◌, ◌*◌, ◌/◌, ◌%◌, ◌++◌, EachIndex, drop, length, slice_index, take};
 ghost use Rattle.hex.specs.Hex.{encode_lower, lower_digits};
 ghost use Rattle.mote_text.specs.Code.HexDigits.{IsReadTo, value_or_none};
+
+use std::simd::prelude::*;
 
 /// What a byte is worth that is no digit.
 pub(crate) const NO_DIGIT: u8 = 255;
@@ -11,43 +13,16 @@ pub(crate) const NO_DIGIT: u8 = 255;
 /// How many bytes have a digit block of their own.
 pub(crate) const BLOCK: usize = 16;
 
-/// The two lower case digits of a byte, the first one in the low half: both halves are worked out at once.
+/// The lower case digit of each of sixteen values.
 #[inline(always)]
-fn pair_of(byte: u8) -> u16
-    ensures high { result % 256 ≡ slice_index lower_digits (byte / 16) }
-    ensures low { result / 256 ≡ slice_index lower_digits (byte % 16) }
+fn digits_of(values: u8x16) -> u8x16
+    requires { All (λ value. value < 16) values }
+    ensures { result ≡ map (λ value. slice_index lower_digits value) values }
 {
-    let values = u16::from(byte / 16) + 256 * u16::from(byte % 16);
-    // A 1 in each half whose value has a letter.
-    let letters = (values + 0x0606) / 16 & 0x0101;
-    values + 0x3030 + 39 * letters
-}
-
-/// Writes two lower case digits for each of eight bytes.
-#[inline(always)]
-fn write_eight(bytes: &[u8], place: &mut [u8])
-    requires bytes { length bytes.now ≡ 8 }
-    requires place { length place.old ≡ 16 }
-    ensures { place.new ≡ encode_lower bytes.now }
-{
-    let mut text = [0; 16];
-    'bytes: for i in 0..8 {
-        let pair = pair_of(bytes[i]);
-        text[2 * i] = (pair % 256) as u8;
-        text[2 * i + 1] = (pair / 256) as u8;
-    }
-    place.copy_from_slice(&text);
-}
-
-/// Writes the digits of eight bytes from a position on.
-#[inline(always)]
-fn write_eight_at(bytes: &[u8], place: &mut [u8], at: usize)
-    requires inside { at + 8 ≤ length bytes.now }
-    requires place { length place.old ≡ 2 * length bytes.now }
-    ensures text { take (2 * at + 16) place.new ≡ take (2 * at) place.old ++ encode_lower (take 8 (drop at bytes.now)) }
-    ensures size { length place.new ≡ length place.old }
-{
-    write_eight(&bytes[at..at + 8], &mut place[2 * at..2 * at + 16]);
+    let past_numbers = values
+        .simd_gt(u8x16::splat(9))
+        .select(u8x16::splat(b'a' - b'9' - 1), u8x16::splat(0));
+    values + u8x16::splat(b'0') + past_numbers
 }
 
 /// Writes two lower case digits for each of sixteen bytes.
@@ -57,8 +32,17 @@ fn write_block(bytes: &[u8], place: &mut [u8])
     requires place { length place.old ≡ 32 }
     ensures { place.new ≡ encode_lower bytes.now }
 {
-    write_eight_at(bytes, place, 0);
-    write_eight_at(bytes, place, 8);
+    let block = u8x16::from_slice(bytes);
+    let high = digits_of(block / u8x16::splat(16));
+    let low = digits_of(block % u8x16::splat(16));
+    let digits: u8x32 = high.shuffle(
+        low,
+        [
+            0, 16, 1, 17, 2, 18, 3, 19, 4, 20, 5, 21, 6, 22, 7, 23, 8, 24, 9, 25, 10, 26, 11, 27,
+            12, 28, 13, 29, 14, 30, 15, 31,
+        ],
+    );
+    digits.copy_to_slice(place);
 }
 
 /// Writes the digits of sixteen bytes from a position on.

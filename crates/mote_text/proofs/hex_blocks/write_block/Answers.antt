@@ -1,9 +1,16 @@
-use Rattle.std.proofs.Common.{refl, arith}
-use Rattle.mote_text.proofs.HexBlocks.{all_written, written_more}
+use Rattle.std.proofs.Common.{arith, ◌∙◌}
+use Rattle.std.proofs.lemmas.Simd.{put_chunk_whole}
+use Rattle.mote_text.proofs.HexBlocks.{both_written, high_small, low_small}
 use Rattle.mote_text.proofs.hex_blocks.write_block.Goals as goal
+
+pub digits_of-high-requires : goal.digits_of-high-requires
+digits_of-high-requires c = high_small c.args.bytes.now c.requires.bytes (λ i. omega (arith, c.type_inv.bytes i))
+
+pub digits_of-low-requires : goal.digits_of-low-requires
+digits_of-low-requires c = low_small c.args.bytes.now c.requires.bytes
 
 pub returns : goal.returns
 returns c =
-    all_written c.args.bytes.now c.write_eight_at.new.place _ 8 8 8 (omega arith) (omega arith) (omega arith)
-    (written_more c.args.bytes.now c.args.place.now _ 0 8 (c.write_eight_at.ensures.text, c.write_eight_at.ensures.size) (omega arith, refl))
-    (c.write_eight_at-2.ensures.text, c.write_eight_at-2.ensures.size)
+    rw (c.digits_of-high.ensures, c.digits_of-low.ensures) (
+    put_chunk_whole c.args.place.now _ c.requires.place ∙ both_written c.args.bytes.now c.requires.bytes
+    )
