@@ -101,6 +101,7 @@ fn put_sized(page: &mut Page, at: usize, name: u8, size: u32) -> usize
 }
 
 /// Puts where a call reads, and how many bytes.
+#[inline(never)]
 fn put_span(page: &mut Page, at: usize, offset: u32, len: u8) -> usize
     requires { at + 25 ≤ 4096 }
     ensures { Puts page.old.bytes page.new.bytes at result 25 (blanked (decimal offset ∷ decimal len ∷ [])) }
@@ -110,6 +111,7 @@ fn put_span(page: &mut Page, at: usize, offset: u32, len: u8) -> usize
 }
 
 /// Puts where a call writes, and what.
+#[inline(never)]
 fn put_chunk(page: &mut Page, at: usize, offset: u32, chunk: &Chunk) -> usize
     requires { at + 180 ≤ 4096 }
     ensures { Puts page.old.bytes page.new.bytes at result 160 (blanked (decimal offset ∷ hex chunk.now.items ∷ [])) }
@@ -119,6 +121,7 @@ fn put_chunk(page: &mut Page, at: usize, offset: u32, chunk: &Chunk) -> usize
 }
 
 /// Puts the code of an event, and what it carries.
+#[inline(never)]
 fn put_event(page: &mut Page, at: usize, code: u8, payload: &Payload) -> usize
     requires { at + 280 ≤ 4096 }
     ensures { Puts page.old.bytes page.new.bytes at result 260 (blanked (decimal code ∷ payload_word payload.now ∷ [])) }

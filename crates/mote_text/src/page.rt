@@ -165,6 +165,8 @@ impl Page {
     }
 
     /// Puts bytes in hex, or a dash where there are none, and a blank.
+    // Not part of what puts a word and a small number or two, which so saves no registers.
+    #[inline(never)]
     pub(crate) fn put_hex(&mut self, at: usize, bytes: &[u8]) -> usize
         requires few { length bytes.now ≤ 256 }
         requires room { at + 16 + 2 * length bytes.now ≤ 4096 }
