@@ -5,7 +5,7 @@ mod due_text;
 pub mod fault;
 mod input;
 pub mod run;
-mod script;
+pub mod script;
 mod settle;
 mod steps;
 mod write;

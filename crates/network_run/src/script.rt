@@ -11,7 +11,7 @@ use network_session::network::Network;
 use network_text::input::{NetworkInput, read_network_input};
 
 /// The first line of a script, without its end, and what follows it.
-pub(crate) fn first_line(script: &[u8]) -> Option<(&[u8], &[u8])>
+pub fn first_line(script: &[u8]) -> Option<(&[u8], &[u8])>
     ensures line { IfSome result (λ parts. script_lines script.now ≡ parts.0.now ∷ script_lines parts.1.now) }
     ensures fewer { IfSome result (λ parts. length parts.1.now < length script.now) }
     ensures none { IfNone result (script.now ≡ []) }

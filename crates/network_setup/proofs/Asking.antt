@@ -1,5 +1,5 @@
 -- A turn of one application among those of all motes.
-use Rattle.std.proofs.Common.{◌≡◌, ◌≢◌, ◌<◌, ◌==◌, ◌&&◌, ℕ, zero, suc, Bool, true, false, List, [], ◌∷◌, length, set, get_or, slice_get, refl, ap, sym, ◌∙◌, arith, Option, Some}
+use Rattle.std.proofs.Common.{◌≡◌, ◌≢◌, ◌<◌, ◌==◌, ◌&&◌, ℕ, zero, suc, Bool, true, false, List, [], ◌∷◌, length, set, get_or, slice_get, refl, ap, sym, ◌∙◌, arith, Some}
 use Rattle.std.proofs.lemmas.Bool.Decides.{nat_tests}
 use Rattle.std.specs.Global.{Vec}
 use Rattle.mote_types.proofs.Voices.{slice_get_set_other}
@@ -7,7 +7,7 @@ use Rattle.mote_types.specs.Applications.{says_of}
 use Rattle.mote_types.specs.declared.call.Call.{Call}
 use Rattle.mote_types.specs.declared.event.Stimulus.{Stimulus}
 use Rattle.mote_session.specs.Voices.{IsCall}
-use Rattle.network_setup.specs.MoteApps.{mote_app_says, says_of_mote, voices_of}
+use Rattle.network_setup.specs.MoteApps.{mote_app_says, voices_of}
 use Rattle.network_setup.specs.declared.mote_app.MoteApp.{MoteApp}
 
 there_at : {X : Type 0} (xs : List X) (i : ℕ) (d : X) → i < length xs → slice_get xs i ≡ Some (get_or xs i d)

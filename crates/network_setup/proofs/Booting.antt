@@ -4,7 +4,7 @@ use Rattle.kernel_core.specs.declared.config.Config.{Config}
 use Rattle.mote_session.specs.History.{at_boot}
 use Rattle.mote_session.specs.SessionRuns.{IsHistoryOf}
 use Rattle.mote_session.specs.SessionView.{SessionView}
-use Rattle.network_setup.specs.Code.Booting.{IsAdded}
+use Rattle.network_setup.specs.MoteLines.{IsAdded}
 use Rattle.network_setup.specs.SetupView.{AreBooted, HasJustBooted, HaveJustBooted, SetupView, config_of}
 use Rattle.network_setup.specs.SetUpRuns.{HasBooted}
 

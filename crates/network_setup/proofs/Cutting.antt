@@ -1,10 +1,12 @@
 -- Where a text is cut.
-use Rattle.std.proofs.Common.{◌≡◌, ◌≢◌, ℕ, zero, suc, ◌+◌, ◌<◌, ◌≤◌, Bool, true, false, List, [], ◌∷◌, ◌++◌, length, take, drop, Some, None, bytes_eq, refl, ap, sym, ◌∙◌, subst, arith}
+use Rattle.std.proofs.Common.{◌≡◌, ℕ, zero, suc, ◌<◌, ◌≤◌, Bool, true, false, List, [], ◌∷◌, ◌++◌, length, take, drop, Option, Some, None, Result, Ok, Err, IfOk, codes, bytes_eq, refl, ap, sym, ◌∙◌, arith}
 use Rattle.std.proofs.lemmas.List.{drop_at, length-append, length-drop, take-append-drop, take_at}
 use Rattle.std.proofs.lemmas.Slice.Eq.{bytes_eq-Decides}
 use Rattle.std.specs.Str.Pattern.{LacksTextAt}
 use Rattle.mote_text.specs.Script.{argument_of}
-use Rattle.network_setup.specs.Lines.{cut_at}
+use Rattle.network_setup.specs.Lines.{cut_at, span_said, words_of}
+use Rattle.network_setup.specs.MoteLines.{list_said, with_calls}
+use Rattle.network_setup.specs.declared.words.Span.{Span}
 
 is_not : (b : Bool) → (b ≡ true → ⊥) → b ≡ false
 is_not true apart = absurd (apart refl)
@@ -48,3 +50,45 @@ has_argument mark line rest some here none =
     let yes = begins mark some line rest here in
     let not_none : Some (drop (length mark) line) ≡ None = rw yes at none in
     absurd (cc)
+
+-- a line that begins with a text has what follows it as its argument
+pub argument_some : (mark line rest : List ℕ) → 0 < length mark → line ≡ mark ++ rest → argument_of mark line ≡ Some rest
+argument_some mark line rest some here =
+    let yes = begins mark some line rest here in
+    let after : drop (length mark) line ≡ rest = ap (drop (length mark)) here ∙ drop_at mark rest (length mark) refl in
+    rw (yes, after) refl
+
+pub argument_none : (mark line : List ℕ) → 0 < length mark → LacksTextAt mark line 0 → argument_of mark line ≡ None
+argument_none mark line some none = rw (begins_not mark some line none) refl
+
+pub none_is_some : {A : Type 0} {a : A} (o : Option A) → o ≡ None → o ≡ Some a → ⊥
+none_is_some o none some = let same = sym none ∙ some in absurd (cc)
+
+-- a line has one argument
+pub same_argument : (mark line rest text : List ℕ) → 0 < length mark → line ≡ mark ++ rest → argument_of mark line ≡ Some text → rest ≡ text
+same_argument mark line rest text some here says =
+    let one = argument_some mark line rest some here in
+    let same = sym one ∙ says in
+    cc
+
+-- the list after the word `calls` and a space
+pub list_after : (text rest calls : List ℕ) → text ≡ codes " " ++ rest → calls ≡ rest → 0 < length calls → list_said text ≡ Some calls
+list_after text [] calls e same some = absurd (omega (arith, some, ap (length {A = ℕ}) same))
+list_after text (byte ∷ rest) calls e same some = rw (e, same) refl
+
+pub if_ok : {A E : Type 0} {P : A → Type 0} (r : Result A E) → ((a : A) → P a) → IfOk r P
+if_ok (Ok a) all = all a
+if_ok (Err e) all = tt
+
+pub nothing : (xs : List ℕ) → length xs ≡ 0 → xs ≡ []
+nothing [] none = refl
+nothing (x ∷ xs) none = absurd (omega (arith, none))
+
+-- a text with words after a space, and one without
+pub words_after : (text front rest : List ℕ) (calls : Option (List ℕ)) (span : Span) → cut_at (codes " ") text ≡ Some (front, rest) →
+    span_said front ≡ Some span → with_calls text calls ≡ Some (record { span = span; words = words_of rest; calls = calls })
+words_after text front rest calls span cut is = rw (cut, is) refl
+
+pub no_words : (text : List ℕ) (calls : Option (List ℕ)) (span : Span) → cut_at (codes " ") text ≡ None → span_said text ≡ Some span →
+    with_calls text calls ≡ Some (record { span = span; words = []; calls = calls })
+no_words text calls span cut is = rw (cut, is) refl

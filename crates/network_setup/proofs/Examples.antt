@@ -1,10 +1,12 @@
--- Worked examples: the links that a line adds, and which lines are malformed.
+-- Worked examples: the links and the motes that a line adds, and which lines are malformed.
 use Rattle.std.proofs.Common.{◌≡◌, ℕ, ◌-◌, ◌^◌, List, [], ◌∷◌, Option, Some, None, true, false, codes, refl}
 use Rattle.medium_core.specs.declared.link.Fate.{Fate}
 use Rattle.medium_core.specs.declared.link.Link.{Link}
 use Rattle.medium_core.specs.declared.link.Loss.{Loss}
 use Rattle.network_setup.specs.Lines.{links_said, words_of}
+use Rattle.network_setup.specs.MoteLines.{mote_line, names_said, sizes_said}
 use Rattle.network_setup.specs.Setting.{is_fit, next_loss}
+use Rattle.network_setup.specs.SetupView.{default_config}
 use Rattle.network_setup.specs.Shapes.{grid_links, is_shape, line_links, linked, mesh_links, ring_links, with_shape}
 use Rattle.network_setup.specs.declared.carriage.Carriage.{Carriage}
 use Rattle.network_setup.specs.declared.shape.Shape.{Shape}
@@ -102,3 +104,41 @@ malformed : (said (codes "link") (codes "1  2 delay 3") ≡ None) × (said (code
     × (said (codes "mesh") (codes "3..2 delay 3") ≡ None) × (said (codes "star") (codes "1..2 delay 3") ≡ None)
 unfolding said
 malformed = (refl, refl, refl, refl, refl, refl, refl, refl)
+
+-- a delay of 0 and a rule that isn't sound, also where a line adds no link
+no_carriage : (said (codes "line") (codes "5 delay 0") ≡ None) × (said (codes "mesh") (codes "5 delay 1 every 0") ≡ None)
+unfolding said
+no_carriage = (refl, refl)
+
+-- what is said after `mote `
+some_motes : mote_line (codes "3..4 blink --mmem 64 echo calls wait")
+    ≡ Some (record {
+      span = record { first = 3; last = 4 };
+      words = words_of (codes "blink --mmem 64 echo");
+      calls = Some (codes "wait");
+    })
+some_motes = refl
+
+a_mote : mote_line (codes "7") ≡ Some (record { span = record { first = 7; last = 7 }; words = []; calls = None })
+a_mote = refl
+
+no_calls : mote_line (codes "1 calls") ≡ Some (record { span = record { first = 1; last = 1 }; words = []; calls = Some [] })
+no_calls = refl
+
+-- no motes: backwards, from 0, a space without a list, a word that begins with `calls`
+no_motes : (mote_line (codes "2..1 blink") ≡ None) × (mote_line (codes "0 blink") ≡ None) × (mote_line (codes "1 calls ") ≡ None)
+    × (mote_line (codes "1 callsign") ≡ None)
+no_motes = (refl, refl, refl, refl)
+
+sizes : sizes_said None (words_of (codes "blink --mmem 64 echo --quota 8")) default_config
+    ≡ Some (record default_config { mmem = 64; quota = Some 8 })
+sizes = refl
+
+-- an option without its number, one that there isn't, a number that isn't one
+no_sizes : (sizes_said None (words_of (codes "blink --mmem")) default_config ≡ None)
+    × (sizes_said None (words_of (codes "--rom 8")) default_config ≡ None)
+    × (sizes_said None (words_of (codes "--heap 08")) default_config ≡ None)
+no_sizes = (refl, refl, refl)
+
+names : names_said None (words_of (codes "blink --mmem 64 echo")) ≡ codes "blink" ∷ codes "echo" ∷ []
+names = refl

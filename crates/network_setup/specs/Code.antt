@@ -1,3 +1,3 @@
 -- What the code keeps.
-pub mod Booting
+pub mod Words
 pub mod Linking

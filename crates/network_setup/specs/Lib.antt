@@ -3,6 +3,8 @@ pub mod Setting
 pub mod Shapes
 pub mod SetupView
 pub mod Lines
+pub mod MoteLines
+pub mod FirstLines
 pub mod SetUpRuns
 -- What the code keeps.
 pub mod Code

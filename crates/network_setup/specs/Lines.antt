@@ -1,10 +1,11 @@
 -- What the words of a line say of links, of the room in flight, and of rounds. A malformed line says nothing.
-use Rattle.std.specs.Prelude.{ℕ, ◌-◌, ◌==◌, ◌&&◌, List, [], ◌∷◌, drop, length, take, nat_le, Option, None, Some, option_and_then, option_map, bytes_eq, codes, if◌then◌else◌}
+use Rattle.std.specs.Prelude.{ℕ, ◌-◌, ◌==◌, ◌&&◌, List, [], ◌∷◌, drop, length, take, nat_le, nat_lt, Option, None, Some, option_and_then, option_map, bytes_eq, codes, if◌then◌else◌}
 use Rattle.std.specs.List.{slice_split}
 use Rattle.medium_core.specs.declared.link.Loss.{Loss}
 use Rattle.mote_text.specs.Script.{read_number}
 use Rattle.medium_core.specs.declared.link.Link.{Link}
 use Rattle.network_setup.specs.SetupView.{SetupView}
+use Rattle.medium_core.specs.Links.{is_loss}
 use Rattle.network_setup.specs.Shapes.{with_shape}
 use Rattle.network_setup.specs.declared.carriage.Carriage.{Carriage}
 use Rattle.network_setup.specs.declared.shape.Kind.{Kind}
@@ -40,15 +41,17 @@ loss_said (word ∷ chance ∷ label ∷ []) = None
 loss_said (word ∷ chance ∷ label ∷ seed ∷ []) = lot_said word chance label seed
 loss_said (word ∷ chance ∷ label ∷ seed ∷ other ∷ others) = None
 
-abbrev pub with_delay : ℕ → Option Loss → Option Carriage
-with_delay delay loss = option_map (λ l. record { delay = delay; loss = l }) loss
+-- a delay is at least 1, and the numbers of a rule are within their bounds
+abbrev pub with_loss : ℕ → Loss → Option Carriage
+with_loss delay loss = if nat_lt 0 delay && is_loss loss then Some (record { delay = delay; loss = loss }) else None
 
 -- `delay N`, and which frames are lost
 abbrev pub carriage_said : List (List ℕ) → Option Carriage
 carriage_said [] = None
 carriage_said (word ∷ []) = None
 carriage_said (word ∷ delay ∷ rule) =
-    if bytes_eq word (codes "delay") then option_and_then (λ n. with_delay n (loss_said rule)) (read_number delay) else None
+    if bytes_eq word (codes "delay") then option_and_then (λ n. option_and_then (λ loss. with_loss n loss) (loss_said rule)) (read_number delay)
+    else None
 
 -- `room N`, `rounds N`: the number
 abbrev pub number_said : List (List ℕ) → Option ℕ

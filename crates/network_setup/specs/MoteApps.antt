@@ -1,5 +1,5 @@
 -- What the applications of a network's motes say.
-use Rattle.std.specs.Prelude.{ℕ, List, slice_get, Option, None, Some}
+use Rattle.std.specs.Prelude.{List, slice_get, Option, None, Some}
 use Rattle.std.specs.Global.{Vec}
 use Rattle.call_lists.specs.Applications.{application_says}
 use Rattle.mote_apps.specs.Bundled.{bundled_says}

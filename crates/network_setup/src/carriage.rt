@@ -4,7 +4,7 @@ ghost use Rattle.std.specs.Prelude.{◌≡◌, map};
 ghost use Rattle.network_setup.specs.Lines.{carriage_said, every_said, loss_said, lot_said};
 ghost use Rattle.network_setup.specs.Setting.{next_carriage};
 
-use medium_core::link::Loss;
+use medium_core::link::{Link, Loss};
 use mote_text::script::read_number;
 
 /// The delay of links in ticks, and which frames they lose.
@@ -64,7 +64,11 @@ impl Carriage {
                 }
                 let delay = read_number(delay.as_bytes())?;
                 let loss = read_loss(rule)?;
-                Some(Carriage { delay, loss })
+                if Link::new(0, delay, loss).is_sound() {
+                    Some(Carriage { delay, loss })
+                } else {
+                    None
+                }
             }
             _ => None,
         }

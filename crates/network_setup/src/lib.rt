@@ -1,8 +1,7 @@
 //! Networks that the first lines of a script set up, and their runs.
 //!
+//! `read_setup` promises that the lines up to the first input were carried out, and `Setup::take_line` what each of them sets up.
 //! `run_setup` promises what it writes of the network that was set up, what `network_run` promises, and that this network has just booted.
-//! `Setup::take_line` promises what the lines of links, of the room in flight and of rounds set up. How lines of motes are read, and which
-//! lines come before the first input, is only tested.
 #![tactic(auto)]
 
 mod applications;

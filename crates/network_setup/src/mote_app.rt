@@ -1,6 +1,9 @@
 //! The applications of a network's motes.
 
+ghost use Rattle.std.specs.Prelude.{IfOk};
+ghost use Rattle.network_setup.specs.Code.Words.{IsBoxed};
 ghost use Rattle.network_setup.specs.MoteApps.{mote_app_says};
+ghost use Rattle.network_setup.specs.MoteLines.{HasCalls, HasName};
 
 use crate::fault::LineFault;
 use call_lists::Application;
@@ -19,7 +22,9 @@ pub enum MoteApp {
 }
 
 /// An application in a box.
-fn boxed(alloc: Global, application: Application) -> Result<MoteApp, LineFault> {
+fn boxed(alloc: Global, application: Application) -> Result<MoteApp, LineFault>
+    ensures { IfOk result (IsBoxed application) }
+{
     match Box::new(alloc, application) {
         Ok(application) => Ok(MoteApp::Boxed(application)),
         Err(_) => Err(LineFault::Memory),
@@ -28,7 +33,9 @@ fn boxed(alloc: Global, application: Application) -> Result<MoteApp, LineFault> 
 
 impl MoteApp {
     /// The application of this name.
-    pub(crate) fn named(alloc: Global, name: &str) -> Result<Self, LineFault> {
+    pub(crate) fn named(alloc: Global, name: &str) -> Result<Self, LineFault>
+        ensures { IfOk result (HasName name.now) }
+    {
         if let Some(application) = Bundled::named(name) {
             return Ok(MoteApp::Bundled(application));
         }
@@ -39,7 +46,9 @@ impl MoteApp {
     }
 
     /// The application that makes the calls of this text.
-    pub(crate) fn listed(alloc: Global, text: &str) -> Result<Self, LineFault> {
+    pub(crate) fn listed(alloc: Global, text: &str) -> Result<Self, LineFault>
+        ensures { IfOk result (HasCalls text.now) }
+    {
         match Application::listed(text) {
             Ok(application) => boxed(alloc, application),
             Err(_) => Err(LineFault::Malformed),

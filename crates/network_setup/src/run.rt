@@ -1,7 +1,8 @@
 //! Sets networks up, and runs them.
 
-ghost use Rattle.std.specs.Prelude.{◌≡◌, ◌≤◌, ◌<◌, ◌+◌, ◌-◌, ◌^◌, ◌||◌, ◌==◌, length, slice_index, IfOk};
+ghost use Rattle.std.specs.Prelude.{◌≡◌, ◌≤◌, ◌<◌, ◌+◌, ◌-◌, ◌^◌, length, IfOk};
 ghost use Rattle.network_run.specs.NetworkRunText.{Gives, script_lines};
+ghost use Rattle.network_setup.specs.FirstLines.{AreCarriedOut, DoesLine, is_blank};
 ghost use Rattle.network_setup.specs.MoteApps.{voices_of};
 ghost use Rattle.network_setup.specs.SetUpRuns.{HasBooted, HasRunSetUp, start_of};
 ghost use Rattle.network_text.specs.NetworkScript.{read_network_lines};
@@ -20,14 +21,16 @@ use std::alloc::Global;
 
 /// Whether a line says nothing: it is empty, or a comment.
 fn is_blank(text: &str) -> bool
-    ensures { result ≡ (length text.now == 0 || slice_index text.now 0 == 35) }
+    ensures { result ≡ is_blank text.now }
 {
     let bytes = text.as_bytes();
     bytes.is_empty() || bytes[0] == b'#'
 }
 
 /// Takes one of the first lines.
-fn take_setup_line(alloc: Global, text: &str, setup: &mut Setup) -> Result<(), LineFault> {
+fn take_setup_line(alloc: Global, text: &str, setup: &mut Setup) -> Result<(), LineFault>
+    ensures { IfOk result (λ _. DoesLine text.now setup.old setup.new) }
+{
     if is_blank(text) {
         return Ok(());
     }
@@ -41,7 +44,9 @@ pub fn read_setup<'a>(
     setup: &mut Setup,
 ) -> Result<Inputs<'a>, (u32, LineFault)>
     requires { length script.now ≤ 2 ^ 24 }
-    ensures { IfOk result (λ inputs. inputs.first + length inputs.script.now ≤ 2 ^ 24 + 1) }
+    ensures within { IfOk result (λ inputs. inputs.first + length inputs.script.now ≤ 2 ^ 24 + 1) }
+    ensures first { IfOk result (λ inputs. inputs.first + length (script_lines inputs.script.now) ≡ 1 + length (script_lines script.now)) }
+    ensures set_up { IfOk result (λ inputs. AreCarriedOut (script_lines script.now) (script_lines inputs.script.now) setup.old setup.new) }
 {
     let mut lines = Lines::new(script);
     while let Some(line) = lines.next_line() {
@@ -55,7 +60,7 @@ pub fn read_setup<'a>(
             return Err((line.number, fault));
         }
     }
-    Ok(Inputs::none())
+    Ok(lines.left())
 }
 
 /// Boots the network that was set up, and runs it on the lines from the first input on. The network has just booted, so what happens in

@@ -1,9 +1,11 @@
 //! The lines of a script, with their numbers.
 
 ghost use Rattle.std.specs.Prelude.{◌≡◌, ◌<◌, ◌≤◌, ◌+◌, ◌^◌, [], length, IfNone, IfSome};
+ghost use Rattle.network_run.specs.NetworkRunText.{script_lines};
+ghost use Rattle.network_setup.specs.Code.Words.{IsNextLine};
 
-use memchr::memchr;
 use mote_text::script::LINE_LIMIT;
+use network_run::script::first_line;
 use std::str;
 
 /// The lines of a script from one on.
@@ -47,18 +49,6 @@ fn text_of(line: &[u8]) -> Option<&str>
     }
 }
 
-impl Inputs<'_> {
-    /// No lines.
-    pub(crate) fn none() -> Self
-        ensures { result.first + length result.script.now ≡ 1 }
-    {
-        Inputs {
-            script: &[],
-            first: 1,
-        }
-    }
-}
-
 impl<'a> Lines<'a> {
     pub(crate) fn new(script: &'a [u8]) -> Self
         ensures rest { result.rest.now ≡ script.now }
@@ -70,32 +60,37 @@ impl<'a> Lines<'a> {
         }
     }
 
+    /// The lines that are left.
+    pub(crate) fn left(&self) -> Inputs<'a>
+        requires { self.now.number + length self.now.rest.now ≤ 2 ^ 24 }
+        ensures first { result.first ≡ self.now.number + 1 }
+        ensures script { result.script.now ≡ self.now.rest.now }
+    {
+        Inputs {
+            script: self.rest,
+            first: self.number + 1,
+        }
+    }
+
     /// The next line. What follows the last line end is a line where it has bytes.
     pub(crate) fn next_line(&mut self) -> Option<Line<'a>>
         requires { self.old.number + length self.old.rest.now ≤ 2 ^ 24 }
         ensures fewer { IfSome result (λ _. length self.new.rest.now < length self.old.rest.now) }
         ensures within { self.new.number + length self.new.rest.now ≤ 2 ^ 24 }
+        ensures number { IfSome result (λ _. self.new.number ≡ self.old.number + 1) }
         ensures first { IfSome result (λ line. line.inputs.first ≡ self.old.number + 1) }
         ensures script { IfSome result (λ line. line.inputs.script.now ≡ self.old.rest.now) }
-        ensures none { IfNone result (self.old.rest.now ≡ []) }
+        ensures line { IfSome result (λ line. IsNextLine line.text (script_lines self.old.rest.now) (script_lines self.new.rest.now)) }
+        ensures none { IfNone result ((self.old.rest.now ≡ []) × (self.new ≡ self.old)) }
     {
-        let rest = self.rest;
-        if rest.is_empty() {
-            return None;
-        }
-        let (line, after) = match memchr(b'\n', rest) {
-            Some(end) => (&rest[..end], &rest[end + 1..]),
-            None => (rest, &rest[rest.len()..]),
-        };
+        let inputs = self.left();
+        let (line, after) = first_line(self.rest)?;
         self.rest = after;
         self.number += 1;
         Some(Line {
             number: self.number,
             text: text_of(line),
-            inputs: Inputs {
-                script: rest,
-                first: self.number,
-            },
+            inputs,
         })
     }
 }

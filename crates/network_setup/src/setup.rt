@@ -1,9 +1,10 @@
 //! The motes and links of a network, as the first lines of its script say them.
 
-ghost use Rattle.std.specs.Prelude.{◌≡◌, IfOk, None, OnErr, codes, map};
+ghost use Rattle.std.specs.Prelude.{◌≡◌, ◌≤◌, ◌∷◌, ◌++◌, ℕ, List, [], IfOk, None, Some, OnErr, codes, map, option_map};
 ghost use Rattle.mote_text.specs.Script.{argument_of};
-ghost use Rattle.network_setup.specs.Code.Booting.{HasOneMore, IsAdded};
+ghost use Rattle.network_setup.specs.Code.Words.{TakesWord, TakesWords, words_in};
 ghost use Rattle.network_setup.specs.Lines.{line_said, with_links_said, with_room, with_rounds, words_of, words_said};
+ghost use Rattle.network_setup.specs.MoteLines.{AddsMotes, HasOneMore, IsAdded, IsListLast, IsMoteSaid, mote_line, with_calls, with_option};
 ghost use Rattle.network_setup.specs.SetUpRuns.{HasBooted};
 ghost use Rattle.network_setup.specs.SetupView.{HasJustBooted, empty_setup};
 ghost use Rattle.network_setup.specs.Setting.{Does};
@@ -69,9 +70,12 @@ impl Model for Setup {
 }
 
 /// Sets the size of this name.
-fn set_size(config: &mut Config, name: &str, size: u32) -> Result<(), LineFault>
-    ensures { config.new.apps ≡ config.old.apps }
+fn set_size(config: &mut Config, name: &str, number: &str) -> Result<(), LineFault>
+    ensures { IfOk result (λ _. with_option name.now number.now config.old ≡ Some config.new) }
 {
+    let Some(size) = read_number(number.as_bytes()) else {
+        return Err(LineFault::Malformed);
+    };
     match name {
         "mmem" => config.mmem = size,
         "heap" => config.heap = size,
@@ -83,36 +87,51 @@ fn set_size(config: &mut Config, name: &str, size: u32) -> Result<(), LineFault>
 }
 
 /// Adds an application to a mote's.
-fn push_application(
-    applications: &mut Vec<MoteApp>,
-    application: MoteApp,
-) -> Result<(), LineFault> {
+fn push_application(applications: &mut Vec<MoteApp>, application: MoteApp) -> Result<(), LineFault>
+    ensures { IfOk result (λ _. applications.new.items ≡ applications.old.items ++ application ∷ []) }
+{
     match applications.push(application) {
         Ok(()) => Ok(()),
         Err(_) => Err(LineFault::Memory),
     }
 }
 
+/// Takes a word after a mote's number: the name of an application, an option, or the size after an option. Returns an option
+/// whose size comes next.
+fn take_word<'a>(
+    alloc: Global,
+    word: &'a str,
+    option: Option<&'a str>,
+    config: &mut Config,
+    applications: &mut Vec<MoteApp>,
+) -> Result<Option<&'a str>, LineFault>
+    ensures { IfOk result (λ next. TakesWord (option_map (λ name. name.now) option.entry) (option_map (λ name. name.now) next) word.now
+        config.old config.new applications.old.items applications.new.items) }
+{
+    if let Some(name) = option {
+        set_size(config, name, word)?;
+        return Ok(None);
+    }
+    if let Some(name) = word.strip_prefix("--") {
+        return Ok(Some(name));
+    }
+    push_application(applications, MoteApp::named(alloc, word)?)?;
+    Ok(None)
+}
+
 /// Takes the words after a mote's number: names of applications, and sizes with their options.
 fn take_words(
     alloc: Global,
-    words: &str,
+    words: &[&str],
     config: &mut Config,
     applications: &mut Vec<MoteApp>,
-) -> Result<(), LineFault> {
+) -> Result<(), LineFault>
+    ensures { IfOk result (λ _. TakesWords (map (λ word. word.now) words.now) [] None config.old config.new
+        applications.old.items applications.new.items) }
+{
     let mut option = None;
-    for word in words.split(' ') {
-        if let Some(name) = option {
-            let Some(size) = read_number(word.as_bytes()) else {
-                return Err(LineFault::Malformed);
-            };
-            set_size(config, name, size)?;
-            option = None;
-        } else if let Some(name) = word.strip_prefix("--") {
-            option = Some(name);
-        } else {
-            push_application(applications, MoteApp::named(alloc, word)?)?;
-        }
+    for word in words {
+        option = take_word(alloc, word, option, config, applications)?;
     }
     match option {
         Some(_) => Err(LineFault::Malformed),
@@ -121,7 +140,9 @@ fn take_words(
 }
 
 /// The words before `calls` and the list after it, where a text has one.
-fn cut_at_calls(text: &str) -> Result<(&str, Option<&str>), LineFault> {
+fn cut_at_calls(text: &str) -> Result<(&str, Option<&str>), LineFault>
+    ensures { IfOk result (λ parts. mote_line text.now ≡ with_calls parts.0.now (option_map (λ calls. calls.now) parts.1)) }
+{
     let Some((words, rest)) = text.split_once(" calls") else {
         return Ok((text, None));
     };
@@ -135,9 +156,16 @@ fn cut_at_calls(text: &str) -> Result<(&str, Option<&str>), LineFault> {
 }
 
 /// The motes of a line, and the words and the list of calls after their numbers.
-fn cut_mote_line(text: &str) -> Result<(Span, Option<&str>, Option<&str>), LineFault> {
+fn cut_mote_line(text: &str) -> Result<(Span, Option<&str>, Option<&str>), LineFault>
+    ensures said { IfOk result (λ line. mote_line text.now ≡ Some (record {
+      span = line.0;
+      words = words_in (option_map (λ words. words.now) line.1);
+      calls = option_map (λ calls. calls.now) line.2;
+    })) }
+    ensures order { IfOk result (λ line. (1 ≤ line.0.first) × (line.0.first ≤ line.0.last)) }
+{
     let (text, calls) = cut_at_calls(text)?;
-    let (span, words) = match text.split_once(' ') {
+    let (span, words) = match text.split_once(" ") {
         Some((span, words)) => (read_span(span), Some(words)),
         None => (read_span(text), None),
     };
@@ -147,20 +175,42 @@ fn cut_mote_line(text: &str) -> Result<(Span, Option<&str>, Option<&str>), LineF
     }
 }
 
+/// The words of a text, if there is one.
+fn words_in<'a>(alloc: Global, text: Option<&'a str>) -> Result<Vec<&'a str>, LineFault>
+    ensures { IfOk result (λ words. map (λ word. word.now) words.items ≡ words_in (option_map (λ text. text.now) text.entry)) }
+{
+    match text {
+        Some(text) => split_words(alloc, text),
+        None => Ok(Vec::new(alloc)),
+    }
+}
+
+/// Adds the application that makes the calls of a list, if there is one.
+fn add_listed(
+    alloc: Global,
+    calls: Option<&str>,
+    applications: &mut Vec<MoteApp>,
+) -> Result<(), LineFault>
+    ensures { IfOk result (λ _. IsListLast (option_map (λ calls. calls.now) calls.entry) applications.old.items applications.new.items) }
+{
+    match calls {
+        Some(calls) => push_application(applications, MoteApp::listed(alloc, calls)?),
+        None => Ok(()),
+    }
+}
+
 /// The sizes and the applications of a mote, by its words and its list of calls.
 fn read_mote(
     alloc: Global,
-    words: Option<&str>,
+    words: &[&str],
     calls: Option<&str>,
-) -> Result<(Config, Vec<MoteApp>), LineFault> {
+) -> Result<(Config, Vec<MoteApp>), LineFault>
+    ensures { IfOk result (λ mote. IsMoteSaid (map (λ word. word.now) words.now) (option_map (λ calls. calls.now) calls.entry) mote.0 mote.1.items) }
+{
     let mut config = DEFAULT;
     let mut applications = Vec::new(alloc);
-    if let Some(words) = words {
-        take_words(alloc, words, &mut config, &mut applications)?;
-    }
-    if let Some(calls) = calls {
-        push_application(&mut applications, MoteApp::listed(alloc, calls)?)?;
-    }
+    take_words(alloc, words, &mut config, &mut applications)?;
+    add_listed(alloc, calls, &mut applications)?;
     if applications.len() > MOST_APPLICATIONS {
         return Err(LineFault::Malformed);
     }
@@ -214,7 +264,8 @@ impl Setup {
     ///
     /// `Malformed` exactly where a line that doesn't say motes says nothing that can be set up, and `Memory` where memory is refused.
     pub fn take_line(&mut self, alloc: Global, line: &str) -> Result<(), LineFault>
-        ensures { argument_of (codes "mote ") line.now ≡ None → Does result (line_said (words_of line.now) self.old) self.new }
+        ensures motes { IfOk result (λ _. (text : List ℕ) → argument_of (codes "mote ") line.now ≡ Some text → AddsMotes text self.old self.new) }
+        ensures others { argument_of (codes "mote ") line.now ≡ None → Does result (line_said (words_of line.now) self.old) self.new }
     {
         if let Some(text) = line.strip_prefix("mote ") {
             return self.add_motes(alloc, text);
@@ -248,13 +299,17 @@ impl Setup {
     }
 
     /// `N WORD..` or `N..M WORD..`: the first number is the next one.
-    fn add_motes(&mut self, alloc: Global, text: &str) -> Result<(), LineFault> {
+    fn add_motes(&mut self, alloc: Global, text: &str) -> Result<(), LineFault>
+        ensures { IfOk result (λ _. AddsMotes text.now self.old self.new) }
+    {
         let (span, words, calls) = cut_mote_line(text)?;
         if span.first as usize != self.motes.len().saturating_add(1) {
             return Err(LineFault::Malformed);
         }
-        for _ in span.first..=span.last {
-            let (config, applications) = read_mote(alloc, words, calls)?;
+        let words = words_in(alloc, words)?;
+        let count = span.last - span.first + 1;
+        for _mote in 0..count {
+            let (config, applications) = read_mote(alloc, words.as_slice(), calls)?;
             self.add_mote(alloc, config, applications)?;
         }
         Ok(())

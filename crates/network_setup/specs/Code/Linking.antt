@@ -1,5 +1,5 @@
 -- A line's links, some of which were added.
-use Rattle.std.specs.Prelude.{◌≡◌, ℕ, List, ◌++◌, Option, None, Result, Ok, Err}
+use Rattle.std.specs.Prelude.{◌≡◌, ℕ, List, ◌++◌, None, Result, Ok, Err}
 use Rattle.medium_core.specs.declared.link.Link.{Link}
 use Rattle.network_setup.specs.Shapes.{linked}
 use Rattle.network_setup.specs.declared.carriage.Carriage.{Carriage}

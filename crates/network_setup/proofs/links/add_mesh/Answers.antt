@@ -1,4 +1,4 @@
-use Rattle.std.proofs.Common.{◌+◌, arith}
+use Rattle.std.proofs.Common.{arith}
 use Rattle.std.proofs.lemmas.Result.{err_from_is_err_and}
 use Rattle.medium_core.specs.Code.Airs.{link_lists}
 use Rattle.network_setup.proofs.Linking.{none_left, one_fails, one_more}

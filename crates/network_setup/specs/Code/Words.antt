@@ -1,0 +1,35 @@
+-- Words of a mote's line, and lines, that are taken.
+use denote.Ref.{Bor}
+use Rattle.std.specs.Prelude.{◌≡◌, ℕ, List, [], ◌∷◌, Option, None, Some, IfSome}
+use Rattle.call_lists.specs.declared.applications.Application.{Application}
+use Rattle.kernel_core.specs.declared.config.Config.{Config}
+use Rattle.network_setup.specs.Lines.{words_of}
+use Rattle.network_setup.specs.MoteLines.{AreNamed, names_said, sizes_said}
+use Rattle.network_setup.specs.declared.mote_app.MoteApp.{MoteApp}
+
+-- the word was taken after this option, and the next option is left for the words after it
+pub record TakesWord (option next : Option (List ℕ)) (word : List ℕ) (before after : Config) (old new : List MoteApp) : Type 0 where
+  pub sizes : (words : List (List ℕ)) → sizes_said option (word ∷ words) before ≡ sizes_said next words after
+  pub names : (words : List (List ℕ)) (all : List MoteApp) → AreNamed (names_said next words) new all →
+      AreNamed (names_said option (word ∷ words)) old all
+
+-- so it is of some words
+pub record TakesWords (taken words : List (List ℕ)) (option : Option (List ℕ)) (before after : Config) (old new : List MoteApp) : Type 0 where
+  pub sizes : sizes_said None taken before ≡ sizes_said option words after
+  pub names : (all : List MoteApp) → AreNamed (names_said option words) new all → AreNamed (names_said None taken) old all
+
+-- the application in a box
+abbrev pub IsBoxed : Application → MoteApp → Type 0
+IsBoxed application (MoteApp.Bundled bundled) = ⊥
+IsBoxed application (MoteApp.Boxed boxed) = boxed.value ≡ application
+
+-- the words of a text, if there is one
+abbrev pub words_in : Option (List ℕ) → List (List ℕ)
+words_in None = []
+words_in (Some text) = words_of text
+
+-- of these lines the first one is taken; it may be no text
+pub record IsNextLine (text : Option (Bor (List ℕ))) (lines rest : List (List ℕ)) : Type 0 where
+  pub line : List ℕ
+  pub first : lines ≡ line ∷ rest
+  pub told : IfSome text (λ told. told.now ≡ line)

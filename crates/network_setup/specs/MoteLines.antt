@@ -1,0 +1,139 @@
+-- What a line that says motes sets up: `N` or `N..M`, names of applications and sizes, and after `calls` a list of calls.
+use Rattle.std.specs.Prelude.{◌≡◌, ◌≤◌, ◌+◌, ◌-◌, ℕ, zero, suc, List, [], ◌∷◌, ◌++◌, length, codes, Option, Some, None, option_and_then, option_map, bytes_eq, if◌then◌else◌}
+use Rattle.std.specs.Global.{Vec}
+use Rattle.call_lists.specs.Applications.{IsListed, IsNamed}
+use Rattle.kernel_core.specs.declared.config.Config.{Config}
+use Rattle.mote_apps.specs.Bundled.{named}
+use Rattle.mote_session.specs.SessionView.{SessionView}
+use Rattle.mote_text.specs.Script.{argument_of, read_number}
+use Rattle.network_setup.specs.Lines.{cut_at, span_said, words_of}
+use Rattle.network_setup.specs.SetupView.{HasJustBooted, SetupView, default_config}
+use Rattle.network_setup.specs.declared.mote_app.MoteApp.{MoteApp}
+use Rattle.network_setup.specs.declared.words.Span.{Span}
+
+-- the configuration with this size, if an option has this name
+abbrev pub with_size : List ℕ → ℕ → Config → Option Config
+with_size name size config =
+    if bytes_eq name (codes "mmem") then Some (record config { mmem = size })
+    else if bytes_eq name (codes "heap") then Some (record config { heap = size })
+    else if bytes_eq name (codes "header") then Some (record config { header = size })
+    else if bytes_eq name (codes "quota") then Some (record config { quota = Some size })
+    else None
+
+abbrev pub with_option : List ℕ → List ℕ → Config → Option Config
+with_option name number config = option_and_then (λ size. with_size name size config) (read_number number)
+
+-- the name of an option
+abbrev pub option_of : List ℕ → Option (List ℕ)
+option_of word = argument_of (codes "--") word
+
+-- the sizes that words say: options, each before its number. The first argument is an option whose number comes next
+abbrev pub sizes_said : Option (List ℕ) → List (List ℕ) → Config → Option Config
+sizes_said None [] config = Some config
+sizes_said None (word ∷ words) config = sizes_said (option_of word) words config
+sizes_said (Some name) [] config = None
+sizes_said (Some name) (word ∷ words) config = option_and_then (λ c. sizes_said None words c) (with_option name word config)
+
+abbrev pub with_name : List ℕ → Option (List ℕ) → List (List ℕ) → List (List ℕ)
+with_name word None names = word ∷ names
+with_name word (Some option) names = names
+
+-- the other words, which are names of applications
+abbrev pub names_said : Option (List ℕ) → List (List ℕ) → List (List ℕ)
+names_said option [] = []
+names_said None (word ∷ words) = with_name word (option_of word) (names_said (option_of word) words)
+names_said (Some name) (word ∷ words) = names_said None words
+
+-- the application of this name, as it begins
+abbrev pub HasName : List ℕ → MoteApp → Type 0
+HasName name (MoteApp.Bundled application) = named name ≡ Some application
+HasName name (MoteApp.Boxed application) = IsNamed name application.value
+
+-- the application that makes the calls of this text
+abbrev pub HasCalls : List ℕ → MoteApp → Type 0
+HasCalls text (MoteApp.Bundled application) = ⊥
+HasCalls text (MoteApp.Boxed application) = IsListed text application.value
+
+-- after these applications those of the names, in their order, are all
+abbrev pub AreNamed : List (List ℕ) → List MoteApp → List MoteApp → Type 0
+AreNamed [] before all = all ≡ before
+AreNamed (name ∷ names) before all = (next : MoteApp) × HasName name next × AreNamed names (before ++ next ∷ []) all
+
+-- and after them the one of the list of calls, if there is a list
+abbrev pub IsListLast : Option (List ℕ) → List MoteApp → List MoteApp → Type 0
+IsListLast None named all = all ≡ named
+IsListLast (Some text) named all = (last : MoteApp) × HasCalls text last × (all ≡ named ++ last ∷ [])
+
+-- a mote's configuration and applications, by its words and its list of calls
+pub record IsMoteSaid (words : List (List ℕ)) (calls : Option (List ℕ)) (config : Config) (own : List MoteApp) : Type 0 where
+  pub sizes : Config
+  pub said : sizes_said None words default_config ≡ Some sizes
+  pub is : config ≡ record sizes { apps = length own }
+  pub named : List MoteApp
+  pub names : AreNamed (names_said None words) [] named
+  pub list : IsListLast calls named own
+  pub few : length own ≤ 16
+
+-- one more mote, which has just booted with this configuration
+pub record IsAdded (config : Config) (old new : List SessionView) : Type 0 where
+  pub mote : SessionView
+  pub booted : HasJustBooted config mote
+  pub added : new ≡ old ++ mote ∷ []
+
+-- and these are its applications; it has no links
+pub record HasOneMore (config : Config) (own : Vec MoteApp) (old new : SetupView) : Type 0 where
+  pub motes : IsAdded config old.motes new.motes
+  pub applications : new.applications ≡ old.applications ++ own ∷ []
+  pub links : new.links ≡ old.links ++ [] ∷ []
+  pub room : new.room ≡ old.room
+  pub rounds : new.rounds ≡ old.rounds
+
+-- one more mote, as its words and its list of calls say
+pub record HasMote (words : List (List ℕ)) (calls : Option (List ℕ)) (old new : SetupView) : Type 0 where
+  pub config : Config
+  pub own : Vec MoteApp
+  pub said : IsMoteSaid words calls config own.items
+  pub added : HasOneMore config own old new
+
+-- n more
+abbrev pub HaveMotes : ℕ → List (List ℕ) → Option (List ℕ) → SetupView → SetupView → Type 0
+HaveMotes zero words calls old new = new ≡ old
+HaveMotes (suc n) words calls old new = (between : SetupView) × HaveMotes n words calls old between × HasMote words calls between new
+
+-- the motes of a line, their words, and their list of calls
+pub record MoteLine : Type 0 where
+  pub span : Span
+  pub words : List (List ℕ)
+  pub calls : Option (List ℕ)
+
+-- the list after the word `calls`: it is empty, or follows a space
+abbrev pub list_said : List ℕ → Option (List ℕ)
+list_said [] = Some []
+list_said (byte ∷ []) = None
+list_said (byte ∷ next ∷ text) = argument_of (codes " ") (byte ∷ next ∷ text)
+
+abbrev pub with_span : Option Span → List (List ℕ) → Option (List ℕ) → Option MoteLine
+with_span span words calls = option_map (λ s. record { span = s; words = words; calls = calls }) span
+
+-- `3` or `3..40`, and words after a space
+abbrev pub cut_at_space : List ℕ → Option (List ℕ) → Option (List ℕ × List ℕ) → Option MoteLine
+cut_at_space text calls None = with_span (span_said text) [] calls
+cut_at_space text calls (Some parts) = with_span (span_said parts.0) (words_of parts.1) calls
+
+abbrev pub with_calls : List ℕ → Option (List ℕ) → Option MoteLine
+with_calls text calls = cut_at_space text calls (cut_at (codes " ") text)
+
+abbrev pub cut_at_calls : List ℕ → Option (List ℕ × List ℕ) → Option MoteLine
+cut_at_calls text None = with_calls text None
+cut_at_calls text (Some parts) = option_and_then (λ calls. with_calls parts.0 (Some calls)) (list_said parts.1)
+
+-- what is said after `mote `
+abbrev pub mote_line : List ℕ → Option MoteLine
+mote_line text = cut_at_calls text (cut_at (codes " calls") text)
+
+-- the line adds the motes that it says, whose first number is the next one
+pub record AddsMotes (text : List ℕ) (old new : SetupView) : Type 0 where
+  pub line : MoteLine
+  pub said : mote_line text ≡ Some line
+  pub next : line.span.first ≡ length old.motes + 1
+  pub added : HaveMotes (line.span.last + 1 - line.span.first) line.words line.calls old new
