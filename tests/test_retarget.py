@@ -171,6 +171,19 @@ def test_wide_lanes_are_for_wasm32_alone() -> None:
             rewritten(line)
 
 
+@pytest.mark.parametrize("target", ["cortex-m0", "wasm32"])
+def test_digits_of_sixteen_bytes(target: str) -> None:
+    """Lanes of bytes stay as they are, and so does the question whether one of them is 0."""
+    body = """%a = load <16 x i8>, ptr %a0, align 1
+%b = icmp eq <16 x i8> splat (i8 16), zeroinitializer
+%c = call i1 @llvm.vector.reduce.or.v16i1(<16 x i1> %b)
+%d = udiv <16 x i8> %a, splat (i8 16)
+%e = select <16 x i1> %b, <16 x i8> %d, <16 x i8> zeroinitializer
+%f = shufflevector <16 x i8> %d, <16 x i8> %e, <32 x i32> <i32 0, i32 16>
+store <32 x i8> %f, ptr %a0, align 1"""
+    assert rewritten(body, target=target) == body.splitlines()
+
+
 def test_shuffle_has_a_stand_in() -> None:
     """The function that does the same as the instruction pshufb stands where that was declared."""
     declared = "declare <16 x i8> @llvm.x86.ssse3.pshuf.b.128(<16 x i8>, <16 x i8>)"

@@ -38,7 +38,9 @@ CASE = re.compile(rf"{INTEGER} -?\d+, label {LOCAL}|\]")
 
 INTRINSICS = (
     r"llvm\.(?:mem(?:set\.p0|move\.p0\.p0|cpy\.p0\.p0)\.i64|trap|(?:ctlz|cttz|ctpop|bswap|abs|fshl|fshr)\.i\d+"
-    r"|[us](?:add|sub|mul)\.with\.overflow\.i\d+|[us](?:add|sub)\.sat\.i\d+|[us](?:min|max)\.i\d+)"
+    r"|[us](?:add|sub|mul)\.with\.overflow\.i\d+|[us](?:add|sub)\.sat\.i\d+|[us](?:min|max)\.i\d+"
+    # Whether a lane of a divisor is 0, of sixteen bytes whose digits are written.
+    r"|vector\.reduce\.or\.v16i1)"
 )
 FLOAT_INTRINSICS = r"llvm\.(?:arithmetic\.fence|fabs|floor|ceil|trunc|rint|sqrt|copysign|fptoui\.sat\.i\d+|fptosi\.sat\.i\d+)\.f(?:32|64)"
 
@@ -127,8 +129,8 @@ class Forms:
 
     def _flow_operations(self) -> dict[str, str]:
         kind = self.type
-        given = rf"(?:{kind}|{LANE_BITS})" if self.has_wide_lanes else kind
-        argument = rf"{given} {ATTRIBUTES}{VALUE}"
+        bits = LANE_BITS if self.has_wide_lanes else "<16 x i1>"
+        argument = rf"(?:{kind}|{bits}) {ATTRIBUTES}{VALUE}"
         arguments = rf"(?P<arguments>(?:{argument}(?:, {argument})*)?)"
         result = rf"(?P<before>(?:{LOCAL} = )?call {ATTRIBUTES}(?:void|{kind}) {self.variadic})"
         return {
