@@ -222,8 +222,8 @@ pub(crate) fn put_call(page: &mut Page, at: usize, call: &Call) -> usize
     requires { at + 320 ≤ 4096 }
     ensures { Puts page.old.bytes page.new.bytes at result 297 (blanked (codes "->" ∷ call_words call.now)) }
 {
-    match call {
-        Call::Wait => page.put_front(at, b"-> wait         ", 8),
-        _ => put_other_call(page, at, call),
+    if let Call::Wait = call {
+        return page.put_front(at, b"-> wait         ", 8);
     }
+    put_other_call(page, at, call)
 }
