@@ -60,7 +60,7 @@ fn write_block_at(bytes: &[u8], place: &mut [u8], at: usize)
 }
 
 /// Writes two lower case digits for each byte, block by block. The last block may overlap the one before.
-#[inline(never)]
+#[inline(always)]
 pub(crate) fn write_blocks(bytes: &[u8], place: &mut [u8])
     requires bytes { 16 ≤ length bytes.now }
     requires place { length place.old ≡ 2 * length bytes.now }
