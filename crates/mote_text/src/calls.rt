@@ -101,6 +101,7 @@ fn put_sized(page: &mut Page, at: usize, name: u8, size: u32) -> usize
 }
 
 /// Puts where a call reads, and how many bytes.
+// As `put_hex`.
 #[inline(never)]
 fn put_span(page: &mut Page, at: usize, offset: u32, len: u8) -> usize
     requires { at + 25 ≤ 4096 }
@@ -111,6 +112,7 @@ fn put_span(page: &mut Page, at: usize, offset: u32, len: u8) -> usize
 }
 
 /// Puts where a call writes, and what.
+// As `put_hex`.
 #[inline(never)]
 fn put_chunk(page: &mut Page, at: usize, offset: u32, chunk: &Chunk) -> usize
     requires { at + 180 ≤ 4096 }
@@ -121,6 +123,7 @@ fn put_chunk(page: &mut Page, at: usize, offset: u32, chunk: &Chunk) -> usize
 }
 
 /// Puts the code of an event, and what it carries.
+// As `put_hex`.
 #[inline(never)]
 fn put_event(page: &mut Page, at: usize, code: u8, payload: &Payload) -> usize
     requires { at + 280 ≤ 4096 }

@@ -19,6 +19,7 @@ fn digits_of(values: u8x16) -> u8x16
     requires { All (λ value. value < 16) values }
     ensures { result ≡ map (λ value. slice_index lower_digits value) values }
 {
+    // Of the letters: how far behind the digits 0 to 9 they stand.
     let past_numbers = values
         .simd_gt(u8x16::splat(9))
         .select(u8x16::splat(b'a' - b'9' - 1), u8x16::splat(0));

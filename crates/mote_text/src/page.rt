@@ -165,7 +165,7 @@ impl Page {
     }
 
     /// Puts bytes in hex, or a dash where there are none, and a blank.
-    // Not part of what puts a word and a small number or two, which so saves no registers.
+    // No part of what puts a word and a small number or two, which so saves no registers.
     #[inline(never)]
     pub(crate) fn put_hex(&mut self, at: usize, bytes: &[u8]) -> usize
         requires few { length bytes.now ≤ 256 }
