@@ -18,6 +18,12 @@ fn spoilt(call: &Call) -> bool {
     let Call::Wait = call else { return matches!(call, Call::Exit) };
     match call { Call::Exit => {}, _ => unreachable!() }
     match call { Call::Wait => true, _ => false }
+    if let Call::Wait = call { return true; }
+    false
+}
+fn passes(call: &Call) -> bool {
+    if let Call::Wait = call { return true; }
+    is_other(1, call)
 }
 """
 ORDER = (ROOT / "docs/reading-order.md").read_text(encoding="utf-8")
