@@ -41,8 +41,8 @@ class Board:
 MICROBIT = Board("microbit", "256K", "16K", "2K")
 STELLARIS = Board("lm3s6965evb", "256K", "64K", "4K")
 NETDUINO = Board("netduinoplus2", "1024K", "128K", "4K")
-# 18 KB of the stack are for toarmuts_open.
-STELLARIS_WITH_KERNEL = Board("lm3s6965evb", "256K", "64K", "18K")
+# toarmuts_open takes most of the stack.
+STELLARIS_WITH_KERNEL = Board("lm3s6965evb", "256K", "64K", "23K")
 LARGE_M3 = Board("mps2-an385", "4096K", "16M", "1M", "0x21000000")
 LARGE_M4 = Board("mps2-an386", "4096K", "16M", "1M", "0x21000000")
 # A model of a part for each core, and a board with RAM enough for any test. qemu has no large board with a Cortex-M0, whose

@@ -6,9 +6,10 @@
 #include "../c/steps.h"
 #include "startup.h"
 
-/* For a transcript of a sample, on a part with 64 KB of RAM. */
-enum { ROOM = 2048 };
+/* A transcript of a sample, and a line. A part with 64 KB of RAM has no room for more, nor for buffers of stdio's. */
+enum { ROOM = 1024 };
 static char transcript[ROOM];
+static uint8_t shown[640];
 
 /* From board.ld. */
 extern uint8_t stack_low[], stack_top[];
@@ -76,8 +77,10 @@ static size_t
 read_transcript(const char *name)
 {
   FILE *file = fopen(name, "rb");
-  size_t length = file == NULL ? 0 : fread(transcript, 1, sizeof transcript - 1, file);
+  size_t length = 0;
   if(file != NULL) {
+    setvbuf(file, NULL, _IONBF, 0);
+    length = fread(transcript, 1, sizeof transcript - 1, file);
     fclose(file);
   }
   for(size_t i = 0; i < length; i++) {
@@ -104,11 +107,11 @@ main(int count, char **words)
   struct toarmuts_configuration sizes = TOARMUTS_DEFAULTS;
   struct toarmuts_mote mote;
   struct toarmuts_turn turn;
-  uint8_t line[640];
   uint32_t step = TOARMUTS_REST;
   size_t length = count == 2 ? read_transcript(words[1]) : 0;
   const char *next = transcript;
   memset(&mote, 0, sizeof mote);
+  setvbuf(stdout, NULL, _IONBF, 0);
   if(length == 0 || toarmuts_open(&sizes, count_applications(length), &mote) != TOARMUTS_DONE) {
     return 98;
   }
@@ -124,8 +127,8 @@ main(int count, char **words)
         break;
       }
     }
-    toarmuts_line(&mote, line, sizeof line, &told);
-    printf("%.*s\n", (int)told, (const char *)line);
+    toarmuts_line(&mote, shown, sizeof shown, &told);
+    printf("%.*s\n", (int)told, (const char *)shown);
     next += strlen(next) + 1;
   }
   if(board_stack_used() == (size_t)(stack_top - stack_low)) {
