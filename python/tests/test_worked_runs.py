@@ -45,9 +45,9 @@ def test_is_the_same_once_written(scenario):
 
 def reasons():
     """Malformed lines and their reasons, as tests/test_scenario.py has them for the program."""
-    text = (ROOT / "tests/test_scenario.py").read_text()
-    table = text.split('MALFORMED = """\\\n')[1].split('\n"""')[0]
-    return [tuple(line.replace("LONG", " " * 256).split("|")) for line in table.split("\n")]
+    text = (ROOT / "tests/tables/scenario_malformed.txt").read_text()
+    table = re.search(r"^=== lines\n(.*?)^(?:===|\Z)", text, re.M | re.S)[1]
+    return [tuple(line.replace("LONG", " " * 256).split("|")) for line in table.splitlines()]
 
 
 @pytest.mark.parametrize("line, reason", reasons())
