@@ -5,14 +5,16 @@
 
 enum { SCRIPT_LIMIT = 16777216, PART = 65536 };
 
-/* The next byte of the script, or EOF. The transcript so far is written before it waits for more of the script. */
-static int
-next_byte(int script)
+/* What was read of the script: the bytes from `at` to `end` are left. */
+static char part[PART];
+static size_t at, end;
+
+/* Whether a byte of the script is left. The transcript so far is written before it waits for more of the script. */
+static bool
+has_more(int script)
 {
-  static char part[PART];
-  static size_t at, length;
   static bool has_ended;
-  if(at == length && !has_ended) {
+  if(at == end && !has_ended) {
     ssize_t count;
     flush_transcript();
     while((count = __read(script, part, sizeof part)) < 0 && errno == EINTR) {
@@ -21,10 +23,10 @@ next_byte(int script)
       give_up(STATUS_READ_FAILED, "read failed");
     }
     at = 0;
-    length = (size_t)count;
+    end = (size_t)count;
     has_ended = count == 0;
   }
-  return at < length ? (unsigned char)part[at++] : EOF;
+  return at < end;
 }
 
 /* Reads the next line, without its end. Of a line that is too long it reads one byte too many, so that the mote refuses it. */
@@ -32,21 +34,25 @@ enum reading
 read_line(int script, char *line, size_t *length)
 {
   static size_t taken;
-  int c;
   *length = 0;
-  while(*length <= LINE_LIMIT && (c = next_byte(script)) != '\n') {
-    if(c == EOF) {
-      return *length > 0 ? READ_LINE : READ_END;
-    }
-    if(taken++ == SCRIPT_LIMIT) {
+  while(has_more(script)) {
+    size_t room = LINE_LIMIT + 1 - *length;
+    size_t most = end - at < room ? end - at : room;
+    const char *line_end = memchr(part + at, '\n', most);
+    size_t count = line_end == NULL ? most : (size_t)(line_end - part) - at;
+    size_t used = line_end == NULL ? count : count + 1;
+    if(used > SCRIPT_LIMIT - taken) {
       return READ_TOO_MUCH;
     }
-    line[(*length)++] = (char)c;
+    memcpy(line + *length, part + at, count);
+    *length += count;
+    at += used;
+    taken += used;
+    if(line_end != NULL || *length > LINE_LIMIT) {
+      return READ_LINE;
+    }
   }
-  if(*length <= LINE_LIMIT && taken++ == SCRIPT_LIMIT) {
-    return READ_TOO_MUCH;
-  }
-  return READ_LINE;
+  return *length > 0 ? READ_LINE : READ_END;
 }
 
 /* The run ends at a malformed line. */
