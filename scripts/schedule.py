@@ -1,7 +1,9 @@
-"""The order in which ./prove starts crates: those with the longest way to what is wanted first."""
+"""The order in which ./prove starts crates: those with the longest way to what is wanted first. How many jobs run at once."""
 from __future__ import annotations
 
+import os
 from dataclasses import dataclass
+from pathlib import Path
 from typing import Iterator, Mapping, Sequence
 
 # A crate whose time isn't known counts as a minute.
@@ -10,6 +12,15 @@ UNKNOWN_SECONDS = 60
 # another one's share of a processor, so it never starves.
 SECONDS_OF_NICENESS = 30
 MOST_NICE = 10
+
+
+def most_jobs(memory: int) -> int:
+    """The number of jobs at once: RT_JOBS. Default: one for each processor, as far as each has this free memory, in kB."""
+    fixed = os.environ.get("RT_JOBS", "")
+    if fixed.isdigit() and int(fixed) > 0:
+        return int(fixed)
+    told = dict(line.split(":", 1) for line in Path("/proc/meminfo").read_text(encoding="ascii").splitlines())
+    return max(1, min(len(os.sched_getaffinity(0)), int(told["MemAvailable"].split()[0]) // memory))
 
 
 @dataclass(frozen=True)

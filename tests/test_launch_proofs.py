@@ -1,5 +1,6 @@
 """tests/proofs on a small tree of crates, with a stand-in for `rt ci`: what that proved counts as proved, for exactly these sources."""
 
+import re
 import shutil
 import sys
 from pathlib import Path
@@ -67,6 +68,13 @@ def test_touched_meanwhile(tree: Tree, meanwhile: str) -> None:
 def test_built_after_it(tree: Tree) -> None:
     """Where a library was built over others, none is taken."""
     assert prove_all(tree, BEHIND="touch crates/low/out/rlib/stamp")[-2:] == takes(0, 2)
+
+
+@pytest.mark.parametrize(("wish", "told"), [("3", "jobs 3"), ("0", r"jobs [1-9]\d*"), ("", r"jobs [1-9]\d*")])
+def test_jobs(tree: Tree, wish: str, told: str) -> None:
+    """`rt ci` gets a number of jobs: that of RT_JOBS, or one that suits the machine."""
+    lines = prove_all(tree, RT_JOBS=wish)
+    assert re.fullmatch(told, lines[0]), lines
 
 
 def test_list_that_rt_refuses(tree: Tree) -> None:
