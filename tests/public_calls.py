@@ -1,4 +1,4 @@
-"""Compares docs/public-calls.md with the sources: each public call and type that a list of the page names is declared in its crate, under
+"""Compares interface/public-calls.md with the sources: each public call and type that a list there names is declared in its crate, under
 exactly this signature. A list of a type's or trait's calls follows its name."""
 
 import functools
@@ -7,7 +7,7 @@ from typing import Iterator, NamedTuple
 
 from tools import ROOT
 
-PAGE = ROOT / "docs/public-calls.md"
+PAGE = ROOT / "interface/public-calls.md"
 
 HEADING = re.compile(r"^## (\w+)$", re.M)
 LIST = re.compile(r"^(?:`(\w+)`|[A-Z][\w ]+):\n\n((?:- `[^`]+`\n)+)", re.M)

@@ -62,7 +62,7 @@ def of_types() -> Table:
 
 
 def of_public_calls() -> Table:
-    row, = re.findall(r"^- `enum Call \{ (.*) \}`$", source("docs/public-calls.md"), re.M)
+    row, = re.findall(r"^- `enum Call \{ (.*) \}`$", source("interface/public-calls.md"), re.M)
     types = {"u8": "s", "u32": "n", "Payload": "p", "Chunk": "b"}
     return {spoken(name): "".join(types[it] for it in told.split(", ") if it) for name, told in re.findall(r"(\w+)(?:\(([^)]*)\))?", row)}
 
@@ -136,7 +136,7 @@ def of_steps() -> Table:
 
 TABLES: dict[str, tuple[Callable[[], Table], Table]] = {
     "mote_types/src/call.rt": (of_types, LETTERS),
-    "docs/public-calls.md": (of_public_calls, LETTERS),
+    "interface/public-calls.md": (of_public_calls, LETTERS),
     "mote_text/specs/EntryText.antt": (of_entries, NUMBERS),
     "mote_text/src/calls.rt": (of_entry_words, LETTERS),
     "call_lists/specs/Code/Readings.antt": (of_list_readings, LETTERS),

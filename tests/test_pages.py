@@ -14,7 +14,7 @@ from definitions import Place, definitions, lines_by_file, promised, spoken_of
 from tools import CRATES, ROOT
 
 READMES = [ROOT / name for name in ("README.md", "CONTRIBUTING.md", "bench/README.md", "tests/README.md")]
-PAGES = [*READMES, *sorted((ROOT / "docs").glob("*.md"))]
+PAGES = [*READMES, ROOT / "interface/public-calls.md", *sorted((ROOT / "docs").glob("*.md"))]
 ORDER = (ROOT / "docs/reading-order.md").read_text(encoding="utf-8")
 # The files of docs/reading-order.md, in their order, each with its lines.
 ROWS = re.findall(r"^- `(crates/[^`]+)` \((\d+)\):", ORDER, re.M)
@@ -290,9 +290,9 @@ def test_one_licence() -> None:
 
 
 def test_public_calls() -> None:
-    """Each public call that docs/public-calls.md lists is in the sources, under its signature."""
+    """Each public call that interface/public-calls.md lists is in the sources, under its signature."""
     faults = public_calls.faults()
-    assert not faults, "docs/public-calls.md: " + "\n".join(faults)
+    assert not faults, "interface/public-calls.md: " + "\n".join(faults)
 
 
 def test_trusted_libraries() -> None:

@@ -59,11 +59,11 @@ SPOILT: dict[str, Callable[[str], str]] = {
     "docs/reading-order.md": spoil,
     "docs/map.md": lambda text: text.replace(" 3 | kernel_core", " 4 | kernel_core"),
     "python/LICENSE": append("And more.\n"),
-    "docs/public-calls.md": lambda text: text.replace("(&mut self, bytes: &[u8])", "(&self, bytes: &[u8])"),
+    "interface/public-calls.md": lambda text: text.replace("(&mut self, bytes: &[u8])", "(&self, bytes: &[u8])"),
     FIRST_DEFINITIONS: append(DEFINITION),
 }
 FAULTS = [
-    "docs/public-calls.md: mote_types has no ByteSink: fn write(&self, bytes: &[u8])",
+    "interface/public-calls.md: mote_types has no ByteSink: fn write(&self, bytes: &[u8])",
     f"docs/pools.md: names that are not there: {NO_NAME}, none.script",
     "Extra items in the right set:\nE         'hex'",
     "docs/map.md: its figure isn't what `python3 tests/layers.py` prints",
