@@ -28,22 +28,24 @@ use undrawn::Undrawn;
 const HIGHEST: usize = 32_000;
 
 /// All bytes of standard input.
-fn read_all<R: AllocGlobal + io::Input>(rt: &R) -> Result<Vec<u8>, Failure<'static>> {
+fn read_all<R: AllocGlobal + io::Input>(rt: &R) -> Result<Vec<u8>, Undrawn> {
     let mut bytes = Vec::new(rt.alloc());
     let mut reader = rt.reader();
     match reader.read_to_end(&mut bytes) {
         Ok(_) => Ok(bytes),
-        Err(error) if error.kind() == io::ErrorKind::OutOfMemory => Err(Failure::OutOfMemory),
-        Err(_) => Err(Failure::Read),
+        Err(error) if error.kind() == io::ErrorKind::OutOfMemory => {
+            Err(Undrawn::Program(Failure::OutOfMemory))
+        }
+        Err(_) => Err(Undrawn::Program(Failure::Read)),
     }
 }
 
 /// Writes a picture to standard output.
-fn write_all<R: Print>(rt: &R, picture: &[u8]) -> Result<(), Failure<'static>> {
+fn write_all<R: Print>(rt: &R, picture: &[u8]) -> Result<(), Undrawn> {
     let mut writer = io::writer(rt);
     match writer.write_all(picture) {
         Ok(()) => Ok(()),
-        Err(_) => Err(Failure::Write),
+        Err(_) => Err(Undrawn::Program(Failure::Write)),
     }
 }
 
@@ -65,23 +67,6 @@ fn drawn<R: AllocGlobal + Eprint>(
     let picture = draw(rt.alloc(), lines, &settings)?;
     warn_of_height(rt, picture.height);
     Ok(picture.text)
-}
-
-/// The page that is asked for.
-fn laid_out(
-    alloc: Global,
-    lines: &[&str],
-    named: &Named<'_>,
-    title: &str,
-) -> Result<Vec<u8>, AllocError> {
-    let settings = page::Settings {
-        title,
-        names: named.names.as_slice(),
-        from: named.from,
-        to: named.to,
-        sizes: named.sizes,
-    };
-    page_of(alloc, lines, &settings)
 }
 
 /// The dump that is asked for.
@@ -111,7 +96,7 @@ fn written<R: AllocGlobal + Eprint>(
     }
     match named.form {
         Form::Picture => Ok(drawn(rt, lines, named, title)?),
-        Form::Page => Ok(laid_out(rt.alloc(), lines, named, title)?),
+        Form::Page => Ok(page_of(rt.alloc(), lines, title, named)?),
         Form::Dump => dumped(rt.alloc(), lines, named),
     }
 }
@@ -126,16 +111,26 @@ fn warn_of_height<R: Eprint>(rt: &R, height: usize) {
     }
 }
 
-/// Draws a transcript. Nothing is written before all its lines are read.
-fn draw_transcript<R: AllocGlobal + Print + Eprint>(
+/// Draws lines.
+fn draw_lines<R: AllocGlobal + Print + Eprint>(
     rt: &R,
-    transcript: &[u8],
+    lines: &[&str],
     named: &Named<'_>,
     title: &str,
 ) -> Result<(), Undrawn> {
-    let lines = lines_of(rt.alloc(), transcript)?;
-    let written = written(rt, lines.as_slice(), named, title)?;
-    Ok(write_all(rt, written.as_slice())?)
+    let written = written(rt, lines, named, title)?;
+    write_all(rt, written.as_slice())
+}
+
+/// Draws the transcript on standard input. Nothing is written before all its lines are read.
+fn draw_transcript<R: AllocGlobal + io::Input + Print + Eprint>(
+    rt: &R,
+    named: &Named<'_>,
+    title: &str,
+) -> Result<(), Undrawn> {
+    let transcript = read_all(rt)?;
+    let lines = lines_of(rt.alloc(), transcript.as_slice())?;
+    draw_lines(rt, lines.as_slice(), named, title)
 }
 
 /// Draws what the arguments ask for.
@@ -145,8 +140,7 @@ fn draw_picture<R: AllocGlobal + io::Input + Print + Eprint>(
 ) -> Result<(), Undrawn> {
     let named = read_words(rt.alloc(), words)?;
     let title = title_of(rt.alloc(), words)?;
-    let transcript = read_all(rt)?;
-    draw_transcript(rt, transcript.as_slice(), &named, title.as_str())
+    draw_transcript(rt, &named, title.as_str())
 }
 
 /// Reports why nothing is drawn, and returns the status that the program exits with.

@@ -16,7 +16,7 @@ use picture_svg::Sizes;
 use std::alloc::{AllocError, Global};
 
 /// What is written of a run.
-#[derive(Clone, Copy, Drop)]
+#[derive(Clone, Copy)]
 pub enum Form {
     /// One SVG.
     Picture,

@@ -11,30 +11,14 @@ mod members;
 mod template;
 mod told;
 
+use crate::named::Named;
 use data::Data;
 use members::rest_of;
-use picture_facts::facts::facts_of;
-use picture_facts::memory::Sizes;
-use picture_facts::rows::{Shown, shown_of};
+use picture_facts::rows::shown_of;
 use std::alloc::{AllocError, Global};
 use template::markup::{BODY, END, FOOT, HEAD};
 use template::script::SCRIPT;
 use template::style::STYLE;
-
-/// What a page tells of a run besides its transcript.
-#[derive(Clone, Copy, Drop)]
-pub(crate) struct Settings<'a> {
-    /// What stands above the page.
-    pub(crate) title: &'a str,
-    /// The names of processes 4, 5, ..; those behind them have none.
-    pub(crate) names: &'a [&'a str],
-    /// The clock at the first line that is shown, in ticks.
-    pub(crate) from: u64,
-    /// The clock at the last line that is shown.
-    pub(crate) to: u64,
-    /// The sizes of the mote's memory.
-    pub(crate) sizes: Sizes,
-}
 
 /// The lines, a line end behind each.
 fn ended_lines(alloc: Global, lines: &[&str]) -> Result<String, AllocError>
@@ -74,16 +58,16 @@ fn filled(alloc: Global, front: &str, members: &Data, back: &str) -> Result<Vec<
 fn page_between(
     alloc: Global,
     lines: &[&str],
-    settings: &Settings<'_>,
+    title: &str,
+    named: &Named<'_>,
     front: &str,
     back: &str,
 ) -> Result<Vec<u8>, AllocError>
-    ensures { IfOk result (λ page. IsPage lines.now settings.now.from settings.now.to front.now back.now page.items) }
+    ensures { IfOk result (λ page. IsPage lines.now named.now.from named.now.to front.now back.now page.items) }
 {
-    let facts = facts_of(alloc, lines, settings.sizes)?;
-    let shown = shown_of(lines, settings.from, settings.to);
+    let shown = shown_of(lines, named.from, named.to);
     let text = ended_lines(alloc, &lines[shown.first..shown.end])?;
-    let rest = rest_of(alloc, lines, shown, &facts, settings)?;
+    let rest = rest_of(alloc, lines, shown, title, named)?;
     let members = data_of(alloc, text.as_str(), &rest)?;
     members.is_harmless();
     filled(alloc, front, &members, back)
@@ -108,12 +92,13 @@ fn joined(alloc: Global, first: &str, second: &str, third: &str) -> Result<Strin
 pub(crate) fn page_of(
     alloc: Global,
     lines: &[&str],
-    settings: &Settings<'_>,
+    title: &str,
+    named: &Named<'_>,
 ) -> Result<Vec<u8>, AllocError>
-    ensures { IfOk result (λ page. IsPage lines.now settings.now.from settings.now.to (HEAD.now ++ STYLE.now ++ BODY.now)
+    ensures { IfOk result (λ page. IsPage lines.now named.now.from named.now.to (HEAD.now ++ STYLE.now ++ BODY.now)
         (FOOT.now ++ SCRIPT.now ++ END.now) page.items) }
 {
     let front = joined(alloc, HEAD, STYLE, BODY)?;
     let back = joined(alloc, FOOT, SCRIPT, END)?;
-    page_between(alloc, lines, settings, front.as_str(), back.as_str())
+    page_between(alloc, lines, title, named, front.as_str(), back.as_str())
 }

@@ -1,82 +1,67 @@
 //! What the data of a page has besides the text of the transcript: names and sizes, the words for each line, and what holds at the lines.
 //! Numbers of lines are those in the whole transcript, from 0 on; where an end never comes it is null.
 
-use crate::page::Settings;
+use crate::named::Named;
 use crate::page::data::Data;
 use crate::page::told::{answer_in, push_line};
-use picture_facts::facts::Facts;
+use picture_facts::facts::{Facts, facts_of};
 use picture_facts::marks::Marks;
 use picture_facts::memory::Stay;
 use picture_facts::rows::Shown;
 use std::alloc::{AllocError, Global};
 use transcript_lines::is_quiet;
 
-/// A list of numbers.
-#[derive(Drop)]
-struct Numbers {
-    data: Data,
-    is_first: bool,
+/// Appends the name of a member.
+fn push_name(out: &mut Data, name: &str) -> Result<(), AllocError> {
+    out.put(",")?;
+    out.say(name)?;
+    out.put(":")
 }
 
-impl Numbers {
-    /// A list that has this name and no number yet.
-    fn named(alloc: Global, name: &str) -> Result<Self, AllocError> {
-        let mut data = Data::new(alloc);
-        data.put(",")?;
-        data.say(name)?;
-        data.put(":[")?;
-        Ok(Numbers {
-            data,
-            is_first: true,
-        })
+/// Appends a number, or null.
+fn push_number(out: &mut Data, number: Option<usize>) -> Result<(), AllocError> {
+    match number {
+        Some(number) => out.count(number as u64),
+        None => out.put("null"),
     }
+}
 
-    fn separate(&mut self) -> Result<(), AllocError> {
-        if !self.is_first {
-            self.data.put(",")?;
+/// Appends a list of numbers.
+fn push_list(out: &mut Data, name: &str, numbers: &[Option<usize>]) -> Result<(), AllocError> {
+    push_name(out, name)?;
+    out.put("[")?;
+    for place in 0..numbers.len() {
+        if place > 0 {
+            out.put(",")?;
         }
-        self.is_first = false;
-        Ok(())
+        push_number(out, numbers[place])?;
     }
+    out.put("]")
+}
 
-    fn push(&mut self, number: u64) -> Result<(), AllocError> {
-        self.separate()?;
-        self.data.count(number)
-    }
-
-    fn push_place(&mut self, place: usize) -> Result<(), AllocError> {
-        self.push(place as u64)
-    }
-
-    /// A number, or null.
-    fn push_some(&mut self, number: Option<u64>) -> Result<(), AllocError> {
-        match number {
-            Some(number) => self.push(number),
-            None => {
-                self.separate()?;
-                self.data.put("null")
-            }
+/// Appends a list of texts.
+fn push_texts(out: &mut Data, name: &str, texts: &[&str]) -> Result<(), AllocError> {
+    push_name(out, name)?;
+    out.put("[")?;
+    for place in 0..texts.len() {
+        if place > 0 {
+            out.put(",")?;
         }
+        out.say(texts[place])?;
     }
-
-    fn push_end(&mut self, end: Option<usize>) -> Result<(), AllocError> {
-        self.push_some(end.map(|end| end as u64))
-    }
-
-    /// The whole list.
-    fn closed(mut self) -> Result<Data, AllocError> {
-        self.data.put("]")?;
-        Ok(self.data)
-    }
+    out.put("]")
 }
 
 /// Whether something is there at a line that is shown.
 fn is_shown(shown: Shown, first: usize, end: Option<usize>) -> bool {
-    first < shown.end && end.is_none_or(|end| end >= shown.first)
+    match end {
+        Some(end) => first < shown.end && end >= shown.first,
+        None => first < shown.end,
+    }
 }
 
 /// The lists of numbers for what the lines tell together.
-#[derive(Clone, Copy, Drop)]
+#[derive(Clone, Copy)]
 struct Lists<'a> {
     alloc: Global,
     shown: Shown,
@@ -84,206 +69,254 @@ struct Lists<'a> {
 }
 
 impl Lists<'_> {
-    /// The clock at each line.
-    fn clocks(&self) -> Result<Data, AllocError> {
-        let mut numbers = Numbers::named(self.alloc, "clocks")?;
-        let clocks = self.marks().clocks.as_slice().iter();
-        for clock in clocks.take(self.shown.end).skip(self.shown.first) {
-            numbers.push(*clock)?;
-        }
-        numbers.closed()
-    }
-
-    /// For each line the line with the answer to its call.
-    fn answers(&self) -> Result<Data, AllocError> {
-        let mut numbers = Numbers::named(self.alloc, "answers")?;
-        let answers = self.marks().answers.as_slice().iter();
-        for answer in answers.take(self.shown.end).skip(self.shown.first) {
-            numbers.push_end(*answer)?;
-        }
-        numbers.closed()
-    }
-
     fn marks(&self) -> &Marks {
         &self.facts.marks
     }
 
+    /// The clock at each line.
+    fn push_clocks(&self, out: &mut Data) -> Result<(), AllocError> {
+        let mut numbers = Vec::new(self.alloc);
+        let clocks = self.marks().clocks.as_slice();
+        for clock in clocks.get(self.shown.first..self.shown.end).unwrap_or(&[]) {
+            numbers.push(Some(*clock as usize))?;
+        }
+        push_list(out, "clocks", numbers.as_slice())
+    }
+
+    /// For each line the line with the answer to its call.
+    fn push_answers(&self, out: &mut Data) -> Result<(), AllocError> {
+        let answers = self.marks().answers.as_slice();
+        let answers = answers.get(self.shown.first..self.shown.end);
+        push_list(out, "answers", answers.unwrap_or(&[]))
+    }
+
     /// Process, first and last line of each activation.
-    fn activations(&self) -> Result<Data, AllocError> {
-        let mut numbers = Numbers::named(self.alloc, "activations")?;
+    fn push_activations(&self, out: &mut Data) -> Result<(), AllocError> {
+        let mut numbers = Vec::new(self.alloc);
         for activation in self.marks().activations.as_slice() {
-            if is_shown(self.shown, activation.first, Some(activation.last)) {
-                numbers.push_place(activation.pid)?;
-                numbers.push_place(activation.first)?;
-                numbers.push_place(activation.last)?;
+            let last = Some(activation.last);
+            if is_shown(self.shown, activation.first, last) {
+                numbers.extend_from_slice(&[Some(activation.pid), Some(activation.first), last])?;
             }
         }
-        numbers.closed()
+        push_list(out, "activations", numbers.as_slice())
     }
 
     /// Process, first line and end of each life.
-    fn lives(&self) -> Result<Data, AllocError> {
-        let mut numbers = Numbers::named(self.alloc, "lives")?;
+    fn push_lives(&self, out: &mut Data) -> Result<(), AllocError> {
+        let mut numbers = Vec::new(self.alloc);
         for life in self.marks().lives.as_slice() {
             if is_shown(self.shown, life.first, life.end) {
-                numbers.push_place(life.pid)?;
-                numbers.push_place(life.first)?;
-                numbers.push_end(life.end)?;
+                numbers.extend_from_slice(&[Some(life.pid), Some(life.first), life.end])?;
             }
         }
-        numbers.closed()
+        push_list(out, "lives", numbers.as_slice())
     }
 
     /// The giver, whom it gives something at once, and the line.
-    fn gifts(&self) -> Result<Data, AllocError> {
-        let mut numbers = Numbers::named(self.alloc, "gifts")?;
+    fn push_gifts(&self, out: &mut Data) -> Result<(), AllocError> {
+        let mut numbers = Vec::new(self.alloc);
         for gift in self.marks().gifts.as_slice() {
-            if is_shown(self.shown, gift.row, Some(gift.row)) {
-                numbers.push_place(gift.from)?;
-                numbers.push_place(gift.to)?;
-                numbers.push_place(gift.row)?;
+            let row = Some(gift.row);
+            if is_shown(self.shown, gift.row, row) {
+                numbers.extend_from_slice(&[Some(gift.from), Some(gift.to), row])?;
             }
         }
-        numbers.closed()
+        push_list(out, "gifts", numbers.as_slice())
     }
 
     /// Who posted an event and in which line, and who is told it and in which.
-    fn curves(&self) -> Result<Data, AllocError> {
-        let mut numbers = Numbers::named(self.alloc, "curves")?;
+    fn push_curves(&self, out: &mut Data) -> Result<(), AllocError> {
+        let mut numbers = Vec::new(self.alloc);
         for curve in self.marks().curves.as_slice() {
-            if is_shown(self.shown, curve.first, Some(curve.last)) {
-                numbers.push_place(curve.from)?;
-                numbers.push_place(curve.first)?;
-                numbers.push_place(curve.to)?;
-                numbers.push_place(curve.last)?;
+            let (first, last) = (Some(curve.first), Some(curve.last));
+            if is_shown(self.shown, curve.first, last) {
+                numbers.extend_from_slice(&[Some(curve.from), first, Some(curve.to), last])?;
             }
         }
-        numbers.closed()
+        push_list(out, "curves", numbers.as_slice())
     }
 
     /// Process, number, first line and end of each arming of a timer, when it was due, and when it was told.
-    fn armings(&self) -> Result<Data, AllocError> {
-        let mut numbers = Numbers::named(self.alloc, "armings")?;
+    fn push_armings(&self, out: &mut Data) -> Result<(), AllocError> {
+        let mut numbers = Vec::new(self.alloc);
         for arming in self.marks().armings.as_slice() {
             if is_shown(self.shown, arming.first, arming.last) {
-                numbers.push_place(arming.pid)?;
-                numbers.push_place(arming.timer)?;
-                numbers.push_place(arming.first)?;
-                numbers.push_end(arming.last)?;
-                numbers.push(arming.due)?;
-                numbers.push_some(arming.told)?;
+                numbers.extend_from_slice(&[
+                    Some(arming.pid),
+                    Some(arming.timer),
+                    Some(arming.first),
+                    arming.last,
+                    Some(arming.due as usize),
+                    number_of(arming.told),
+                ])?;
             }
         }
-        numbers.closed()
+        push_list(out, "armings", numbers.as_slice())
     }
 
     /// The line that posts an event, and the one from which on it waits no more.
-    fn waits(&self) -> Result<Data, AllocError> {
-        let mut numbers = Numbers::named(self.alloc, "waits")?;
+    fn push_waits(&self, out: &mut Data) -> Result<(), AllocError> {
+        let mut numbers = Vec::new(self.alloc);
         for wait in self.facts.waits.as_slice() {
             if is_shown(self.shown, wait.line, wait.end) {
-                numbers.push_place(wait.line)?;
-                numbers.push_end(wait.end)?;
+                numbers.extend_from_slice(&[Some(wait.line), wait.end])?;
             }
         }
-        numbers.closed()
+        push_list(out, "waits", numbers.as_slice())
     }
 
     /// The line, the list, how many blocks it has from then on, and these.
-    fn chains(&self) -> Result<Data, AllocError> {
-        let mut numbers = Numbers::named(self.alloc, "chains")?;
+    fn push_chains(&self, out: &mut Data) -> Result<(), AllocError> {
+        let mut numbers = Vec::new(self.alloc);
         for chain in self.facts.chains.as_slice() {
             if chain.line < self.shown.end {
-                numbers.push_place(chain.line)?;
-                numbers.push_place(chain.list)?;
-                numbers.push_place(chain.blocks.len())?;
-                for block in chain.blocks.as_slice() {
-                    numbers.push(*block)?;
+                let blocks = chain.blocks.as_slice();
+                numbers.extend_from_slice(&[
+                    Some(chain.line),
+                    Some(chain.list),
+                    Some(blocks.len()),
+                ])?;
+                for block in blocks {
+                    numbers.push(Some(*block as usize))?;
                 }
             }
         }
-        numbers.closed()
+        push_list(out, "chains", numbers.as_slice())
     }
 
     /// Process, name, place, bytes that are taken and that were asked for, first line and end of each block.
-    fn stays(&self, name: &str, stays: &[Stay]) -> Result<Data, AllocError> {
-        let mut numbers = Numbers::named(self.alloc, name)?;
+    fn push_stays(&self, out: &mut Data, name: &str, stays: &[Stay]) -> Result<(), AllocError> {
+        let mut numbers = Vec::new(self.alloc);
         for stay in stays {
             if is_shown(self.shown, stay.first, stay.last) {
-                numbers.push_place(stay.pid)?;
-                numbers.push(stay.name)?;
-                numbers.push(stay.at)?;
-                numbers.push(stay.taken)?;
-                numbers.push(stay.size)?;
-                numbers.push_place(stay.first)?;
-                numbers.push_end(stay.last)?;
+                numbers.extend_from_slice(&[
+                    Some(stay.pid),
+                    Some(stay.name as usize),
+                    Some(stay.at as usize),
+                    Some(stay.taken as usize),
+                    Some(stay.size as usize),
+                    Some(stay.first),
+                    stay.last,
+                ])?;
             }
         }
-        numbers.closed()
+        push_list(out, name, numbers.as_slice())
+    }
+
+    /// What was run, the words for each line, and all lists.
+    fn push_rest(
+        &self,
+        out: &mut Data,
+        lines: &[&str],
+        title: &str,
+        named: &Named<'_>,
+    ) -> Result<(), AllocError> {
+        push_run(out, lines, self.shown, self.facts, title, named)?;
+        push_words(self.alloc, out, lines, self.shown, self.marks())?;
+        self.push_clocks(out)?;
+        self.push_answers(out)?;
+        self.push_activations(out)?;
+        self.push_lives(out)?;
+        self.push_gifts(out)?;
+        self.push_curves(out)?;
+        self.push_armings(out)?;
+        self.push_waits(out)?;
+        self.push_chains(out)?;
+        let stays = &self.marks().stays;
+        self.push_stays(out, "managed", stays.managed.as_slice())?;
+        self.push_stays(out, "heap", stays.heap.as_slice())?;
+        self.push_stays(out, "used", stays.used.as_slice())?;
+        self.push_stays(out, "linked", stays.linked.as_slice())?;
+        out.put("}")
     }
 }
 
-/// What was run, as one member behind the other.
-fn run_of(
-    alloc: Global,
-    lines: &[&str],
-    shown: Shown,
-    facts: &Facts,
-    settings: &Settings<'_>,
-) -> Result<Data, AllocError> {
-    let mut data = Data::new(alloc);
-    data.put(",\"title\":")?;
-    data.say(settings.title)?;
-    data.put(",\"names\":[")?;
-    for (place, name) in settings.names.iter().enumerate() {
-        if place > 0 {
-            data.put(",")?;
-        }
-        data.say(name)?;
+/// A number that may be there, as lists have it.
+fn number_of(number: Option<u64>) -> Option<usize> {
+    match number {
+        Some(number) => Some(number as usize),
+        None => None,
     }
-    data.put("],\"quiet\":")?;
-    data.decide(is_quiet(lines))?;
-    let mut numbers = Numbers::named(alloc, "run")?;
-    numbers.push_place(lines.len())?;
-    numbers.push_place(shown.first)?;
-    numbers.push(start_of(&facts.marks, shown))?;
-    numbers.push(settings.sizes.managed as u64)?;
-    numbers.push(settings.sizes.heap as u64)?;
-    numbers.push(settings.sizes.header as u64)?;
-    numbers.push_end(facts.exceeds)?;
-    numbers.push_end(facts.marks.stays.differs)?;
-    data.append(&numbers.closed()?)?;
-    Ok(data)
 }
 
 /// The clock before the first line that is shown.
 fn start_of(marks: &Marks, shown: Shown) -> u64 {
-    if shown.first == 0 {
-        return 0;
+    match shown.first.checked_sub(1) {
+        Some(before) => marks.clocks.as_slice().get(before).copied().unwrap_or(0),
+        None => 0,
     }
-    let before = shown.first.saturating_sub(1);
-    marks.clocks.as_slice().get(before).copied().unwrap_or(0)
 }
 
-/// The words for each line, by the name of `words`.
-fn words_of(
+/// Appends what was run, as one member behind the other.
+fn push_run(
+    out: &mut Data,
+    lines: &[&str],
+    shown: Shown,
+    facts: &Facts,
+    title: &str,
+    named: &Named<'_>,
+) -> Result<(), AllocError> {
+    push_name(out, "title")?;
+    out.say(title)?;
+    push_texts(out, "names", named.names.as_slice())?;
+    push_name(out, "quiet")?;
+    out.decide(is_quiet(lines))?;
+    let numbers = [
+        Some(lines.len()),
+        Some(shown.first),
+        Some(start_of(&facts.marks, shown) as usize),
+        Some(named.sizes.managed as usize),
+        Some(named.sizes.heap as usize),
+        Some(named.sizes.header as usize),
+        facts.exceeds,
+        facts.marks.stays.differs,
+    ];
+    push_list(out, "run", &numbers)
+}
+
+/// The answer to the call of a line, or nothing.
+fn answer_to<'a>(lines: &[&'a str], marks: &Marks, number: usize) -> &'a str {
+    match marks.answers.as_slice().get(number) {
+        Some(Some(answer)) => answer_in(lines.get(*answer)),
+        _ => "",
+    }
+}
+
+/// Appends the words for each line.
+fn push_words(
     alloc: Global,
+    out: &mut Data,
     lines: &[&str],
     shown: Shown,
     marks: &Marks,
-) -> Result<Data, AllocError> {
+) -> Result<(), AllocError> {
     let mut words = String::new(alloc);
-    let numbered = lines.iter().enumerate().take(shown.end);
-    for (number, line) in numbered.skip(shown.first) {
-        let answer = marks.answers.as_slice().get(number).copied().flatten();
-        let answer = answer.and_then(|answer| lines.get(answer));
-        push_line(alloc, &mut words, line, answer_in(answer))?;
+    for number in shown.first..shown.end.min(lines.len()) {
+        let answer = answer_to(lines, marks, number);
+        push_line(alloc, &mut words, lines[number], answer)?;
         words.push_str("\n")?;
     }
-    let mut data = Data::new(alloc);
-    data.put(",\"words\":")?;
-    data.say(words.as_str())?;
-    Ok(data)
+    push_name(out, "words")?;
+    out.say(words.as_str())
+}
+
+/// Appends all members behind the text of the transcript, to the end of the data.
+fn push_rest(
+    alloc: Global,
+    out: &mut Data,
+    lines: &[&str],
+    shown: Shown,
+    title: &str,
+    named: &Named<'_>,
+) -> Result<(), AllocError> {
+    let facts = facts_of(alloc, lines, named.sizes)?;
+    let lists = Lists {
+        alloc,
+        shown,
+        facts: &facts,
+    };
+    lists.push_rest(out, lines, title, named)
 }
 
 /// All members behind the text of the transcript, to the end of the data.
@@ -291,30 +324,10 @@ pub(crate) fn rest_of(
     alloc: Global,
     lines: &[&str],
     shown: Shown,
-    facts: &Facts,
-    settings: &Settings<'_>,
+    title: &str,
+    named: &Named<'_>,
 ) -> Result<Data, AllocError> {
-    let lists = Lists {
-        alloc,
-        shown,
-        facts,
-    };
-    let stays = &facts.marks.stays;
-    let mut data = run_of(alloc, lines, shown, facts, settings)?;
-    data.append(&words_of(alloc, lines, shown, &facts.marks)?)?;
-    data.append(&lists.clocks()?)?;
-    data.append(&lists.answers()?)?;
-    data.append(&lists.activations()?)?;
-    data.append(&lists.lives()?)?;
-    data.append(&lists.gifts()?)?;
-    data.append(&lists.curves()?)?;
-    data.append(&lists.armings()?)?;
-    data.append(&lists.waits()?)?;
-    data.append(&lists.chains()?)?;
-    data.append(&lists.stays("managed", stays.managed.as_slice())?)?;
-    data.append(&lists.stays("heap", stays.heap.as_slice())?)?;
-    data.append(&lists.stays("used", stays.used.as_slice())?)?;
-    data.append(&lists.stays("linked", stays.linked.as_slice())?)?;
-    data.put("}")?;
-    Ok(data)
+    let mut rest = Data::new(alloc);
+    push_rest(alloc, &mut rest, lines, shown, title, named)?;
+    Ok(rest)
 }
