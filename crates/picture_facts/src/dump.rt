@@ -119,11 +119,10 @@ impl Walk {
     }
 
     /// The last clock passes.
-    fn finish(mut self) -> Result<Dump, AllocError> {
+    fn finish(&mut self) -> Result<(), AllocError> {
         self.rest()?;
         let end = self.clock.saturating_add(1);
-        self.dump.go_to(end.saturating_mul(self.scale.units))?;
-        Ok(self.dump)
+        self.dump.go_to(end.saturating_mul(self.scale.units))
     }
 }
 
@@ -139,24 +138,22 @@ fn parted(changes: &[Change], line: usize) -> (&[Change], &[Change]) {
     changes.split_at(count.min(changes.len()))
 }
 
-/// Walks over the lines in the dump.
+/// Walks over the lines in the dump, by the changes from line to line.
 fn walk_over(
-    alloc: Global,
     walk: &mut Walk,
     lines: &[&str],
     shown: Shown,
-    facts: &Facts,
+    clocks: &[u64],
+    changes: &[Change],
 ) -> Result<(), AllocError> {
-    let changes = changes_of(alloc, facts)?;
-    let mut left = changes.as_slice();
-    let clocks = clocks_of(facts, shown);
+    let mut left = changes;
     for place in 0..lines.len().min(clocks.len()) {
         let (due, later) = parted(left, place.saturating_add(shown.first));
         walk.levels.apply_all(due);
         left = later;
         walk.take_line(lines[place], clocks[place])?;
     }
-    Ok(())
+    walk.finish()
 }
 
 /// The declarations and the values as one text.
@@ -185,6 +182,7 @@ fn dump_of(
     let scale = Scale::of(most_at_once(clocks));
     let applications = facts.marks.processes.saturating_sub(FIRST);
     let applications = applications.max(settings.names.len()).min(16);
+    let changes = changes_of(alloc, facts)?;
     let mut walk = Walk {
         levels: Levels::new(settings.sizes),
         dump: Dump::new(alloc, clock.saturating_mul(scale.units))?,
@@ -194,17 +192,11 @@ fn dump_of(
         clock,
         place: 0,
     };
-    walk_over(
-        alloc,
-        &mut walk,
-        &lines[shown.first..shown.end],
-        shown,
-        facts,
-    )?;
-    let dump = walk.finish()?;
-    dump.goes_on();
+    let lines = &lines[shown.first..shown.end];
+    walk_over(&mut walk, lines, shown, clocks, changes.as_slice())?;
+    walk.dump.goes_on();
     let head = declarations(alloc, scale, settings.names, applications)?;
-    whole(alloc, head.as_str(), &dump)
+    whole(alloc, head.as_str(), &walk.dump)
 }
 
 /// The dump of a run, from the lines of its transcript: declarations, and values at times that never go back.

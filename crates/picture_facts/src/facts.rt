@@ -117,8 +117,8 @@ fn waits_and_chains(
     ensures waits { IfOk result (λ told. Ascend 0 (map (λ wait. wait.line) told.0.items) (length lines.now)) }
     ensures order { IfOk result (λ told. Ascend 0 (map (λ chain. chain.line) told.1.items) (length lines.now)) }
 {
-    let mut queue = Queue::new(alloc);
     let mut lists = Lists::new(alloc)?;
+    let mut queue = Queue::new(alloc);
     take_lines(lines, marks, &mut queue, &mut lists)?;
     let waits = queue.finish()?;
     Ok((waits, lists.finish()))

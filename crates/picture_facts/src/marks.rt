@@ -626,9 +626,9 @@ impl ClockedWalk {
         Ok(start)
     }
 
-    /// The result of the walk, where the first row begins at a clock.
-    fn finish(self, alloc: Global, start: u64) -> Marks
-        ensures start { result.start ≡ start }
+    /// The result of the walk, but for the clock at which the first row begins.
+    fn finish(self, alloc: Global) -> Marks
+        ensures start { result.start ≡ 0 }
         ensures clocks { result.clocks ≡ self.clocks }
         ensures answers { result.answers ≡ self.answers }
         ensures lateness { result.lateness ≡ self.lateness }
@@ -659,7 +659,7 @@ impl ClockedWalk {
             is_quiet,
         } = marks;
         Marks {
-            start,
+            start: 0,
             clocks,
             answers,
             lateness,
@@ -711,6 +711,9 @@ pub fn marks_of(
         answers: Vec::new(alloc),
         lateness: Vec::new(alloc),
     };
-    let start = clocked.take_all(lines, rows)?;
-    Ok(clocked.finish(alloc, start))
+    // The walk is taken apart in any case, so that where memory was refused the marks alone are dropped.
+    let start = clocked.take_all(lines, rows);
+    let mut marks = clocked.finish(alloc);
+    marks.start = start?;
+    Ok(marks)
 }

@@ -73,9 +73,10 @@ impl Memory {
     ///
     /// `AllocError` where memory was refused.
     pub(crate) fn new(alloc: Global, sizes: Sizes) -> Result<Self, AllocError> {
+        let heap = HeapMap::new(alloc, sizes.heap, sizes.header)?;
         Ok(Memory {
             managed: Managed::new(alloc, sizes.managed, sizes.quota),
-            heap: HeapMap::new(alloc, sizes.heap, sizes.header)?,
+            heap,
             pools: Pools::new(alloc),
         })
     }

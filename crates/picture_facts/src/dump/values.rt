@@ -38,9 +38,7 @@ fn push_value(alloc: Global, out: &mut Vec<u8>, value: Value, signal: u8) -> Res
 {
     out.extend_from_slice(b"b")?;
     push_digits(alloc, out, value)?;
-    out.extend_from_slice(b" ")?;
-    out.extend_from_slice(&[33 + signal])?;
-    out.extend_from_slice(b"\n")
+    out.extend_from_slice(&[b' ', 33 + signal, b'\n'])
 }
 
 /// Appends the line of a time.

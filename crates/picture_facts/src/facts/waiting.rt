@@ -179,21 +179,30 @@ impl<'a> Queue<'a> {
         if turn.origin != Origin::Event || self.goes_on(turn) {
             return Ok(());
         }
-        let told = self
-            .posted
-            .iter()
-            .position(|posted| posted.is_told_by(turn));
-        let Some(place) = told else {
-            return Ok(());
-        };
-        self.broadcast = match self.posted.as_slice().get(place) {
-            Some(posted) if posted.to.is_none() => Some(Broadcast {
-                event: turn.stimulus,
-                told: bit_of(turn.pid),
-            }),
-            _ => None,
-        };
-        self.end_front(place.saturating_add(1), line)
+        match self.receive(turn) {
+            Some(place) => self.end_front(place.saturating_add(1), line),
+            None => Ok(()),
+        }
+    }
+
+    /// Where the event of a turn waits, if it does. If it was posted to all, it is being delivered from now on.
+    fn receive(&mut self, turn: &Turn<'a>) -> Option<usize>
+        ensures { self.new ≡ self.old }
+    {
+        for place in 0..self.posted.len() {
+            let posted = self.posted[place];
+            if posted.is_told_by(turn) {
+                self.broadcast = match posted.to {
+                    Some(_) => None,
+                    None => Some(Broadcast {
+                        event: turn.stimulus,
+                        told: bit_of(turn.pid),
+                    }),
+                };
+                return Some(place);
+            }
+        }
+        None
     }
 
     /// All events that waited; the last ones still do.

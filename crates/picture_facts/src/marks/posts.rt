@@ -7,7 +7,7 @@ use crate::facts::waiting::posted_by;
 use crate::numbers::bit_of;
 use std::alloc::{AllocError, Global};
 use std::marker::Model;
-use transcript_lines::Turn;
+use transcript_lines::{Turn, read_turn};
 
 /// The largest number of events on their way: as many as the queue holds, and one that is being broadcast.
 const MOST: usize = 33;
@@ -43,10 +43,11 @@ pub(crate) struct Posts {
 
 /// The code of the event that the call of a line posts, and what it carries.
 fn event_in<'a>(lines: &[&'a str], number: usize) -> Option<&'a str> {
-    let line = lines.get(number)?;
-    let (_, call) = line.split_once(" -> ")?;
-    let (_, event) = posted_by(call)?;
-    Some(event)
+    let turn = read_turn(lines.get(number)?)?;
+    match posted_by(turn.call) {
+        Some((_, event)) => Some(event),
+        None => None,
+    }
 }
 
 impl Posted {
@@ -119,43 +120,42 @@ impl Posts {
         turn: &Turn<'_>,
         row: usize,
     ) -> Result<(), AllocError> {
-        let told = self
-            .posted
-            .iter()
-            .position(|posted| posted.is_told_by(lines, turn));
-        let Some(place) = told else {
+        let Some(posted) = self.take(lines, turn) else {
             return Ok(());
         };
-        let Some(posted) = self.take(place, turn.pid) else {
-            return Ok(());
-        };
-        match posted.row {
-            Some(first) if first < row => {
-                let from = posted.from;
-                let to = turn.pid;
-                let last = row;
-                self.curves.push(Curve {
-                    from,
-                    first,
-                    to,
-                    last,
-                })?;
-            }
-            _ => {}
+        let first = posted.row.unwrap_or(row);
+        if first < row {
+            self.curves.push(Curve {
+                from: posted.from,
+                first,
+                to: turn.pid,
+                last: row,
+            })?;
         }
         Ok(())
     }
 
-    /// A process receives the event at that position: those before it go, and so does it where it was posted to only one.
-    fn take(&mut self, place: usize, pid: usize) -> Option<Posted> {
+    /// A turn receives its event: those before it go, and so does it where it was posted to only one.
+    fn take(&mut self, lines: &[&str], turn: &Turn<'_>) -> Option<Posted> {
+        let place = self.place_of(lines, turn)?;
         let posted = self.posted.as_mut_slice().get_mut(place)?;
-        posted.told |= bit_of(pid);
+        posted.told |= bit_of(turn.pid);
         let posted = *posted;
         match posted.to {
             Some(_) => self.forget_front(place.saturating_add(1)),
             None => self.forget_front(place),
         }
         Some(posted)
+    }
+
+    /// Where the event that a turn receives is among those on their way, if it is there.
+    fn place_of(&self, lines: &[&str], turn: &Turn<'_>) -> Option<usize> {
+        for place in 0..self.posted.len() {
+            if self.posted[place].is_told_by(lines, turn) {
+                return Some(place);
+            }
+        }
+        None
     }
 
     /// What was posted so far was posted in no row.

@@ -138,21 +138,19 @@ impl Record {
             return Ok(());
         }
         let before = self.live[place];
-        self.live[place] = Stay {
-            at: before.at.saturating_sub(bytes),
-            first: row,
-            ..before
-        };
+        let mut after = before;
+        after.at = before.at.saturating_sub(bytes);
+        after.first = row;
+        self.live[place] = after;
         self.keep(before, row)
     }
 
     /// A stay has ended in a row. One that was in no other row is not stored.
     fn keep(&mut self, stay: Stay, row: usize) -> Result<(), AllocError> {
         if stay.first < row {
-            self.ended.push(Stay {
-                last: Some(row),
-                ..stay
-            })?;
+            let mut ended = stay;
+            ended.last = Some(row);
+            self.ended.push(ended)?;
         }
         Ok(())
     }
@@ -178,8 +176,9 @@ impl Record {
         if place >= self.live.len() {
             return Ok(());
         }
-        let stay = self.live[place];
-        self.ended.push(Stay { last: None, ..stay })?;
+        let mut stay = self.live[place];
+        stay.last = None;
+        self.ended.push(stay)?;
         Ok(())
     }
 

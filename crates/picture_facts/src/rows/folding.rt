@@ -22,7 +22,12 @@ fn is_tick(line: &str) -> bool {
 fn ticks_in_front(lines: &[&str]) -> usize
     ensures { result ≤ length lines.now }
 {
-    lines.iter().take_while(|line| is_tick(line)).count()
+    for place in 0..lines.len() {
+        if !is_tick(lines[place]) {
+            return place;
+        }
+    }
+    lines.len()
 }
 
 /// Whether the turn ends the activation of the one before it.
@@ -46,6 +51,18 @@ fn waits_too(line: &str, told: &Turn<'_>) -> bool {
     }
 }
 
+/// The number of lines from the first on in which others only wait, too.
+fn waits_in_front(lines: &[&str], told: &Turn<'_>) -> usize
+    ensures { result ≤ length lines.now }
+{
+    for place in 0..lines.len() {
+        if !waits_too(lines[place], told) {
+            return place;
+        }
+    }
+    lines.len()
+}
+
 /// The number of lines from a turn's own on that share its row.
 fn turns_in_front(lines: &[&str], turn: &Turn<'_>) -> usize
     requires { 0 < length lines.now }
@@ -54,7 +71,7 @@ fn turns_in_front(lines: &[&str], turn: &Turn<'_>) -> usize
 {
     let rest = &lines[1..];
     if turn.call == "wait" && turn.origin != Origin::Answer {
-        return 1 + rest.iter().take_while(|line| waits_too(line, turn)).count();
+        return 1 + waits_in_front(rest, turn);
     }
     match rest.first() {
         Some(line) if only_ends(line, turn.pid) => 2,

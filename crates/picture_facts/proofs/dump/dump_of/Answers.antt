@@ -6,7 +6,7 @@ returns c =
     IfOk-weaker c.whole.result _ _
     (λ bytes same. record {
       declarations = c.as_str.result.now;
-      values = c.in_ok-dump.dump;
+      values = _;
       last = c.goes_on.ensures.0;
       are_changes = c.goes_on.ensures.1;
       whole = same;
