@@ -11,7 +11,8 @@ unfoldable pub use Rattle.kernel_core.specs.Code.Cost.{costs}
 pub use Rattle.kernel_core.specs.Code.Cost.{IsPaid, cost, present, round_cost, starts}
 pub use Rattle.kernel_core.specs.Code.Draws.{HasQueueableEvents, IsQueueable, IsQueueableJob, draws, draws_of_event, draws_of_job}
 pub use Rattle.kernel_core.specs.Code.Steps.{GoesSilently, MakesEntry, Silently}
-pub use Rattle.kernel_core.specs.Code.View.{ComesToJob, HoldsFrames, IsAtWork, IsInOrder, IsServed, entries_left_in, is_cancelled, machine_of, no_pending_entries, pending_items}
+pub use Rattle.kernel_core.specs.Code.View.{ComesToJob, HoldsFrames, IsAtWork, IsInOrder, IsServed, entries_left_in, is_cancelled, machine_of}
+pub use Rattle.kernel_core.specs.Code.Pending.{no_pending_entries, pending_items}
 pub use Rattle.kernel_core.specs.Expiries.{cancelled_if, expiries_cancelled}
 pub use Rattle.kernel_core.specs.Inputs.{effect, fed}
 pub use Rattle.kernel_core.specs.KernelProcesses.{serve}

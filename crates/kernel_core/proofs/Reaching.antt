@@ -1,12 +1,13 @@
 -- Jobs of the scheduler, as steps of the kernel's machine.
 use Rattle.std.proofs.Common.{◌≡◌, ◌≤◌, ℕ, false, ◌∷◌, ◌∙◌, refl, ap, arith, None, Some, Bool, true, ◌+◌, ◌-◌, ◌*◌, if◌then◌else◌}
 use Rattle.kernel_core.proofs.Common.{Entry, Item, Job, job_carrying, SchedulerView, ComesTo, Armings, KernelFields, Machine, shown_first, Answers, silent, job_done, work_limit, MakesEntry, GoesSilently, machine_of, no_pending_entries, pending_items, is_cancelled, ComesToJob}
-use Rattle.kernel_core.specs.declared.pending_entries.PendingEntries.{PendingEntries}
+use Rattle.kernel_core.specs.Code.Pending.{Pending}
 use Rattle.kernel_core.proofs.Silent.{goes_on, items_silently, job_reached, silent_step, silently_here}
 use Rattle.process_core.specs.Code.Yields.{Yields}
 use Rattle.kernel_core.specs.Code.OpenTurns.{HasWorked}
 use Rattle.kernel_core.specs.Code.Steps.{GoesOn, stepped}
-use Rattle.kernel_core.specs.Code.View.{entries_left_in, mote_of, pending_count}
+use Rattle.kernel_core.specs.Code.Pending.{pending_count}
+use Rattle.kernel_core.specs.Code.View.{entries_left_in, mote_of}
 use Rattle.kernel_core.specs.Code.Conditions.{TakesEntry}
 use Rattle.kernel_core.specs.Mote.{Mote}
 use Rattle.kernel_core.specs.declared.step.Step.{Step}
@@ -43,7 +44,7 @@ module _ {answers : Answers} where
       job_makes e = record { last = reached.last; before = reached.before; makes = reached.asked ∙ e }
 
   -- an entry that must be shown before anything else
-  pub entry_is_shown : {entry : Entry} (k : KernelFields) (left : PendingEntries) → k.halted ≡ false
+  pub entry_is_shown : {entry : Entry} (k : KernelFields) (left : Pending) → k.halted ≡ false
       → pending_items k.pending ≡ Item.Show entry ∷ pending_items left →
       MakesEntry answers (machine_of k) entry (machine_of (record k { pending = left }))
   entry_is_shown k left running e = record { last = machine_of k; before = silently_here (machine_of k); makes = rw (running, e) refl }

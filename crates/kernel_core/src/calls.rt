@@ -7,7 +7,8 @@ ghost use Rattle.process_core.specs.Requests as request;
 ghost use Rattle.process_core.specs.Code.SchedulerView.{awaiting_nothing};
 ghost use Rattle.kernel_core.specs.Calls.{after_call};
 ghost use Rattle.kernel_core.specs.Code.CallKinds.{kind_of};
-ghost use Rattle.kernel_core.specs.Code.View.{machine_of, no_pending_entries, IsAnswered, IsAtTurn, IsCarriedOut};
+ghost use Rattle.kernel_core.specs.Code.Pending.{no_pending_entries};
+ghost use Rattle.kernel_core.specs.Code.View.{machine_of, IsAnswered, IsAtTurn, IsCarriedOut};
 ghost use Rattle.kernel_core.specs.declared.call_kind.CallKind as kinds;
 
 use crate::call_kind::CallKind;

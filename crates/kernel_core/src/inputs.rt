@@ -4,14 +4,15 @@ ghost use Rattle.std.specs.Prelude.{◌≡◌, ◌<◌, ◌≤◌, ◌+◌, ◌^
 ghost use Rattle.mmem_core.specs.ManagedStore.{free};
 ghost use Rattle.kernel_core.specs.Inputs.{effect, fed, frame_arrived, frame_held, frame_refusal};
 ghost use Rattle.kernel_core.specs.Code.Conditions.{has_bytes, ticks_of};
-ghost use Rattle.kernel_core.specs.Code.View.{machine_of, no_pending_entries, HoldsFrames, IsInOrder, IsTakenIn};
+ghost use Rattle.kernel_core.specs.Code.Pending.{no_pending_entries};
+ghost use Rattle.kernel_core.specs.Code.View.{machine_of, HoldsFrames, IsInOrder, IsTakenIn};
 ghost use Rattle.kernel_core.specs.Run.{is_at_rest};
 ghost use Rattle.device_core.specs.PacketQueue.{free_slot};
 ghost use Rattle.node_memory.specs.Code.Placed.{last_owner};
 
 use crate::kernel_fields::KernelFields;
 use device_core::packet_queue::MOST_FRAMES;
-use mote_types::entry::{Input, Note};
+use mote_types::entry::Input;
 use mote_types::event::{ETIMER, PACKET_PROCESS, SERIAL_PROCESS};
 use mote_types::refusal::Refusal;
 use mote_types::rounding::rounded;
@@ -65,7 +66,7 @@ impl KernelFields {
         ensures shown { self.new.pending.input ≡ None }
     {
         if let Err(refusal) = self.hold_frame(bytes) {
-            self.pending.note = Some(Note::Lost(refusal));
+            self.pending.put_lost(refusal);
         }
     }
 
@@ -108,6 +109,6 @@ impl KernelFields {
         self.work = 0;
         self.take_in(&input);
         self.inputs += 1;
-        self.pending.input = Some(input);
+        self.pending.put_input(input);
     }
 }

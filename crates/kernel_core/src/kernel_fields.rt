@@ -3,7 +3,8 @@
 ghost use Rattle.std.specs.Prelude.{◌≡◌, ◌<◌, ◌≤◌, ◌+◌, ℕ, true, false, Some};
 ghost use Rattle.mote_types.specs.declared.call.Call.{Call as ToldCall};
 ghost use Rattle.mote_types.specs.declared.event.Pid.{Pid as Process};
-ghost use Rattle.kernel_core.specs.Code.View.{ComesToJob, HasTakenJob, machine_of, no_pending_entries, entries_left_in, IsAtWork, IsInOrder};
+ghost use Rattle.kernel_core.specs.Code.Pending.{no_pending_entries};
+ghost use Rattle.kernel_core.specs.Code.View.{ComesToJob, HasTakenJob, machine_of, entries_left_in, IsAtWork, IsInOrder};
 ghost use Rattle.process_core.specs.declared.next_job.NextJob as ready;
 ghost use Rattle.process_core.specs.Code.SchedulerView.{job_of};
 ghost use Rattle.kernel_core.specs.Code.Draws.{IsFitJob};

@@ -1,7 +1,6 @@
 //! What the kernel does at an application's calls on packets. A call that is refused changes nothing.
 
-ghost use Rattle.std.specs.Prelude.{◌≡◌, ◌<◌, ◌≤◌, None, Some, IfErr, IfOk, length};
-ghost use Rattle.mote_types.specs.declared.entry.Note.{Note as Noted};
+ghost use Rattle.std.specs.Prelude.{◌≡◌, ◌<◌, None, Some, IfErr, IfOk};
 ghost use Rattle.device_core.specs.PacketQueue.{front_slot, is_receiver};
 ghost use Rattle.kernel_core.specs.PacketCalls.{front_refusal};
 ghost use Rattle.mote_types.specs.declared.call.Call.{Call};
@@ -10,23 +9,10 @@ ghost use Rattle.kernel_core.specs.Code.View.{machine_of, IsAtTurn, IsCarriedOut
 
 use crate::calls::answer_bytes;
 use crate::kernel_fields::KernelFields;
-use arrayvec::ArrayVec;
-use mote_types::entry::Note;
 use mote_types::event::{PACKET_PROCESS, Pid};
 use mote_types::refusal::Refusal;
 use mote_types::reply::Reply;
 use node_memory::LONGEST_READ;
-
-/// Puts the note of a sent frame into a place, where its bytes are put at once.
-fn put_sent(note: &mut Option<Note>, bytes: &[u8])
-    requires { length bytes.now ≤ 127 }
-    ensures { note.new ≡ Some (Noted.Sent (record { items = bytes.now })) }
-{
-    *note = Some(Note::Sent(ArrayVec::new()));
-    if let Some(Note::Sent(sent)) = note {
-        let _ = sent.try_extend_from_slice(bytes);
-    }
-}
 
 impl KernelFields {
     /// Whether an application is the one that frames are for.
@@ -128,7 +114,7 @@ impl KernelFields {
         match self.memory.send_bytes(pid, handle) {
             Ok(bytes) => {
                 self.scheduler.answered(pid, Reply::Done);
-                put_sent(&mut self.pending.note, bytes);
+                self.pending.put_sent(bytes);
             }
             Err(refusal) => self.refuse(pid, refusal),
         }

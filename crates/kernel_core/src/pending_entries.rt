@@ -1,15 +1,19 @@
 //! The entries that are made before any other work.
 
-ghost use Rattle.std.specs.Prelude.{◌≡◌, ◌∷◌, ℕ, [], false};
+ghost use Rattle.std.specs.Prelude.{◌≡◌, ◌≤◌, ◌∷◌, ℕ, [], false, length, None, Some};
 ghost use Rattle.mote_types.specs.Entries.{is_halt};
 ghost use Rattle.mote_types.specs.declared.entry.Entry.{Entry as Made};
 ghost use Rattle.mote_types.specs.declared.entry.Input.{Input as Handed};
+ghost use Rattle.mote_types.specs.declared.entry.Note.{Note as Noted};
 ghost use Rattle.process_core.specs.Agenda.{Item};
 ghost use Rattle.process_core.specs.Idle.{is_empty};
-ghost use Rattle.kernel_core.specs.Code.View.{no_pending_entries, pending_items};
+ghost use Rattle.kernel_core.specs.Code.Pending.{no_pending_entries, pending_items};
 ghost use Rattle.kernel_core.specs.Run.{heard};
 
+use arrayvec::ArrayVec;
 use mote_types::entry::{Entry, Input, Note};
+use mote_types::refusal::Refusal;
+use std::marker::Model;
 
 /// Writes the entry of a tick into a buffer.
 fn put_tick(made: &mut Entry, ticks: u32)
@@ -22,11 +26,47 @@ fn put_tick(made: &mut Entry, ticks: u32)
     }
 }
 
+/// Takes the input, or where there is none the note, and writes its entry into `made`.
+fn take_entry(input: &mut Option<Input>, note: &mut Option<Note>, made: &mut Entry)
+    requires some { is_empty (pending_items (record { input = input.old; note = note.old })) ≡ false }
+    ensures first { pending_items (record { input = input.old; note = note.old })
+        ≡ Item.Show made.new ∷ pending_items (record { input = input.new; note = note.new }) }
+    ensures input { input.new ≡ None }
+    ensures kind { is_halt made.new ≡ false }
+    ensures untold { (p : ℕ) → heard p (made.new ∷ []) ≡ [] }
+{
+    // A take copies the whole slot, also where nothing is there. Of a tick, as most inputs are, only the number is moved.
+    if let Some(Input::Tick(ticks)) = input {
+        put_tick(made, *ticks);
+        *input = None;
+    } else if input.is_some() {
+        if let Some(taken) = input.take() {
+            *made = Entry::Input(taken);
+        }
+    } else if let Some(taken) = note.take() {
+        *made = Entry::Note(taken);
+    }
+}
+
 /// A submitted input, and then a note: that its frame is lost, or that a frame was sent.
 #[derive(Drop)]
 pub struct PendingEntries {
-    pub input: Option<Input>,
-    pub note: Option<Note>,
+    input: Option<Input>,
+    note: Option<Note>,
+    /// Whether there is any: each step of the machine asks that.
+    is_any: bool,
+}
+
+impl Model for PendingEntries {
+    ghost use Rattle.std.specs.Prelude.{◌≡◌, not};
+    ghost use Rattle.process_core.specs.Idle.{is_empty};
+    ghost use Rattle.kernel_core.specs.Code.Pending.{Pending, pending_items};
+
+    ghost Value = { Pending };
+
+    ghost view = { λ p. record { input = p.input; note = p.note } };
+
+    ghost invariant = { λ p. p.is_any ≡ not (is_empty (pending_items (record { input = p.input; note = p.note }))) };
 }
 
 impl PendingEntries {
@@ -37,6 +77,7 @@ impl PendingEntries {
         PendingEntries {
             input: None,
             note: None,
+            is_any: false,
         }
     }
 
@@ -44,7 +85,35 @@ impl PendingEntries {
     pub fn is_empty(&self) -> bool
         ensures { result ≡ is_empty (pending_items self.now) }
     {
-        self.input.is_none() && self.note.is_none()
+        !self.is_any
+    }
+
+    /// Adds the entry of an input, which is the first one.
+    pub fn put_input(&mut self, input: Input)
+        ensures { self.new ≡ record self.old { input = Some input } }
+    {
+        self.input = Some(input);
+        self.is_any = true;
+    }
+
+    /// Adds the note that a frame is lost, in place of any other.
+    pub fn put_lost(&mut self, refusal: Refusal)
+        ensures { self.new ≡ record self.old { note = Some (Noted.Lost refusal) } }
+    {
+        self.note = Some(Note::Lost(refusal));
+        self.is_any = true;
+    }
+
+    /// Adds the note of a sent frame, in place of any other, where its bytes are put at once.
+    pub fn put_sent(&mut self, bytes: &[u8])
+        requires { length bytes.now ≤ 127 }
+        ensures { self.new ≡ record self.old { note = Some (Noted.Sent (record { items = bytes.now })) } }
+    {
+        self.is_any = true;
+        self.note = Some(Note::Sent(ArrayVec::new()));
+        if let Some(Note::Sent(sent)) = &mut self.note {
+            let _ = sent.try_extend_from_slice(bytes);
+        }
     }
 
     /// Takes the first of them, and writes its entry into `made`.
@@ -54,16 +123,7 @@ impl PendingEntries {
         ensures kind { is_halt made.new ≡ false }
         ensures untold { (p : ℕ) → heard p (made.new ∷ []) ≡ [] }
     {
-        // A take copies the whole slot, also where nothing is there. Of a tick, as most inputs are, only the number is moved.
-        if let Some(Input::Tick(ticks)) = &self.input {
-            put_tick(made, *ticks);
-            self.input = None;
-        } else if self.input.is_some() {
-            if let Some(input) = self.input.take() {
-                *made = Entry::Input(input);
-            }
-        } else if let Some(note) = self.note.take() {
-            *made = Entry::Note(note);
-        }
+        take_entry(&mut self.input, &mut self.note, made);
+        self.is_any = self.note.is_some();
     }
 }

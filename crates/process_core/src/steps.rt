@@ -27,8 +27,10 @@ impl SchedulerFields {
         requires order { IsInOrder self.old }
         ensures { FindsJob (scheduler_of self.old) result told.new self.new }
     {
+        if matches!(self.front, Front::Nothing) {
+            return None;
+        }
         match self.front {
-            Front::Nothing => None,
             Front::Answer(pid) => {
                 tell_reply(told, &self.reply);
                 self.front = Front::Call(pid);

@@ -1,16 +1,13 @@
 -- What the fields of a kernel stand for.
-use Rattle.std.specs.Prelude.{◌≡◌, ℕ, ◌+◌, ◌*◌, ◌-◌, ◌≤◌, ◌<◌, ◌^◌, ◌==◌, eqb, Bool, not, true, false, List, [], ◌∷◌, ◌++◌, is_some, length, IfSome, Option, None, Some, if◌then◌else◌}
+use Rattle.std.specs.Prelude.{◌≡◌, ℕ, ◌+◌, ◌*◌, ◌-◌, ◌≤◌, ◌<◌, ◌^◌, ◌==◌, eqb, Bool, not, true, false, List, is_some, length, IfSome, None, Some, if◌then◌else◌}
 use Rattle.std.specs.List.{list_any, IsDistinct}
-use Rattle.mote_types.specs.declared.entry.Entry.{Entry}
-use Rattle.mote_types.specs.declared.entry.Input.{Input}
-use Rattle.mote_types.specs.declared.entry.Note.{Note}
 use Rattle.mote_types.specs.declared.event.Pid.{Pid}
 use Rattle.mote_types.specs.declared.reply.Reply.{Reply}
 use Rattle.device_core.specs.declared.frame.Frame.{Frame}
 use Rattle.node_memory.specs.Code.Conditions.{frame_in}
 use Rattle.node_memory.specs.Memory.{Memory}
 use Rattle.node_memory.specs.Code.Placed.{last_owner}
-use Rattle.process_core.specs.Agenda.{Item, Job}
+use Rattle.process_core.specs.Agenda.{Job}
 use Rattle.process_core.specs.Code.Invariant.{IsWellFormed}
 use Rattle.process_core.specs.Code.SchedulerView.{turn_of, callback_of}
 use Rattle.process_core.specs.Code.Conditions.{IsApplication}
@@ -19,7 +16,7 @@ use Rattle.kernel_core.specs.Code.Carrying.{job_carrying, carrying}
 use Rattle.process_core.specs.Processes.{numbers}
 use Rattle.process_core.specs.Scheduler.{in_front}
 use Rattle.kernel_core.specs.declared.kernel_fields.KernelFields.{KernelFields}
-use Rattle.kernel_core.specs.declared.pending_entries.PendingEntries.{PendingEntries}
+use Rattle.kernel_core.specs.Code.Pending.{no_pending_entries, pending_items, pending_count}
 use Rattle.kernel_core.specs.Machine.{Machine, answer}
 use Rattle.kernel_core.specs.Run.{Answers, is_at_rest, one_step, job_done, work_limit}
 use Rattle.kernel_core.specs.Code.Steps.{GoesSilently}
@@ -31,26 +28,6 @@ use Rattle.timer_core.specs.Code.Armings.{Armings, is_present_arming}
 -- an expiry was cancelled where its arming number isn't the present one
 abbrev pub is_cancelled : Armings → ℕ → ℕ → ℕ → Bool
 is_cancelled armings p c arming = not (is_present_arming p c arming armings)
-
--- the entries that are still to be shown
-
-abbrev pub no_pending_entries : PendingEntries
-no_pending_entries = record { input = None; note = None }
-
-abbrev pub input_items : Option Input → List Item
-input_items None = []
-input_items (Some input) = Item.Show (Entry.Input input) ∷ []
-
-abbrev pub note_items : Option Note → List Item
-note_items None = []
-note_items (Some note) = Item.Show (Entry.Note note) ∷ []
-
--- the input is first
-abbrev pub pending_items : PendingEntries → List Item
-pending_items u = input_items u.input ++ note_items u.note
-
-abbrev pub pending_count : PendingEntries → ℕ
-pending_count u = length (pending_items u)
 
 abbrev pub machine_of : KernelFields → Machine
 machine_of k =
