@@ -11,7 +11,7 @@ use Rattle.mote_text.proofs.EachByte.{holds_at, holds_below}
 abbrev is_right : List ℕ → ℕ → Bool
 is_right table n =
     bytes_eq (take (length (decimal n) + 1) (drop (8 * n) table)) (decimal n ++ codes " ")
-    && slice_index table (8 * n + 4) == length (decimal n) + 49
+    && slice_index table (8 * n + 4) == length (decimal n) + 1
 
 pub all_in : (table : List ℕ) → holds_below (is_right table) 256 ≡ true → HasSmallNumbers table
 all_in table right n below =

@@ -1,7 +1,7 @@
 //! The words of an entry: each function puts its words at a position, with a blank after each.
 #![tactic(auto, unfolding(crate::specs::Code::EntryLines::blanked))]
 
-ghost use Rattle.std.specs.Prelude.{◌≡◌, ◌≤◌, ◌+◌, ◌++◌, [], ◌∷◌, length, take, codes, decimal};
+ghost use Rattle.std.specs.Prelude.{◌≡◌, ◌≤◌, ◌+◌, ◌++◌, [], ◌∷◌, length, take, codes, decimal, slice_index};
 ghost use Rattle.hex.specs.Hex.{encode_lower};
 ghost use Rattle.mote_types.specs.declared.entry.Entry.{Entry as Made};
 ghost use Rattle.mote_types.specs.declared.reply.Reply.{Reply as Answered};
@@ -37,18 +37,18 @@ fn put_line_bytes(page: &mut Page, at: usize, bytes: &[u8]) -> usize
     page.put(end, b" ")
 }
 
-/// The word of an origin with a blank, and their length. Blanks fill its block.
+/// The word of an origin and blanks. The last byte is the length of the word with one blank.
 #[inline(always)]
-fn word_of_origin(origin: Origin) -> (&'static [u8; 16], usize)
-    ensures word { blanked (origin_word origin ∷ []) ≡ take result.1 result.0.now }
-    ensures short { result.1 ≤ 9 }
+fn word_of_origin(origin: Origin) -> &'static [u8; 16]
+    ensures word { blanked (origin_word origin ∷ []) ≡ take (slice_index result.now 15) result.now }
+    ensures short { slice_index result.now 15 ≤ 9 }
 {
     match origin {
-        Origin::Event => (b"event           ", 6),
-        Origin::Synch => (b"synch           ", 6),
-        Origin::Poll => (b"poll            ", 5),
-        Origin::Callback => (b"callback        ", 9),
-        Origin::Answer => (b"answer          ", 7),
+        Origin::Event => b"event          \x06",
+        Origin::Synch => b"synch          \x06",
+        Origin::Poll => b"poll           \x05",
+        Origin::Callback => b"callback       \x09",
+        Origin::Answer => b"answer         \x07",
     }
 }
 
@@ -57,8 +57,8 @@ pub(crate) fn put_origin(page: &mut Page, at: usize, origin: Origin) -> usize
     requires { at + 16 ≤ 4096 }
     ensures { Puts page.old.bytes page.new.bytes at result 9 (blanked (origin_word origin ∷ [])) }
 {
-    let (block, len) = word_of_origin(origin);
-    page.put_front(at, block, len)
+    let block = word_of_origin(origin);
+    page.put_front(at, block, block[15] as usize)
 }
 
 #[inline(never)]

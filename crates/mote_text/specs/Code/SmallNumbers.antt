@@ -1,9 +1,9 @@
 -- The table of the numbers that most words of a transcript are.
 use Rattle.std.specs.Prelude.{◌≡◌, ◌+◌, ◌*◌, ◌<◌, ◌++◌, ℕ, List, codes, decimal, drop, length, slice_index, take}
 
--- at eight times each number below 256 stand its digits and a blank; four bytes on a digit says how many bytes these are
+-- at eight times each number below 256 stand its digits and a blank; the byte four places on is the number of these bytes
 abbrev pub HasSmallNumbers : List ℕ → Type 0
 HasSmallNumbers table =
     (n : ℕ) → n < 256 →
     (take (length (decimal n) + 1) (drop (8 * n) table) ≡ decimal n ++ codes " ")
-    × (slice_index table (8 * n + 4) ≡ length (decimal n) + 49)
+    × (slice_index table (8 * n + 4) ≡ length (decimal n) + 1)
