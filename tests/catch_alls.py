@@ -10,6 +10,8 @@ ANY = re.compile(r"_|[a-z]\w*")
 ONLY = re.compile(r"\bmatches!\([^;]*?, *Call::|\blet (?:\w+\()?Call::")
 # What does one call at once and passes each other one on whole, to where it is asked again.
 PASSED_ON = re.compile(r"\bif let Call::\w+ = (\w+) \{[^{}]*\}\s*\w+\((?:[^()]*, )?\1\)\s*\}")
+# What puts one call where another one is.
+PUT_ANEW = re.compile(r"\bif !matches!\((\w+), (Call::\w+)\) \{\s*\*\1 = \2;\s*\}")
 COMMENT_OR_LITERAL = re.compile(r"//.*|\"(?:\\.|[^\"\\])*\"|'(?:\\.|[^'\\])'")
 
 
@@ -54,7 +56,7 @@ def arms_of(body: str) -> Iterator[tuple[str, str]]:
 
 def in_code(text: str) -> Iterator[str]:
     """What takes some call by itself, and all others alike. That an arm is unreachable is proved, so no call is forgotten there."""
-    text = PASSED_ON.sub("", COMMENT_OR_LITERAL.sub("", text))
+    text = PUT_ANEW.sub("", PASSED_ON.sub("", COMMENT_OR_LITERAL.sub("", text)))
     for match in re.finditer(r"\bmatch [^;{]*\{", text):
         arms = list(arms_of(text[match.end():behind_brace(text, match.end()) - 1]))
         if any(pattern.startswith("Call::") for pattern, _ in arms):

@@ -23,7 +23,15 @@ impl Runner<Bundled> for Boxing {
             Ok(Prepared { kernel, named }) => {
                 let mut boxes: Vec<Box<dyn App>> = Vec::new(alloc);
                 for application in named.applications {
-                    boxes.push(Box::new(alloc, application)?)?;
+                    // Those with many turns each have a box of their own type: the mote calls it without asking which one it is.
+                    let boxed: Box<dyn App> = match application {
+                        Bundled::Blink(blink) => Box::new(alloc, blink)?,
+                        Bundled::Echo(echo) => Box::new(alloc, echo)?,
+                        Bundled::Relay(relay) => Box::new(alloc, relay)?,
+                        Bundled::Ping(ping) => Box::new(alloc, ping)?,
+                        other => Box::new(alloc, other)?,
+                    };
+                    boxes.push(boxed)?;
                 }
                 run_booted(kernel, boxes.as_mut_slice(), source, sink, named.quiet)
             }

@@ -138,7 +138,12 @@ impl App for Ping {
                     *call = Call::TimerReset(0);
                 }
             },
-            _ => *call = Call::Wait,
+            // Of sixteen of these applications each hears the counts of all: a buffer that still has a wait isn't written again.
+            _ => {
+                if !matches!(call, Call::Wait) {
+                    *call = Call::Wait;
+                }
+            }
         }
     }
 }
