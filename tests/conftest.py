@@ -100,6 +100,7 @@ def sanitizing_compiler(request: pytest.FixtureRequest) -> str:
 
 @pytest.fixture
 def tree(tmp_path: Path) -> Tree:
+    """A small repository of four crates, whose `rt` and tests are stand-ins."""
     return Tree(tmp_path)
 
 

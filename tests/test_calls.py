@@ -43,6 +43,7 @@ def c_enum(header: str, name: str) -> list[tuple[str, int]]:
 
 
 def test_made_tables() -> None:
+    """The enums of toarmuts.h and the tables of the Python package and of crates/toarmuts are as scripts/make-calls writes them."""
     ran = run(ROOT / "scripts/make-calls", "--check")
     assert ran.returncode == 0, ran.stderr.decode()
 
@@ -183,7 +184,7 @@ def test_profile() -> None:
 # ---- Refusals, events, replies, origins ----
 
 def test_refusals() -> None:
-    """Their numbers and names, in code, definition and page."""
+    """Their numbers and names, in code, definition and page; for toarmuts.h: test_made_tables."""
     code = source("crates/mote_types/src/refusal.rt")
     assert {spoken(name): int(number) for name, number in re.findall(r"Refusal::(\w+) => (\d+),", code)} == REFUSALS
     codes = source("crates/mote_types/specs/Codes.antt")

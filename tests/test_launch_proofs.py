@@ -71,7 +71,7 @@ def test_built_after_it(tree: Tree) -> None:
 
 
 @pytest.mark.parametrize(("wish", "told"), [("3", "jobs 3"), ("0", r"jobs [1-9]\d*"), ("", r"jobs [1-9]\d*")])
-def test_jobs(tree: Tree, wish: str, told: str) -> None:
+def test_jobs_of_rt_ci(tree: Tree, wish: str, told: str) -> None:
     """`rt ci` gets a number of jobs: that of RT_JOBS, or one that suits the machine."""
     lines = prove_all(tree, RT_JOBS=wish)
     assert re.fullmatch(told, lines[0]), lines

@@ -1,5 +1,7 @@
 """./prove and scripts/for-aarch64 on a small tree of crates, with stand-ins: what they prove in which order, report, store and leave."""
 
+from __future__ import annotations
+
 import fcntl
 import os
 import shutil
@@ -10,12 +12,12 @@ import time
 
 import pytest
 
-from schedule import Schedule, read_seconds
+from schedule import Schedule, most_jobs, read_seconds
 from small_tree import WITHOUT_RT, Tree, wait_until
 from tools import needs, run, told, write_program
 
 ALL = ["low", "high", "beside", "mote"]
-TOP = "c 10  # beside others\nd 10\nb 100\n"
+OF_OTHERS = "c 10  # beside others\nd 10\nb 100\n"
 
 
 def test_prove(tree: Tree) -> None:
@@ -31,23 +33,33 @@ def test_prove(tree: Tree) -> None:
     assert tree.begun() == ALL * 2 and not stamp.exists()
 
 
+# What is begun at once, each as name:jobs:places:niceness. Its places are what it counts against the most jobs: half of them for one on
+# the longest way. Crates are each name:the crates below it; their seconds are in the form of scripts/prove-times.
 @pytest.mark.parametrize(("begun", "most", "crates", "seconds"), [
-    ("b:4:2:0 a:1:1:2", 4, "a b c:a d:b,c", f"{TOP}a 10"),
-    ("b:4:2:0 a:2:2:1", 4, "a b c:a d:b,c", f"{TOP}a 50"),
-    ("a:4:2:0 b:4:2:0", 4, "a b c:a d:b,c", f"{TOP}a 90"),
-    ("b:1:1:0", 1, "a b c:a d:b,c", f"{TOP}a 10"),
-    ("b:4:2:0 a:1:1:10", 4, "a b c:a d:b,c", "c 10\nd 10\nb 1000\na 10"),
-    ("a:4:2:0 b:2:2:1", 4, "a b short:a long:a d:short,long,b", "a 10\nb 60\nshort 10\nlong 100\nd 10"),
-    ("a:4:2:0 b:4:2:0 c:4:2:0", 4, "a b c d e:a,b,c,d", "a 100\nb 100\nc 100\nd 100\ne 10"),
-    ("b:4:2:0 a:2:2:0", 4, "a b c:a,b", "a 50\nc 10"),
-], ids=["far off the longest way", "near the longest way", "two longest ways", "one job at most", "no nicer than ten",
-        "the longer of two ways", "half as many again", "a minute where no time is known"])
-def test_schedule(begun: str, most: int, crates: str, seconds: str) -> None:
-    """What is begun at once, by how many jobs, as how many places, and how nice: with so many jobs at most, of crates that each have those
-    that it stands on behind a colon, which take as long as this text of scripts/prove-times says."""
+    pytest.param("b:4:2:0 a:1:1:2", 4, "a b c:a d:b,c", f"{OF_OTHERS}a 10", id="far-off-the-longest-way"),
+    pytest.param("b:4:2:0 a:2:2:1", 4, "a b c:a d:b,c", f"{OF_OTHERS}a 50", id="near-the-longest-way"),
+    pytest.param("a:4:2:0 b:4:2:0", 4, "a b c:a d:b,c", f"{OF_OTHERS}a 90", id="two-longest-ways"),
+    pytest.param("b:1:1:0", 1, "a b c:a d:b,c", f"{OF_OTHERS}a 10", id="one-job-at-most"),
+    pytest.param("b:3:2:0 a:2:2:1", 3, "a b c:a d:b,c", f"{OF_OTHERS}a 50", id="three-jobs-at-most"),
+    pytest.param("b:4:2:0 a:1:1:10", 4, "a b c:a d:b,c", "c 10\nd 10\nb 1000\na 10", id="no-nicer-than-ten"),
+    pytest.param("a:4:2:0 b:2:2:1", 4, "a b short:a long:a d:short,long,b", "a 10\nb 60\nshort 10\nlong 100\nd 10",
+                 id="the-longer-of-two-ways"),
+    pytest.param("a:4:2:0 b:4:2:0 c:4:2:0", 4, "a b c d e:a,b,c,d", "a 100\nb 100\nc 100\nd 100\ne 10", id="half-as-many-again"),
+    pytest.param("b:4:2:0 a:2:2:0", 4, "a b c:a,b", "a 50\nc 10", id="a-minute-where-no-time-is-known"),
+])
+def test_order_and_jobs(begun: str, most: int, crates: str, seconds: str) -> None:
+    """Which crates begin at once, and what each gets."""
     words = (word.partition(":") for word in crates.split())
     schedule = Schedule({name: lower.split(",") if lower else [] for name, _, lower in words}, read_seconds(seconds), most)
     assert " ".join(f"{it.name}:{it.jobs}:{it.places}:{it.niceness}" for it in schedule.begin()) == begun
+
+
+@pytest.mark.parametrize(("wish", "memory", "jobs"), [("3", 1, 3), ("0", 1, None), ("", 1, None), ("", 1 << 50, 1)],
+                         ids=["RT_JOBS", "no-number", "a-job-each-processor", "little-memory"])
+def test_most_jobs(monkeypatch: pytest.MonkeyPatch, wish: str, memory: int, jobs: int | None) -> None:
+    """RT_JOBS, or a job for each processor that has so much memory; at least one."""
+    monkeypatch.setenv("RT_JOBS", wish)
+    assert most_jobs(memory) == (jobs if jobs is not None else len(os.sched_getaffinity(0)))
 
 
 def test_what_is_under_way_is_told(tree: Tree) -> None:

@@ -13,6 +13,7 @@ import public_calls
 from definitions import Place, definitions, lines_by_file, promised, spoken_of
 from tools import CRATES, ROOT
 
+# CHANGELOG.md has names of before, and python/README.md programs of its own.
 READMES = [ROOT / name for name in ("README.md", "CONTRIBUTING.md", "bench/README.md", "tests/README.md")]
 PAGES = [*READMES, ROOT / "interface/public-calls.md", *sorted((ROOT / "docs").glob("*.md"))]
 ORDER = (ROOT / "docs/reading-order.md").read_text(encoding="utf-8")
@@ -104,6 +105,9 @@ def test_specs_are_the_reading_list(crate: str) -> None:
 
 NAME = re.compile(r"(?:\w+(?:::|\.))*[A-Za-z][a-z0-9]*(?:_[a-z0-9]+)+|(?:[A-Z][a-z]+){2,}|[A-Z]\w+::\w+")
 FILE = re.compile(r"(?:[\w-]+/)*[\w-]+\.(?:antt|rt|md|edit|script|scenario|transcript|svg)")
+# A path from the top, of any kind. What stands in a folder out is made.
+PATH = re.compile(rf"(?:{'|'.join(path.name for path in ROOT.iterdir() if path.is_dir())})(?!.*/out\b)(?:/[\w.-]+)+/?")
+LINK = re.compile(r"\]\((?!\w+:)([^)#\s]+)")
 # Names of Contiki-NG's that no header here has.
 OF_CONTIKI = {"etimer_process", "ctimer_process", "serial_line_process"}
 COMMENT = re.compile(r"^\s*(?://[/!]?|--)(.*)$")
@@ -177,20 +181,21 @@ def sections(page: Path) -> Iterator[tuple[str, list[str]]]:
 
 
 @of_each_page
-def test_names(page: Path) -> None:
-    """Each name of code with an underscore, capitals within or a type in front, and each file, that a page tells of is there: below a
-    heading that names crates, and in a row of a table or list that begins with crates, in one of these."""
+def test_names_and_files(page: Path) -> None:
+    """Each name of code with an underscore, capitals within or a type in front that a page has in backticks is there, and each file in
+    backticks or a link: below a heading that names crates, and in a row of a table or list that begins with crates, in one of these."""
     missing: set[str] = set()
     for section, of_heading in sections(page):
         for line in section.split("\n"):
             row = re.match(r"[|-] (.*?)(?: \||:)", line)
             crates = (crates_listed(row[1]) if row else []) or of_heading or CRATE_NAMES
+            missing |= {text for text in LINK.findall(line) if not (page.parent / text).exists()}
             for text in QUOTED.findall(line):
-                if FILE.fullmatch(text):
-                    missing |= set() if is_there(text, crates) else {text}
+                if FILE.fullmatch(text) or PATH.fullmatch(text):
+                    missing |= set() if is_there(text, crates) or (page.parent / text).exists() else {text}
                 elif NAME.fullmatch(text):
                     missing |= missing_words(text, crates)
-    assert not missing, f"{page.relative_to(ROOT)}: names that are not there: {', '.join(sorted(missing))}"
+    assert not missing, f"{page.relative_to(ROOT)}: names or files that are not there: {', '.join(sorted(missing))}"
 
 
 @functools.lru_cache(maxsize=None)

@@ -25,6 +25,9 @@ fn passes(call: &Call) -> bool {
     if let Call::Wait = call { return true; }
     is_other(1, call)
 }
+fn waits(call: &mut Call) {
+    if !matches!(call, Call::Wait) { *call = Call::Wait; }
+}
 """
 ORDER = (ROOT / "docs/reading-order.md").read_text(encoding="utf-8")
 ROWS = [(row[1], row[2]) for row in ROW.finditer(ORDER)]
@@ -52,7 +55,7 @@ def append(text: str) -> Callable[[str], str]:
 
 
 SPOILT: dict[str, Callable[[str], str]] = {
-    "docs/pools.md": append(f"\n`{NO_NAME}` and `none.script`\n"),
+    "docs/pools.md": append(f"\n`{NO_NAME}`, `none.script`, `tests/none.py` and [none](none.md)\n"),
     "README.md": append("\n`examples/hello.script`:\n\n```text\nno such listing\n```\n"),
     "docs/devices.md": append("\n\n    nonsense words\n"),
     "docs/tested.md": lambda text: text.replace("`hex`, ", ""),
@@ -64,7 +67,7 @@ SPOILT: dict[str, Callable[[str], str]] = {
 }
 FAULTS = [
     "interface/public-calls.md: mote_types has no ByteSink: fn write(&self, bytes: &[u8])",
-    f"docs/pools.md: names that are not there: {NO_NAME}, none.script",
+    f"docs/pools.md: names or files that are not there: {NO_NAME}, none.md, none.script, tests/none.py",
     "Extra items in the right set:\nE         'hex'",
     "docs/map.md: its figure isn't what `python3 tests/layers.py` prints",
     "another licence than LICENSE: python/LICENSE",
