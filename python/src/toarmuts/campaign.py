@@ -395,9 +395,9 @@ def _by_dask(work: _Work, seeds: range, address: str, jobs: int) -> Units:
 
 
 def _local_cluster(distributed: Any, jobs: int) -> Any:
-    """Workers of Dask on this machine. They report only errors: an interrupt ends them in the midst of their work."""
+    """Workers of Dask on this machine. They log nothing: what fails is raised here, and an interrupt ends them amid their work."""
     with _ignoring_interrupts():
-        return distributed.LocalCluster(n_workers=jobs, threads_per_worker=1, dashboard_address=None, silence_logs=logging.ERROR)
+        return distributed.LocalCluster(n_workers=jobs, threads_per_worker=1, dashboard_address=None, silence_logs=logging.CRITICAL)
 
 
 def _result_of(future: Any, address: str) -> Unit:
