@@ -105,8 +105,9 @@ def test_specs_are_the_reading_list(crate: str) -> None:
 
 NAME = re.compile(r"(?:\w+(?:::|\.))*[A-Za-z][a-z0-9]*(?:_[a-z0-9]+)+|(?:[A-Z][a-z]+){2,}|[A-Z]\w+::\w+")
 FILE = re.compile(r"(?:[\w-]+/)*[\w-]+\.(?:antt|rt|md|edit|script|scenario|transcript|svg)")
-# A path from the top, of any kind. What stands in a folder out is made.
-PATH = re.compile(rf"(?:{'|'.join(path.name for path in ROOT.iterdir() if path.is_dir())})(?!.*/out\b)(?:/[\w.-]+)+/?")
+# A path from the top, of any kind. What stands in a folder out, or in that of a release, is made.
+FOLDERS = "|".join(re.escape(path.name) for path in ROOT.iterdir() if path.is_dir() and path.name != "release")
+PATH = re.compile(rf"(?:{FOLDERS})(?!.*/out\b)(?:/[\w.-]+)+/?")
 LINK = re.compile(r"\]\((?!\w+:)([^)#\s]+)")
 # Names of Contiki-NG's that no header here has.
 OF_CONTIKI = {"etimer_process", "ctimer_process", "serial_line_process"}
