@@ -175,28 +175,40 @@ def is_there(path: str, crates: list[str]) -> bool:
     return any((ROOT / folder / path).exists() for folder in folders) or ("/" not in path and path in file_names())
 
 
-def sections(page: Path) -> Iterator[tuple[str, list[str]]]:
-    """Each part of a page, without its listings, and the crates of its heading."""
-    for section in re.split(r"\n(?=#+ )", re.sub(r"```.*?```", "", page.read_text(encoding="utf-8"), flags=re.S)):
-        yield section, crates_listed(section.split("\n")[0])
+def sections(page: Path) -> Iterator[tuple[int, list[str], list[str]]]:
+    """Each part of a page: the number of its first line, its lines, those of listings empty, and the crates of its heading."""
+    def emptied(listing: re.Match[str]) -> str:
+        return "\n" * listing[0].count("\n")
+
+    number = 1
+    for section in re.split(r"\n(?=#+ )", re.sub(r"```.*?```", emptied, page.read_text(encoding="utf-8"), flags=re.S)):
+        lines = section.split("\n")
+        yield number, lines, crates_listed(lines[0])
+        number += len(lines)
+
+
+def missing_in(line: str, page: Path, crates: list[str]) -> set[str]:
+    """The names and files of a line of a page that aren't there."""
+    missing = {text for text in LINK.findall(line) if not (page.parent / text).exists()}
+    for text in QUOTED.findall(line):
+        if FILE.fullmatch(text) or PATH.fullmatch(text):
+            missing |= set() if is_there(text, crates) or (page.parent / text).exists() else {text}
+        elif NAME.fullmatch(text):
+            missing |= missing_words(text, crates)
+    return missing
 
 
 @of_each_page
 def test_names_and_files(page: Path) -> None:
     """Each name of code with an underscore, capitals within or a type in front that a page has in backticks is there, and each file in
     backticks or a link: below a heading that names crates, and in a row of a table or list that begins with crates, in one of these."""
-    missing: set[str] = set()
-    for section, of_heading in sections(page):
-        for line in section.split("\n"):
+    missing: list[str] = []
+    for first, lines, of_heading in sections(page):
+        for number, line in enumerate(lines, first):
             row = re.match(r"[|-] (.*?)(?: \||:)", line)
             crates = (crates_listed(row[1]) if row else []) or of_heading or CRATE_NAMES
-            missing |= {text for text in LINK.findall(line) if not (page.parent / text).exists()}
-            for text in QUOTED.findall(line):
-                if FILE.fullmatch(text) or PATH.fullmatch(text):
-                    missing |= set() if is_there(text, crates) or (page.parent / text).exists() else {text}
-                elif NAME.fullmatch(text):
-                    missing |= missing_words(text, crates)
-    assert not missing, f"{page.relative_to(ROOT)}: names or files that are not there: {', '.join(sorted(missing))}"
+            missing += [f"{page.relative_to(ROOT)}:{number}: {text} isn't there" for text in sorted(missing_in(line, page, crates))]
+    assert not missing, "\n".join(missing)
 
 
 @functools.lru_cache(maxsize=None)

@@ -32,6 +32,8 @@ fn waits(call: &mut Call) {
 ORDER = (ROOT / "docs/reading-order.md").read_text(encoding="utf-8")
 ROWS = [(row[1], row[2]) for row in ROW.finditer(ORDER)]
 FIRST_DEFINITIONS = next(file for file, _ in ROWS if file.endswith(".antt"))
+# The line of docs/pools.md that is spoilt: below its last one, and an empty one.
+LAST_LINE = (ROOT / "docs/pools.md").read_text(encoding="utf-8").count("\n") + 2
 # A name that is nowhere else, and so not here.
 NO_NAME = "no_such_" + "name"
 
@@ -67,7 +69,7 @@ SPOILT: dict[str, Callable[[str], str]] = {
 }
 FAULTS = [
     "interface/public-calls.md: mote_types has no ByteSink: fn write(&self, bytes: &[u8])",
-    f"docs/pools.md: names or files that are not there: {NO_NAME}, none.md, none.script, tests/none.py",
+    *(f"docs/pools.md:{LAST_LINE}: {text} isn't there" for text in (NO_NAME, "none.md", "none.script", "tests/none.py")),
     "Extra items in the right set:\nE         'hex'",
     "docs/map.md: its figure isn't what `python3 tests/layers.py` prints",
     "another licence than LICENSE: python/LICENSE",
