@@ -48,12 +48,6 @@ module _ (nodes : List Alarm) (at : ℕ) (x : Alarm) where
           let above : at + 1 ≤ k = omega (arith, low, differs) in
           kept k differs (omega (arith, above)) (omega (arith, above)) (won k above high)
 
-  -- a player was set: the game above is out of date
-  pub seated : (count : ℕ) → count ≤ at → ((k : ℕ) → 1 ≤ k → k < count → IsWon nodes k) →
-      (k : ℕ) → 1 ≤ k → k < count → k ≢ at / 2 → IsWon (set nodes at x) k
-  seated count player won k low high apart =
-      kept k (omega (arith, player, high)) (omega (arith, apart)) (omega (arith, apart)) (won k low high)
-
 -- the players
 pub players_kept : (nodes : List Alarm) (count at : ℕ) (x : Alarm) → at < count → drop count (set nodes at x) ≡ drop count nodes
 players_kept [] zero at x h = absurd (omega (arith, h))

@@ -51,8 +51,3 @@ row_moments moments nodes row =
     let size = length_moments (length moments) nodes row.size in
     ext_get_or 0 (moments_in (length moments) nodes) moments size
     (λ i h. moment_at (length moments) nodes i row.size (omega (arith, h, size)) ∙ ap (λ (a : Alarm). a.moment) (row_numbered moments nodes row i (omega (arith, h, size))))
-
--- the same players have the same numbers
-pub same_player : (count : ℕ) (old new : List Alarm) (m : ℕ) → drop count new ≡ drop count old → node_of new (count + m) ≡ node_of old (count + m)
-same_player count old new m e =
-    sym (get_or-drop count new m no_alarm) ∙ (ap (λ (l : List Alarm). get_or l m no_alarm) e ∙ get_or-drop count old m no_alarm)

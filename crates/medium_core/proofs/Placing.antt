@@ -36,13 +36,6 @@ early_until due (g ∷ flights) (suc at) d order h e =
     let below = all_at (λ (x : Flight). g.due ≤ x.due) flights at d (omega arith) order.0 in
     (omega (arith, below, e), early_until due flights at d order.1 (omega arith) e)
 
--- one more is later
-pub later_from : (due : ℕ) (flights : List Flight) (at : ℕ) (d : Flight) → at < length flights → due < (get_or flights at d).due →
-    AreLater due (drop (suc at) flights) → AreLater due (drop at flights)
-later_from due [] at d h e rest = absurd (omega arith)
-later_from due (g ∷ flights) zero d h e rest = (e, rest)
-later_from due (g ∷ flights) (suc at) d h e rest = later_from due flights at d (omega arith) e rest
-
 pub none_later : (due : ℕ) (flights : List Flight) → AreLater due (drop (length flights) flights)
 none_later due [] = tt
 none_later due (g ∷ flights) = none_later due flights

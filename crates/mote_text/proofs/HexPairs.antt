@@ -51,10 +51,6 @@ is_prepend front (Ok bytes) = refl
 is_prepend front (Err fault) = refl
 
 module _ (digits place : List ℕ) where
-  -- nothing is read yet
-  pub read_none : IsReadTo digits place 0 0
-  read_none = (λ _. decode_start digits place ∙ sym (is_prepend [] (decode_pairs 0 digits)), λ large. absurd (omega (arith, large)))
-
   module _ (i bits : ℕ) where
     -- as `decode_step` and its like say it
     read_so_far : IsReadTo digits place i bits → bits < 16 → decode_pairs 0 digits ≡ prepend (take i place) (decode_pairs (2 * i) (drop (2 * i) digits))

@@ -1,13 +1,11 @@
 -- What a step comes to.
-use Rattle.std.proofs.Common.{◌≡◌, ℕ, Bool, true, false, refl, ap, sym, ◌∙◌, Option, None, Some, is_some}
+use Rattle.std.proofs.Common.{◌≡◌, ℕ, true, false, refl, ap, sym, ◌∙◌, None, Some, is_some}
 use Rattle.network_session.specs.Code.Measures.{is_last}
 use Rattle.network_session.specs.Network.{NetworkView}
-use Rattle.network_session.specs.Schedule.{due_step}
 use Rattle.network_session.specs.Steps.{Steps}
 use Rattle.network_session.specs.Time.{is_work}
 use Rattle.network_session.specs.declared.outcome.Outcome.{Outcome}
 use Rattle.network_run.specs.Code.Steps.{DidDueStep, rests_after}
-use Rattle.network_run.specs.Code.Way.{RestsIf}
 use Rattle.network_text.specs.NetworkRuns.{DoesStep}
 
 -- the mote at work does a step
@@ -36,21 +34,3 @@ goes_on (Outcome.Rested m) e = refl
 goes_on (Outcome.Stopped m) e = refl
 goes_on (Outcome.Woken m) e = refl
 goes_on (Outcome.Heard m) e = refl
-
--- where it ends, what ended it is still due
-pub ends_so : (x : Outcome) (rests : Bool) (old new : NetworkView) → rests_after x ≡ Some rests → old.active ≡ None → DidDueStep x old new → RestsIf rests new
-ends_so Outcome.Rest true old new e idle did =
-    record { idle = ap (λ (v : NetworkView). v.active) did.steps ∙ idle; due = ap due_step did.steps ∙ sym did.due }
-ends_so Outcome.Exhausted false old new e idle did =
-    record { idle = ap (λ (v : NetworkView). v.active) did.steps ∙ idle; due = ap due_step did.steps ∙ sym did.due }
-ends_so Outcome.Rest false old new e idle did = absurd (cc)
-ends_so Outcome.Exhausted true old new e idle did = absurd (cc)
-ends_so Outcome.Passed rests old new e idle did = absurd (cc)
-ends_so (Outcome.Missed from to) rests old new e idle did = absurd (cc)
-ends_so (Outcome.Started m) rests old new e idle did = absurd (cc)
-ends_so (Outcome.Turn m) rests old new e idle did = absurd (cc)
-ends_so (Outcome.Made m) rests old new e idle did = absurd (cc)
-ends_so (Outcome.Rested m) rests old new e idle did = absurd (cc)
-ends_so (Outcome.Stopped m) rests old new e idle did = absurd (cc)
-ends_so (Outcome.Woken m) rests old new e idle did = absurd (cc)
-ends_so (Outcome.Heard m) rests old new e idle did = absurd (cc)

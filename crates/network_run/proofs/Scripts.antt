@@ -15,7 +15,7 @@ use Rattle.network_run.specs.NetworkRunText.{IsSpent, script_lines}
 use Rattle.network_run.specs.declared.fault.RunFault.{RunFault}
 use Rattle.network_run.proofs.Ways.{all_carried, faulted_after, faulted_before, stopped_after, stopped_before, went_nowhere, went_on}
 use Rattle.network_text.specs.NetworkRuns.{IsMove, IsResting, Leads, Move, after_move}
-use Rattle.network_text.specs.NetworkScript.{if_for_some, is_for_some, read_network_input, read_network_line, read_network_lines, with_network_line}
+use Rattle.network_text.specs.NetworkScript.{if_for_some, is_for_some, read_network_input, read_network_line, with_network_line}
 use Rattle.network_text.specs.declared.input.NetworkInput.{NetworkInput}
 
 -- ---- lines
@@ -54,11 +54,6 @@ pub last_line_at : (bytes : List ℕ) → 0 < length bytes → Nowhere (Passes (
 last_line_at [] some none = absurd (omega arith)
 last_line_at (byte ∷ bytes) some none =
     last_line_is byte bytes none ∙ ap (λ (later : List (List ℕ)). (byte ∷ bytes) ∷ later) (sym (no_bytes (drop (length (byte ∷ bytes)) (byte ∷ bytes)) (length (byte ∷ bytes))))
-
--- what the lines from here on say
-pub lines_next : (motes n : ℕ) (bytes line after : List ℕ) → script_lines bytes ≡ line ∷ script_lines after →
-    read_network_lines motes n (script_lines bytes) ≡ with_network_line n (read_network_line motes line) (read_network_lines motes (n + 1) (script_lines after))
-lines_next motes n bytes line after e = ap (read_network_lines motes n) e
 
 -- ---- a network keeps its motes
 
@@ -136,12 +131,6 @@ module _ (quiet : Bool) where
   pub come_nowhere : (script : Script) (here : Place) → HasCome quiet script script here here
   come_nowhere script here = record { earlier = []; inputs = refl; ends = refl; went = went_nowhere quiet here }
 
-  pub come_same : {script later same : Script} {from here : Place} → later ≡ same → HasCome quiet script later from here → HasCome quiet script same from here
-  come_same {script} {from = from} {here = here} e come = subst (λ (l : Script). HasCome quiet script l from here) e come
-
-  pub motes_here : {script later : Script} {from here : Place} → HasCome quiet script later from here → length here.net.motes ≡ length from.net.motes
-  motes_here {from = from} {here = here} come = leads_length come.went.moves from.net here.net come.went.leads
-
   pub come_on : {script : Script} {input : NetworkInput} (later : Script) {from here to : Place} → HasCome quiet script (input ∷ later.0, later.1) from here →
       Went quiet (input ∷ []) here to → HasCome quiet script later from to
   come_on {input = input} later come went = record {
@@ -159,11 +148,6 @@ module _ (quiet : Bool) where
   pub ends_bad : {script : Script} {n : ℕ} {from here : Place} → HasCome quiet script ([], End.BadLine n) from here → IsResting here.net →
       Ends quiet script (End.BadLine n) from here
   ends_bad {here = here} come rests =
-      record { left = []; can = record { rests = rests; none_left = refl; says = come.ends }; stopped = all_carried quiet here.due (all_went come refl) }
-
-  pub ends_finished : {script : Script} {from here : Place} → HasCome quiet script ([], End.Finished) from here → IsResting here.net →
-      Ends quiet script End.Finished from here
-  ends_finished {here = here} come rests =
       record { left = []; can = record { rests = rests; none_left = refl; says = come.ends }; stopped = all_carried quiet here.due (all_went come refl) }
 
   pub ends_halted : {script : Script} {input : NetworkInput} (later : Script) {rests : Bool} {from here to : Place} →

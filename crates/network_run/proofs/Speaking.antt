@@ -14,7 +14,7 @@ use Rattle.mote_types.specs.declared.event.Origin.{Origin}
 use Rattle.mote_types.specs.declared.event.Pid.{Pid}
 use Rattle.mote_types.specs.declared.event.Stimulus.{Stimulus}
 use Rattle.network_session.specs.Happenings.{Happening, entry_of}
-use Rattle.network_session.specs.Logs.{happened, heard_by, made, made_by, submitted, submitted_by, told_by}
+use Rattle.network_session.specs.Logs.{happened, heard_by, made, submitted, told_by}
 use Rattle.network_session.specs.Network.{NetworkView}
 use Rattle.network_session.specs.Steps.{IsNetworkSubmitted, Steps, Worked}
 use Rattle.network_session.specs.declared.outcome.Outcome.{Outcome}
@@ -101,10 +101,6 @@ module _ (before after : Voices) (m : ℕ) (p : Pid) (o : Origin) (s : Stimulus)
 
 abbrev entries_of : ℕ → List Happening → List Entry
 entries_of i log = filter_map (entry_of i) log
-
-no_made : (i m : ℕ) (o : Option Entry) → (m == i) ≡ false → entries_of i (made m o) ≡ []
-no_made i m None apart = refl
-no_made i m (Some e) apart = rw apart refl
 
 no_told : (i clock m : ℕ) (mote : Option SessionView) → entries_of i (told_by clock m mote) ≡ []
 no_told i clock m None = refl

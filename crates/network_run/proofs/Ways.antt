@@ -120,11 +120,6 @@ module _ (quiet : Bool) where
       Faulted quiet (inputs ++ more) fault from to
   faulted_before more first = record { left = first.left ++ more; lost = first.lost; kept = first.kept; voices = first.voices; stopped = stopped_before more first.stopped }
 
-  -- a fault before anything was done
-  pub faulted_here : (inputs : List NetworkInput) (fault : RunFault) (here : Place) → Faulted quiet inputs fault here here
-  faulted_here inputs fault here =
-      record { left = inputs; lost = here.due; kept = λ not. refl; voices = here.voices; stopped = record { carried = []; parts = refl; went = went_nowhere here } }
-
   -- whatever the application said that has no such turn
   pub faulted_mute : (inputs : List NetworkInput) (fault : RunFault) (given due : List ℕ) (net : NetworkView) (voices later : Voices) →
       Faulted quiet inputs fault (place given due net voices) (place given due net later)

@@ -5,9 +5,8 @@ use Rattle.kernel_core.specs.Code.Conditions.{ticks_of}
 use Rattle.mote_types.specs.declared.entry.Input.{Input}
 use Rattle.mote_session.specs.SessionView.{SessionView}
 use Rattle.network_session.specs.Network.{NetworkView}
-use Rattle.network_session.specs.Refusals.{catch_up_refusal, feed_refusal, is_tick, mote_refusal}
+use Rattle.network_session.specs.Refusals.{feed_refusal, is_tick, mote_refusal}
 use Rattle.network_session.specs.Steps.{HandedIn, IsNetworkFed}
-use Rattle.network_session.specs.Waking.{due_ticks}
 use Rattle.network_session.specs.declared.fault.NetworkFault.{NetworkFault}
 
 pub is_not : (b : Bool) → true ≡ not b → b ≡ false
@@ -57,17 +56,3 @@ pub feed_refused : (r : Result Unit NetworkFault) (net new : NetworkView) (m : �
 feed_refused (Ok x) net new m input mote h same why = tt
 feed_refused (Err e) net new m input mote h same why =
     (fed_or_refused net m input mote (Some e) h.idle h.there h.no_tick h.on_time (why mote h.there), same)
-
--- of being told the time
-pub told_or_refused : (net : NetworkView) (m : ℕ) (mote : SessionView) (why : Option NetworkFault) →
-    net.active ≡ None → slice_get net.motes m ≡ Some mote → mote.machine.clock < net.air.clock →
-    mote_refusal (Input.Tick (due_ticks net.air.clock mote.machine.clock)) mote ≡ why → catch_up_refusal m net ≡ why
-told_or_refused net m mote why idle there late e =
-    let is_late : nat_lt mote.machine.clock net.air.clock ≡ true = grind (arith, nat_tests) in
-    rw (idle, there, is_late) e
-
-pub needs_no_time : (net : NetworkView) (m : ℕ) (mote : SessionView) →
-    net.active ≡ None → slice_get net.motes m ≡ Some mote → net.air.clock ≤ mote.machine.clock → catch_up_refusal m net ≡ None
-needs_no_time net m mote idle there on_time =
-    let late : nat_lt mote.machine.clock net.air.clock ≡ false = grind (arith, nat_tests) in
-    rw (idle, there, late) refl

@@ -73,10 +73,6 @@ rests_up s h = parted (is_none s.turn) s.machine.is_halted (is_idle s.machine.sc
 
 -- the earliest moment is no later than each
 
-earliest_low : (limit : ℕ) (o : Option Alarm) → earliest_by limit o ≤ limit
-earliest_low limit None = omega arith
-earliest_low limit (Some alarm) = omega arith
-
 sooner_low : (a : Alarm) (o : Option Alarm) → (sooner a o).moment ≤ a.moment
 sooner_low a None = omega arith
 sooner_low a (Some b) = by_test (nat_le a.moment b.moment) refl

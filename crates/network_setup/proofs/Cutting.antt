@@ -51,25 +51,11 @@ has_argument mark line rest some here none =
     let not_none : Some (drop (length mark) line) ≡ None = rw yes at none in
     absurd (cc)
 
--- a line that begins with a text has what follows it as its argument
-pub argument_some : (mark line rest : List ℕ) → 0 < length mark → line ≡ mark ++ rest → argument_of mark line ≡ Some rest
-argument_some mark line rest some here =
-    let yes = begins mark some line rest here in
-    let after : drop (length mark) line ≡ rest = ap (drop (length mark)) here ∙ drop_at mark rest (length mark) refl in
-    rw (yes, after) refl
-
 pub argument_none : (mark line : List ℕ) → 0 < length mark → LacksTextAt mark line 0 → argument_of mark line ≡ None
 argument_none mark line some none = rw (begins_not mark some line none) refl
 
 pub none_is_some : {A : Type 0} {a : A} (o : Option A) → o ≡ None → o ≡ Some a → ⊥
 none_is_some o none some = let same = sym none ∙ some in absurd (cc)
-
--- a line has one argument
-pub same_argument : (mark line rest text : List ℕ) → 0 < length mark → line ≡ mark ++ rest → argument_of mark line ≡ Some text → rest ≡ text
-same_argument mark line rest text some here says =
-    let one = argument_some mark line rest some here in
-    let same = sym one ∙ says in
-    cc
 
 -- the list after the word `calls` and a space
 pub list_after : (text rest calls : List ℕ) → text ≡ codes " " ++ rest → calls ≡ rest → 0 < length calls → list_said text ≡ Some calls

@@ -24,27 +24,13 @@ use Rattle.network_text.proofs.Moves.{inputs_on, leads_on, text_on}
 use Rattle.network_steps.specs.Lines.{is_loss, line_if, loss_line, losses_left}
 use Rattle.network_steps.specs.Refusals.{awaited_turn, turn_of}
 use Rattle.network_steps.specs.StepsView.{StepsView}
-use Rattle.network_steps.specs.Works.{GoesNext, IsCame, RestsIf, ToldIfBehind, WorksTo, came_of, inputs_waiting, is_halted_in, is_reported, last_after, new_line, noted, phase_after, sending_after, sending_by}
+use Rattle.network_steps.specs.Works.{GoesNext, IsCame, ToldIfBehind, WorksTo, came_of, inputs_waiting, is_halted_in, is_reported, last_after, new_line, noted, phase_after, sending_after, sending_by}
 use Rattle.network_steps.specs.declared.came.Came.{Came}
 use Rattle.network_steps.specs.declared.came.Phase.{Phase}
 use Rattle.network_steps.specs.declared.came.Sending.{Sending}
 use Rattle.network_steps.specs.declared.came.Waiting.{Waiting}
 use Rattle.network_steps.specs.declared.fault.StepsFault.{StepsFault}
 use Rattle.network_steps.proofs.Silent.{idle_if}
-
--- the network rests where that is noted
-pub rests_if : (x : Outcome) (net : NetworkView) → is_reported x ≡ true → (x ≡ Outcome.Rest → IsResting net) → RestsIf (phase_after (came_of x)) net
-rests_if Outcome.Rest net r rests = rests refl
-rests_if Outcome.Exhausted net r rests = tt
-rests_if (Outcome.Turn m) net r rests = tt
-rests_if (Outcome.Made m) net r rests = tt
-rests_if (Outcome.Missed from to) net r rests = tt
-rests_if Outcome.Passed net r rests = tt
-rests_if (Outcome.Started m) net r rests = absurd (cc)
-rests_if (Outcome.Rested m) net r rests = absurd (cc)
-rests_if (Outcome.Stopped m) net r rests = absurd (cc)
-rests_if (Outcome.Woken m) net r rests = absurd (cc)
-rests_if (Outcome.Heard m) net r rests = absurd (cc)
 
 pub resting : (old new : NetworkView) → WorksTo Outcome.Rest old new → IsResting new
 resting old new w =

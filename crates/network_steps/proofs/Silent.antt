@@ -76,9 +76,6 @@ silent Outcome.Passed old new s r = absurd (cc)
 silent Outcome.Rest old new s r = absurd (cc)
 silent Outcome.Exhausted old new s r = absurd (cc)
 
-pub goes_nowhere : (net : NetworkView) → GoesOn net net
-goes_nowhere net = record { moves = []; leads = refl; silent = refl; own = refl }
-
 pub goes_further : (x : Outcome) (old mid new : NetworkView) → GoesOn old mid → DoesStep x mid new → is_reported x ≡ false → GoesOn old new
 goes_further x old mid new g s r =
     let step : List Move = Move.Step x new ∷ [] in

@@ -1,8 +1,6 @@
 -- The log of a network and its text go on with each move.
 use Rattle.std.proofs.Common.{◌≡◌, ℕ, Bool, true, false, ◌||◌, List, [], ◌∷◌, ◌++◌, refl, ap, sym, subst, ◌∙◌, append-nil, Option, None, Some}
-use Rattle.std.specs.List.{list_any}
 use Rattle.std.proofs.lemmas.List.{append_assoc}
-use Rattle.std.proofs.lemmas.List.Concat.{flat_map-append}
 use Rattle.std.proofs.lemmas.List.Elements.{filter_map-append}
 use Rattle.arrayvec.specs.ArrayVec.{ArrayVec}
 use Rattle.kernel_core.specs.declared.config.Config.{Config}
@@ -15,13 +13,13 @@ use Rattle.mote_types.specs.declared.call.Call.{Call}
 use Rattle.mote_types.specs.declared.entry.Entry.{Entry}
 use Rattle.mote_types.specs.declared.entry.Input.{Input}
 use Rattle.network_session.specs.Happenings.{Happening, all_deeds, deeds_of, sends}
-use Rattle.network_session.specs.Logs.{submitted, submitted_by, happened, heard_by, made, made_by, told_by}
+use Rattle.network_session.specs.Logs.{submitted, happened, heard_by, made, made_by, told_by}
 use Rattle.network_session.specs.Network.{NetworkView}
 use Rattle.network_session.specs.Promise.{IsLogOf}
 use Rattle.network_session.specs.Steps.{IsNetworkSubmitted, IsNetworkFed, Steps, aired_if}
 use Rattle.network_session.specs.declared.outcome.Outcome.{Outcome}
 use Rattle.network_session.proofs.Working.{there_after}
-use Rattle.network_text.specs.NetworkRuns.{IsMove, Leads, Move, after_move, input_of, inputs_of, is_missed, log_of, move_lines, moved, moves_text}
+use Rattle.network_text.specs.NetworkRuns.{IsMove, Leads, Move, after_move, input_of, inputs_of, log_of, move_lines, moved, moves_text}
 use Rattle.network_text.specs.NetworkText.{happening_lines, log_text}
 
 -- what happens to the medium
@@ -29,10 +27,6 @@ use Rattle.network_text.specs.NetworkText.{happening_lines, log_text}
 done_more : (xs ys : List Deed) (air : Air) → all_done (xs ++ ys) air ≡ all_done ys (all_done xs air)
 done_more [] ys air = refl
 done_more (x ∷ xs) ys air = done_more xs ys _
-
-pub deeds_more : (log more : List Happening) (air : Air) → all_done (all_deeds (log ++ more)) air ≡ all_done (all_deeds more) (all_done (all_deeds log) air)
-deeds_more log more air =
-    ap (λ (deeds : List Deed). all_done deeds air) (flat_map-append deeds_of log more) ∙ done_more (all_deeds log) (all_deeds more) air
 
 pub one_deed : (h : Happening) (air : Air) → all_done (all_deeds (h ∷ [])) air ≡ all_done (deeds_of h) air
 one_deed h air = ap (λ (deeds : List Deed). all_done deeds air) (append-nil (deeds_of h))
@@ -50,10 +44,6 @@ text_more quiet (h ∷ log) more air =
     (log_text quiet (all_done (deeds_of h ++ all_deeds log) air) more))
 
 -- the air after a step
-
-or_left : (a b : Bool) → (a || b) ≡ false → a ≡ false
-or_left true b none = absurd (cc)
-or_left false b none = refl
 
 or_right : (a b : Bool) → (a || b) ≡ false → b ≡ false
 or_right true b none = absurd (cc)
@@ -91,14 +81,6 @@ air_step (Outcome.Missed from to) old new s = ap air_of s
 air_step Outcome.Passed old new s = ap air_of s
 air_step Outcome.Rest old new s = ap air_of s
 air_step Outcome.Exhausted old new s = ap air_of s
-
-pub air_submit : (call : Call) (old new : NetworkView) → IsNetworkSubmitted call old new → new.air ≡ all_done (all_deeds (submitted old new)) old.air
-air_submit call old new s =
-    let w = s.submitted in
-    let there = there_after s.m old.motes new.motes w.before w.after w.mote w.others in
-    let is : submitted old new ≡ made s.m (Some (Entry.Turn w.submitted.turn.process w.submitted.turn.origin w.submitted.turn.stimulus call)) =
-    ap (submitted_by new) s.was_active ∙ (ap (made_by s.m) there ∙ ap (made s.m) w.submitted.last) in
-    rw is (ap air_of s.result)
 
 -- moves after moves
 
@@ -151,34 +133,3 @@ module _ (step : StepLaw) (answer : SubmitLaw) (feed : FeedLaw) (configs : ℕ �
   log_moves (move ∷ moves) log old new is leads =
       subst (λ (all : List Happening). IsLogOf configs room links all new) (append_assoc log (moved old move) (log_of (after_move move) moves))
       (log_moves moves (log ++ moved old move) (after_move move) new (log_move log move old is leads.0) leads.1)
-
--- the text of moves is that of their log, where no input is missed
-
-air_move : (move : Move) (old : NetworkView) → IsMove old move → (after_move move).air ≡ all_done (all_deeds (moved old move)) old.air
-air_move (Move.Step outcome new) old is = air_step outcome old new is.steps
-air_move (Move.Submit call new) old is = air_submit call old new is
-air_move (Move.Tick ticks new) old is = ap air_of is.result
-air_move (Move.Tell m new) old is = air_step (Outcome.Woken m) old new is.told
-air_move (Move.Hand m input new) old is = ap air_of is.fed.result
-air_move (Move.Miss m input new) old is = ap air_of is.result
-
-line_of_move : (quiet : Bool) (move : Move) (old : NetworkView) → is_missed move ≡ false → IsMove old move →
-    move_lines quiet old move ≡ log_text quiet old.air (moved old move)
-line_of_move quiet (Move.Step outcome new) old none is = refl
-line_of_move quiet (Move.Submit call new) old none is = refl
-line_of_move quiet (Move.Tick ticks new) old none is = refl
-line_of_move quiet (Move.Tell m new) old none is =
-    sym (ap (λ (o : Option SessionView). log_text quiet old.air (told_by old.air.clock m o)) is.told.told.mote)
-line_of_move quiet (Move.Hand m input new) old none is = refl
-line_of_move quiet (Move.Miss m input new) old none is = absurd (cc)
-
-pub text_of_log : (quiet : Bool) (moves : List Move) (old new : NetworkView) → list_any is_missed moves ≡ false → Leads old moves new →
-    moves_text quiet old moves ≡ log_text quiet old.air (log_of old moves)
-text_of_log quiet [] old new none leads = refl
-text_of_log quiet (move ∷ moves) old new none leads =
-    let first : is_missed move ≡ false = or_left (is_missed move) (list_any is_missed moves) none in
-    let later : list_any is_missed moves ≡ false = or_right (is_missed move) (list_any is_missed moves) none in
-    ap (λ (text : List ℕ). text ++ moves_text quiet (after_move move) moves) (line_of_move quiet move old first leads.0)
-    ∙ (ap (λ (text : List ℕ). log_text quiet old.air (moved old move) ++ text) (text_of_log quiet moves (after_move move) new later leads.1)
-    ∙ (ap (λ (air : Air). log_text quiet old.air (moved old move) ++ log_text quiet air (log_of (after_move move) moves)) (air_move move old leads.0)
-    ∙ sym (text_more quiet (moved old move) (log_of (after_move move) moves) old.air)))

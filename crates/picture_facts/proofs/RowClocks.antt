@@ -1,7 +1,6 @@
 -- The clock from row to row.
-use Rattle.std.proofs.Common.{◌≡◌, ◌∙◌, ◌<◌, ◌+◌, ℕ, List, [], ◌∷◌, ◌++◌, All, length, map, take, drop, get_or, Result, Ok, Err, IfOk, append_assoc, refl, sym, ap, ap₂, subst, arith}
+use Rattle.std.proofs.Common.{◌≡◌, ◌∙◌, ◌<◌, ◌+◌, ℕ, List, [], ◌∷◌, ◌++◌, All, length, map, take, drop, Result, Ok, Err, IfOk, refl, ap, ap₂, subst, arith}
 use Rattle.std.specs.List.{range_with_len}
-use Rattle.std.proofs.lemmas.List.{drop_more, map_more}
 use Rattle.std.proofs.lemmas.List.Elements.{All-head, All-tail}
 use Rattle.picture_facts.specs.Clocks.{clock_after, clock_at, first_of, row_clock}
 use Rattle.picture_facts.specs.Rows.{Cover, IsPlain}
@@ -16,25 +15,6 @@ module _ (lines : List (List ℕ)) where
     pub left : Cover next (drop place rows) end
     pub now : clock ≡ clock_after (take next lines)
     pub told : clocks ≡ before ++ map (row_clock lines) (take place rows)
-
-  -- one more
-  pub one_row_more : (rows : List Row) (end : ℕ) (before : List ℕ) (place clock : ℕ) (clocks : List ℕ) (row : Row) (after : ℕ)
-      (more : List ℕ) → place < length rows → HasClocks rows end before place clock clocks
-      → (clock ≡ clock_after (take (get_or rows place row).first lines) → after ≡ row_clock lines (get_or rows place row))
-      → more ≡ clocks ++ after ∷ [] → HasClocks rows end before (place + 1) after more
-  one_row_more rows end before place clock clocks row after more inside has takes pushed =
-      let here = get_or rows place row in
-      let left : Cover has.next (here ∷ drop (place + 1) rows) end =
-      subst (λ rows. Cover has.next rows end) (drop_more rows place row inside) has.left in
-      let ends : after ≡ row_clock lines here = takes (has.now ∙ ap (λ n. clock_after (take n lines)) (sym left.0)) in
-      record {
-        next = has.next + here.count;
-        left = left.2;
-        now = ends ∙ ap (λ n. clock_after (take (n + here.count) lines)) left.0;
-        told = pushed ∙ ap₂ (λ told clock. told ++ clock ∷ []) has.told ends
-            ∙ append_assoc before (map (row_clock lines) (take place rows)) (row_clock lines here ∷ [])
-            ∙ ap (λ clocks. before ++ clocks) (sym (map_more (row_clock lines) rows place row inside));
-      }
 
   -- where each row has one line, the clocks are those at the lines
   pub plain_clocks : (rows : List Row) (first end : ℕ) → Cover first rows end → All IsPlain rows
