@@ -18,9 +18,13 @@ resized_none n = grind (arith, take-replicate)
 -- bytes written over the first of n zeros
 pub copied_front : (xs : List ℕ) (at n : ℕ) (ws : List ℕ) → length ws ≤ n → at + n ≤ length xs → slice_range xs at (at + n) ≡ zeros n
     → slice_range (written xs at ws) at (at + n) ≡ ws ++ zeros (n - length ws)
-copied_front xs at n ws le within fresh = let R = slice_range xs at (at + n) in let start : at ≡ at + 0 = omega arith in
-    let within' = written-range xs at n 0 ws (omega arith) within in let long = length-range xs at n within in
-    let is = written_is R 0 ws (omega (arith, long)) in grind (arith, drop-replicate)
+copied_front xs at n ws le within fresh = let start : at ≡ at + 0 = omega arith in
+    grind (
+      arith,
+      drop-replicate,
+      written_is (slice_range xs at (at + n)) 0 ws (omega (arith, length-range xs at n within)),
+      written-range xs at n 0 ws (omega arith) within,
+    )
 
 pub resized_copy : (xs : List ℕ) (at m n k : ℕ) → at + m ≤ length xs → (m ≤ n → k ≡ m) → (n ≤ m → k ≡ n)
     → slice_range xs at (at + k) ++ zeros (n - k) ≡ resized n (slice_range xs at (at + m))

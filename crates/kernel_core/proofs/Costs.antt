@@ -58,7 +58,9 @@ module _ (bound : ℕ) where
       IsPaid bound (Some next) (costs bound s.agenda) (costs bound after.agenda) × (present after ≤ present s)
   job_is_paid s after next h (n, asks, works) =
       let r = after_items-keep (λ t. (costs bound t.agenda ≤ costs bound s.agenda) × (present t ≤ present s))
-      (λ t none so_far. let p = rw none at (paid t (omega (arith, so_far.1, h))) in
-      (omega (arith, p, so_far.0), omega (arith, after_front-present t, so_far.1))) n s (omega arith, omega arith) in
-      let p = rw (asks, works) at (paid (after_items n s) (omega (arith, r.1, h))) in
-      grind (decide, after_front-present)
+      (λ t none so_far. (
+        omega (arith, rw none at (paid t (omega (arith, so_far.1, h))), so_far.0),
+        omega
+            (arith, after_front-present t, so_far.1),
+      )) n s (omega arith, omega arith) in
+      grind (decide, after_front-present, (rw (asks, works) at (paid (after_items n s) (omega (arith, r.1, h)))))

@@ -33,4 +33,4 @@ module _ (says : Applications) where
   pub runs_one : (inputs : List Input) (a b c : Running) → Runs says a inputs b → Runs says a inputs c → b ≡ c
   runs_one [] a b c x y = rest_one a b c x y
   runs_one (input ∷ later) a b c (m, e, stop, go) (k, h, stop', go') =
-      let same = rest_one a m k e h in let one = runs_one later in grind decide
+      grind (decide, runs_one later, rest_one a m k e h)

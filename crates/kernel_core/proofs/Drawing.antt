@@ -14,7 +14,7 @@ module _ (drawn : ℕ) where
       → draws (delivery ns (slice_get events 0)) ≡ 0
   draws-delivery ns [] fit = refl
   draws-delivery ns (event ∷ events) fit =
-      let none = All-head (IsQueueable drawn) event events fit in grind (decide, total-nowhere, draws_of_event-none)
+      grind (decide, total-nowhere, draws_of_event-none, All-head (IsQueueable drawn) event events fit)
 
   pub all_fit_rest : (events : List (Queued ℕ)) → All (IsQueueable drawn) events → All (IsQueueable drawn) (drop 1 events)
   all_fit_rest [] fit = fit
@@ -57,12 +57,17 @@ module _ (drawn : ℕ) where
   pub job_is_fit : (s after : Scheduler ℕ) (next : Job ℕ) → All (IsQueueable drawn) s.events → ComesTo s next after
       → All (IsQueueable drawn) after.events × (draws after.agenda + draws_of_job next ≤ draws s.agenda) × IsQueueableJob drawn next
   job_is_fit s after next fit (n, asks, works) =
-      let r = after_items-keep (λ t. All (IsQueueable drawn) t.events × (draws t.agenda ≤ draws s.agenda))
-      (λ t none so_far. (
-        fit_after_front_of t.agenda t so_far.0,
-        omega (arith, after_front_of-draws t.agenda t refl so_far.0, so_far.1),
-      )) n s (fit, omega arith) in
-      grind (decide, after_front_of-draws, fit_after_front_of, fit_asked)
+      grind (
+        decide,
+        after_front_of-draws,
+        fit_after_front_of,
+        fit_asked,
+        after_items-keep (λ t. All (IsQueueable drawn) t.events × (draws t.agenda ≤ draws s.agenda))
+            (λ t none so_far. (
+              fit_after_front_of t.agenda t so_far.0,
+              omega (arith, after_front_of-draws t.agenda t refl so_far.0, so_far.1),
+            )) n s (fit, omega arith),
+      )
 
 module _ (p : ℕ) where
   abbrev told : List Process → List Item
@@ -76,8 +81,13 @@ module _ (p : ℕ) where
   pub one_told : (list : List Process) → IsDistinct eqb (numbers list) → draws (told list) ≤ 4
   one_told [] distinct = omega arith
   one_told (process ∷ list) distinct =
-      let nobody = none_told process.number list (IsDistinct-head eqb process.number (numbers list) distinct) in
-      grind (decide, draws, nobody, one_told list (IsDistinct-tail eqb process.number (numbers list) distinct))
+      grind (
+        decide,
+        draws,
+        one_told list (IsDistinct-tail eqb process.number (numbers list) distinct),
+        none_told process.number list
+            (IsDistinct-head eqb process.number (numbers list) distinct),
+      )
 
   pub ended-draws : (s : Scheduler ℕ) → IsDistinct eqb (numbers s.processes) → draws (ended p s).agenda ≤ draws s.agenda + 4
   ended-draws = grind (decide, one_told, total-append)

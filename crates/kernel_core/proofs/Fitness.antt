@@ -24,9 +24,13 @@ module _ (test : ℕ → ℕ → Bool) (old new : Armings) where
       → map (event_carrying (is_cancelled new)) events ≡ map (cancelled_if test) (map (event_carrying (is_cancelled old)) events)
   cancelled [] renewed fit = refl
   cancelled (event ∷ events) renewed fit =
-      let first = All-head (IsQueueable old.drawn) event events fit in
-      let later = cancelled events renewed (All-tail (IsQueueable old.drawn) event events fit) in
-      grind (decide, first, later, cancelled_here)
+      grind (
+        decide,
+        cancelled_here,
+        cancelled events renewed (All-tail (IsQueueable old.drawn) event events fit),
+        All-head
+            (IsQueueable old.drawn) event events fit,
+      )
 
 -- a kernel whose callback timers got new numbers has cancelled their expiries
 module _ (k : KernelFields) (new : NumberedTimers) (timers : Timers) (fit : HasQueueableEvents k) (changed : new.timers ≡ timers) where

@@ -65,7 +65,7 @@ module _ (slot : ℕ) (old new : Memory) (leaves : LeavesOthers (Some (frame_blo
   pub frames_after_taken : (len : ℕ) (bytes : List ℕ) (frames : List Frame) → frame_in slot new ≡ Some bytes → HoldsFrames old frames
       → HoldsFrames new (frames ++ record { slot = slot; len = len } ∷ [])
   frames_after_taken len bytes frames held holds = record {
-    live = λ s few. (let now = frame_now s (slot == s) few refl in let before = holds.live s few in grind (decide, list_any-append));
+    live = λ s few. (grind (decide, list_any-append, holds.live s few, frame_now s (slot == s) few refl));
   }
 
   -- the front frame was dropped
@@ -74,8 +74,8 @@ module _ (slot : ℕ) (old new : Memory) (leaves : LeavesOthers (Some (frame_blo
       → IsDistinct eqb (slots_of frames) → HoldsFrames old frames → HoldsFrames new (drop 1 frames)
   frames_after_dropped [] gone e distinct holds = absurd (cc)
   frames_after_dropped (front ∷ frames) gone e distinct holds = record {
-    live = λ s few. (let now = frame_now s (slot == s) few refl in let before = holds.live s few in
-        let none = none_has front.slot s frames (IsDistinct-head eqb front.slot (slots_of frames) distinct) in grind decide);
+    live = λ s few. (let now = frame_now s (slot == s) few refl in grind
+        (decide, none_has front.slot s frames (IsDistinct-head eqb front.slot (slots_of frames) distinct), holds.live s few));
   }
 
 -- fresh memory holds no frame

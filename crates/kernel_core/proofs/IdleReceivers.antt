@@ -31,9 +31,9 @@ module _ (answers : Answers) (m : Machine) (running : m.is_halted ≡ false)
       split true k true e rest =
           let given = with_agenda (Item.Give p origin (Stimulus.Event event) ∷ items) m in
           let served = with_agenda items m in
-          let nothing = serve_idle p event (record served { is_halted = false }) e in
           rw (k, e) (goes_on (silent_step {b = given} (rw (running, unmarked) refl))
-          (goes_on (silent_step {a = given} {b = served} (rw (running, k) (ap silent nothing))) rest))
+          (goes_on (silent_step {a = given} {b = served} (rw (running, k)
+          (ap silent (serve_idle p event (record served { is_halted = false }) e)))) rest))
       split true k false e rest = rw (k, e) (silently_here _)
       split false k b e rest = rw k (silently_here _)
   passed_silently _ = silently_here _
@@ -49,8 +49,7 @@ receivers_passed answers k running shown = split (is_any_marked k.scheduler.stat
         → GoesSilently answers (machine_of k) (machine_of (passed k))
     split true e = rw e (silently_here (machine_of k))
     split false e =
-        let bare : KernelFields = record k { pending = no_pending_entries } in
-        rw (e, shown) (passed_silently answers (machine_of bare) running e k.scheduler.state.agenda)
+        rw (e, shown) (passed_silently answers (machine_of (record k { pending = no_pending_entries })) running e k.scheduler.state.agenda)
 
 module _ (codes : List ℕ) where
   -- no process is started, and no more is drawn than without

@@ -39,15 +39,14 @@ module _ (answers : Answers) where
       → GoesSilently answers (machine_of k)
       (machine_of (record k { work = k.work + 1; scheduler = awaiting_nothing (polled_alone 0 k.scheduler.state) }))
   poll_passed k running shown room none lone =
-      let begun : KernelFields = record k { scheduler = awaiting_nothing lone.begun } in
-      let counted : KernelFields = record begun { work = k.work + 1 } in
-      let served : KernelFields = record counted { scheduler = awaiting_nothing lone.served } in
-      let begins = job_silently (fields_reach answers k (awaiting_nothing lone.begun) Job.Round running shown lone.round) (rw room refl) in
-      let polls =
-      job_silently (then_job begins
+      let begun = record k { scheduler = awaiting_nothing lone.begun } in
+      let counted = record begun { work = k.work + 1 } in
+      let served = record counted { scheduler = awaiting_nothing lone.served } in
+      goes_on (job_silently (then_job (job_silently (fields_reach answers k
+      (awaiting_nothing lone.begun) Job.Round running shown lone.round) (rw room refl))
       (fields_reach answers counted (awaiting_nothing lone.served) (Job.Serve 0 (plain_event POLL)) running shown lone.poll))
-      (ap silent (nothing_posted (machine_of served) none)) in
-      goes_on polls (fields_go answers served (awaiting_nothing (polled_alone 0 k.scheduler.state)) running shown lone.over)
+      (ap silent (nothing_posted (machine_of served) none))) (fields_go answers served
+      (awaiting_nothing (polled_alone 0 k.scheduler.state)) running shown lone.over)
 
   -- at rest a tick that leaves no timer due is accepted: its entry is made, and such a round follows
   pub idle_tick : (k : KernelFields) (n : ℕ) → k.halted ≡ false → k.pending ≡ no_pending_entries
@@ -56,8 +55,7 @@ module _ (answers : Answers) where
       → unmarked 0 (marked 0 k.scheduler.state) ≡ k.scheduler.state → is_idle k.scheduler.state ≡ true
       → RestsAfter answers (Input.Tick n) (machine_of k) (machine_of (record k { clock = k.clock + n; work = 1; inputs = k.inputs + 1 }))
   idle_tick k n running shown none lone rest same idle =
-      let handed : KernelFields = record k { clock = k.clock + n; work = 0; scheduler = awaiting_nothing (marked 0 k.scheduler.state) } in
-      let polled : KernelFields = record handed { work = 1; scheduler = awaiting_nothing (polled_alone 0 (marked 0 k.scheduler.state)) } in
+      let handed = record k { clock = k.clock + n; work = 0; scheduler = awaiting_nothing (marked 0 k.scheduler.state) } in
       record {
         accepted = machine_of handed;
         entry = entry_comes_first (Entry.Input (Input.Tick n)) (effect (Input.Tick n) (record (machine_of k) { work = 0 }))
@@ -66,7 +64,8 @@ module _ (answers : Answers) where
         rest = record {
           before =
               job_silently (then_job (poll_passed handed running shown refl none lone)
-              (fields_reach answers polled (awaiting_nothing k.scheduler.state) Job.Rest running shown
+              (fields_reach answers (record handed { work = 1; scheduler = awaiting_nothing (polled_alone 0 (marked 0 k.scheduler.state)) })
+              (awaiting_nothing k.scheduler.state) Job.Rest running shown
               (subst (λ s. ComesTo (polled_alone 0 (marked 0 k.scheduler.state)) Job.Rest s) same rest))) refl;
           at_rest = rw (running, shown) (idle_carrying (is_cancelled k.timers.value.armings) k.scheduler.state idle);
         };

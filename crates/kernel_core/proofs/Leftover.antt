@@ -13,11 +13,11 @@ module _ (change : Machine → Machine) (is_left : Machine → Bool) (takes : (m
     (stops : (m : Machine) → is_left m ≡ false → change m ≡ m) where
   filled : (n : ℕ) (m : Machine) → is_left (times n change m) ≡ true → waiting (times n change m) ≡ n + waiting m
   filled zero m left = ap waiting (times_none change m) ∙ omega arith
-  filled (suc n) m left = let later = filled n (change m) in grind (decide, times_next, times_same)
+  filled (suc n) m left = grind (decide, times_next, times_same, filled n (change m))
 
   -- so no slot is free
   pub full : (m : Machine) → is_left (times (free_places m) change m) ≡ true → has_room (times (free_places m) change m).scheduler ≡ false
-  full m left = let e = filled (free_places m) m left in grind (arith, e)
+  full m left = grind (arith, filled (free_places m) m left)
 
 due_takes : (m : Machine) → is_any_due m ≡ true → waiting (post_first_due m) ≡ suc (waiting m)
 due_takes = grind (decide, length-append)
@@ -26,7 +26,7 @@ pub due_stops : (m : Machine) → is_any_due m ≡ false → post_first_due m �
 due_stops = grind decide
 
 pub due_or_full : (m : Machine) → is_any_due (post_due m) ≡ true → has_room (post_due m).scheduler ≡ false
-due_or_full m = let filled = full post_first_due is_any_due due_takes due_stops m in grind decide
+due_or_full m = grind (decide, full post_first_due is_any_due due_takes due_stops m)
 
 -- where a slot is free, nothing due is left
 pub posted_all : (m : Machine) (k : KernelFields) → machine_of k ≡ times (free_places m) post_first_due m
@@ -34,7 +34,7 @@ pub posted_all : (m : Machine) (k : KernelFields) → machine_of k ≡ times (fr
     → machine_of k ≡ post_due m
 posted_all m k same room =
     let filled = full post_first_due is_any_due due_takes due_stops m in
-    let free : has_room (times (free_places m) post_first_due m).scheduler ≡ true =
+    let free =
     sym (ap (λ (after : Machine). has_room after.scheduler) same) ∙ (room_of k ∙ room) in
     same ∙ grind decide
 
@@ -48,4 +48,4 @@ news_stops : (m : Machine) → is_news m ≡ false → announce_next m ≡ m
 news_stops = grind decide
 
 pub told_or_full : (m : Machine) → has_news (announce m).packets ≡ true → has_room (announce m).scheduler ≡ false
-told_or_full m = let filled = full announce_next is_news news_takes news_stops m in grind decide
+told_or_full m = grind (decide, full announce_next is_news news_takes news_stops m)

@@ -9,11 +9,11 @@ ends ring = length (filter is_line_end ring)
 
 no_line : (ring : List ℕ) → list_any is_line_end ring ≡ false → ends ring ≡ 0
 no_line [] none = refl
-no_line (byte ∷ ring) none = let later = no_line ring in grind decide
+no_line (byte ∷ ring) none = grind (decide, no_line ring)
 
 one_line_less : (ring : List ℕ) → list_any is_line_end ring ≡ true → ends ring ≡ suc (ends (after_first is_line_end ring))
 one_line_less [] some = absurd (cc)
-one_line_less (byte ∷ ring) some = let later = one_line_less ring in grind decide
+one_line_less (byte ∷ ring) some = grind (decide, one_line_less ring)
 
 running_serve : (m : Machine) → m.is_serial_waiting ≡ false
     → serve_line m ≡ line_served (next_line m.serial) (with_serial (after_line m.serial) m)

@@ -63,7 +63,7 @@ module _ {answers : Answers} where
       → GoesOn answers a step c
   goes_after a b c (Step.Entry entry) running first later = makes_after first later
   goes_after a b c Step.Rest running first later = record { before = goes_on first later.before; at_rest = later.at_rest }
-  goes_after a b c Step.Halted running first later = let halted : b.is_halted ≡ true = later.0 in absurd (cc)
+  goes_after a b c Step.Halted running first later = let halted = later.0 in absurd (cc)
 
 takes_from : (step : Step) (old between new : Mote) → between.entries_left ≤ old.entries_left → TakesEntry step between new
     → TakesEntry step old new

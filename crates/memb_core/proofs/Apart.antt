@@ -1,20 +1,20 @@
 -- The blocks of a pool share no byte of the arena.
-use Rattle.memb_core.proofs.Words.{◌≡◌, ℕ, ◌+◌, List, [], true, slice_range, sym, ap, ◌∙◌, arith, Option, Some, None, IfSome, is_some, unwrap_or, PoolTable, block_of, is_live, place_of, pool_of, usable_bytes, region_of, IsWithin, is_used, FillsSpan}
+use Rattle.memb_core.proofs.Words.{◌≡◌, ℕ, ◌+◌, List, [], slice_range, sym, ap, ◌∙◌, arith, Option, Some, None, IfSome, is_some, unwrap_or, PoolTable, block_of, place_of, pool_of, IsWithin, FillsSpan}
 use Rattle.memb_core.specs.Code.Separation.{BlocksLieApart}
 use Rattle.memb_core.proofs.Blocks.{live_is}
-use Rattle.memb_core.proofs.Bytes.{block_inside, blocks_apart, block_is, bytes_read, live_below}
+use Rattle.memb_core.proofs.Bytes.{blocks_apart, block_is, bytes_read, live_below}
 
 module _ (pool : PoolTable) (fills : FillsSpan pool) (bytes : List ℕ) (within : IsWithin pool bytes) where
   read : (b : ℕ) (block : Option (List ℕ)) → block_of b (pool_of pool bytes) ≡ block
       → IfSome block (λ xs. xs ≡ slice_range bytes (pool.span.at + place_of pool b + 4) (pool.span.at + place_of pool b + 4 + pool.usable))
   read b None is = tt
   read b (Some xs) is =
-      let live : is_live b (pool_of pool bytes) ≡ true = ap is_some is in
-      let used : is_used b pool ≡ true = sym (live_is pool bytes b) ∙ live in
-      let there : xs ≡ usable_bytes pool (region_of pool bytes) b = ap (λ o. unwrap_or o []) (sym is ∙ block_is pool bytes b used) in
+      let live = ap is_some is in
+      let used = sym (live_is pool bytes b) ∙ live in
+      let there = ap (λ o. unwrap_or o []) (sym is ∙ block_is pool bytes b used) in
       there
       ∙ bytes_read pool fills bytes within b (live_below pool bytes b live)
       ∙ ap (λ k. slice_range bytes k (k + pool.usable)) (omega arith)
 
   pub lie_apart : BlocksLieApart pool bytes
-  lie_apart = grind (arith, block_inside, blocks_apart, read)
+  lie_apart = grind (arith, blocks_apart, read)

@@ -1,6 +1,6 @@
 -- What the flags of a pool's blocks, each of which says whether its block is used, say of the pool, where f has the bytes of
 -- each block.
-use Rattle.memb_core.proofs.Words.{◌≡◌, ◌≢◌, ℕ, zero, suc, ◌+◌, ◌≤◌, ◌<◌, Bool, true, false, not, List, [], ◌∷◌, length, get_or, set, refl, ap, arith, Some, None, is_none, filter, if◌then◌else◌, position, position_or_len, get_or-set_same, get_or-set_other, get_or_past, cases_eq, cases_lt, false≢true, BlockPool, PoolTable, is_live, first_unused, unused_count, with_block, blocks_from, usable_bytes, region_of, pool_of, is_used, replicate}
+use Rattle.memb_core.proofs.Words.{◌≡◌, ◌≢◌, ℕ, zero, suc, ◌+◌, ◌≤◌, ◌<◌, Bool, true, false, not, List, [], ◌∷◌, length, get_or, set, refl, ap, arith, Some, None, is_none, filter, if◌then◌else◌, position, position_or_len, get_or-set_same, get_or-set_other, get_or_past, false≢true, BlockPool, PoolTable, is_live, first_unused, unused_count, with_block, blocks_from, usable_bytes, region_of, pool_of, is_used, replicate}
 
 abbrev pub told : ℕ → (ℕ → List ℕ) → List Bool → BlockPool
 told usable f us = record { usable = usable; blocks = blocks_from f 0 us }
@@ -10,7 +10,7 @@ module _ (f : ℕ → List ℕ) where
       → get_or (blocks_from f n us) b None ≡ (if get_or us b false then Some (f (n + b)) else None)
   get_or-from n [] b = refl
   get_or-from n (u ∷ us) zero = grind arith
-  get_or-from n (u ∷ us) (suc b) = let later = get_or-from (n + 1) us b in grind arith
+  get_or-from n (u ∷ us) (suc b) = grind (arith, get_or-from (n + 1) us b)
 
   pub get_or-blocks : (us : List Bool) (b : ℕ) → get_or (blocks_from f 0 us) b None ≡ (if get_or us b false then Some (f b) else None)
   get_or-blocks us b = grind (arith, get_or-from)
@@ -19,7 +19,7 @@ module _ (f : ℕ → List ℕ) where
       × (position_or_len is_none (blocks_from f n us) ≡ position_or_len not us)
       × (length (filter is_none (blocks_from f n us)) ≡ length (filter not us))
   unused_from n [] = (refl, refl, refl)
-  unused_from n (u ∷ us) = let later = unused_from (n + 1) us in grind arith
+  unused_from n (u ∷ us) = grind (arith, unused_from (n + 1) us)
 
   pub all_unused : (n count : ℕ) → blocks_from f n (replicate count false) ≡ replicate count None
   all_unused n zero = refl
@@ -28,15 +28,15 @@ module _ (f : ℕ → List ℕ) where
   module _ (g : ℕ → List ℕ) where
     blocks-same : (n : ℕ) (us : List Bool) → ((b : ℕ) → n ≤ b → g b ≡ f b) → blocks_from g n us ≡ blocks_from f n us
     blocks-same n [] same = refl
-    blocks-same n (u ∷ us) same = let later = blocks-same (n + 1) us (λ b le. same b (omega arith)) in grind (arith, same n)
+    blocks-same n (u ∷ us) same = grind (arith, blocks-same (n + 1) us (λ b le. same b (omega arith)))
 
     blocks-set : (n : ℕ) (us : List Bool) (c b : ℕ) (u : Bool) → b ≡ n + c → c < length us → ((k : ℕ) → k ≢ b → g k ≡ f k)
         → blocks_from g n (set us c u) ≡ set (blocks_from f n us) c (if u then Some (g b) else None)
     blocks-set n [] c b u is below same = absurd (omega arith)
     blocks-set n (x ∷ us) zero b u is below same =
-        let later = blocks-same (n + 1) us (λ k le. same k (omega arith)) in grind arith
+        grind (arith, blocks-same (n + 1) us (λ k le. same k (omega arith)))
     blocks-set n (x ∷ us) (suc c) b u is below same =
-        let later = blocks-set (n + 1) us c b u (omega arith) (omega arith) same in grind (arith, same n)
+        grind (arith, blocks-set (n + 1) us c b u (omega arith) (omega arith) same)
 
 module _ (usable : ℕ) (f : ℕ → List ℕ) (us : List Bool) where
   module _ (b : ℕ) where
@@ -49,7 +49,7 @@ module _ (usable : ℕ) (f : ℕ → List ℕ) (us : List Bool) where
     told_set g u below same = let blocks = blocks-set f g 0 us b b u (omega arith) below same in cc
 
   pub first_unused_told : first_unused (told usable f us) ≡ position not us
-  first_unused_told = let unused = unused_from f 0 us in grind arith
+  first_unused_told = grind (arith, unused_from f 0 us)
 
   pub unused_count_told : unused_count (told usable f us) ≡ length (filter not us)
   unused_count_told = (unused_from f 0 us).2
@@ -57,11 +57,11 @@ module _ (usable : ℕ) (f : ℕ → List ℕ) (us : List Bool) where
 module _ (us : List Bool) (b : ℕ) where
   -- a used block is one of the pool's
   pub used_below : get_or us b false ≡ true → b < length us
-  used_below used = grind (arith, cases_lt, false≢true, get_or_past)
+  used_below used = grind (arith, false≢true, get_or_past)
 
   -- a block that was used still is when another one, or the same, is allocated
   pub still_used : (c : ℕ) → get_or us c false ≡ true → get_or (set us b true) c false ≡ true
-  still_used c used = grind (arith, cases_eq, get_or-set_same, used_below, get_or-set_other)
+  still_used c used = grind (arith, get_or-set_same, used_below, get_or-set_other)
 
 module _ (pool : PoolTable) (bytes : List ℕ) where
   abbrev f : ℕ → List ℕ

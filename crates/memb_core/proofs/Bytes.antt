@@ -61,7 +61,7 @@ module _ (pool : PoolTable) (fills : FillsSpan pool) (B : List ℕ) (within : Is
         → link_of pool B b ≡ named_by
         (from_le_bytes w32 (slice_range B (pool.span.at + place_of pool b) (pool.span.at + place_of pool b + 4)))
     unfolding link_of
-    link_read below = grind (arith, block_inside, range-range)
+    link_read below = grind (arith, range-range)
 
     length-usable : b < count → length (usable_bytes pool R b) ≡ pool.usable
     length-usable below = grind (arith, block_inside, length-region, length-range)
@@ -117,7 +117,7 @@ module _ (pool : PoolTable) (fills : FillsSpan pool) (B : List ℕ) (within : Is
         usable_others in cc
 
     pub pool_written : is_used c pool ≡ true → pool_of pool C ≡ with_bytes c at ws (pool_of pool B)
-    pool_written used = let is = told_written in let same = set-get_or pool.used c false in grind (arith, block_is)
+    pool_written used = grind (arith, block_is, set-get_or pool.used c false, told_written)
 
   -- block c is allocated, its usable bytes all 0
   pub pool_allocated : (c : ℕ) → c < count

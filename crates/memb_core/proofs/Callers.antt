@@ -2,7 +2,6 @@
 -- and the lists show depends only on the span's bytes, so it is unchanged when only bytes of another span changed.
 use Rattle.memb_core.proofs.Words.{◌≡◌, ℕ, ◌+◌, ◌≤◌, ◌⊎◌, List, arith, Contents, PoolTable, ListHeads, ListName, region_of, pool_of, IsWithin, KeepsToSpan, link_of, list_of, AreLinked}
 use Rattle.arena_core.specs.Code.Outside.{ChangesOnly}
-use Rattle.memb_core.proofs.Linked.{still_linked}
 
 pub IsWithin-kept : {old new : PoolTable} {before after : Contents} → KeepsToSpan old new before after → IsWithin old before.bytes
     → IsWithin new after.bytes
@@ -15,14 +14,14 @@ module _ (pool : PoolTable) (at len : ℕ) (old new : List ℕ) (changes : Chang
 
   link_same : link_of pool new ≡ link_of pool old
   unfolding link_of
-  link_same = let same = region_same in grind arith
+  link_same = grind arith
 
   pub pool_of-elsewhere : pool_of pool new ≡ pool_of pool old
   unfolding pool_of
-  pool_of-elsewhere = let same = region_same in grind arith
+  pool_of-elsewhere = grind arith
 
   pub list_of-elsewhere : (name : ListName) (lists : ListHeads) → list_of name lists pool new ≡ list_of name lists pool old
-  list_of-elsewhere name lists = let same = link_same in grind arith
+  list_of-elsewhere name lists = grind (arith, link_same)
 
   pub AreLinked-elsewhere : (lists : ListHeads) → AreLinked lists pool old → AreLinked lists pool new
-  AreLinked-elsewhere lists linked = let same = link_same in grind (arith, still_linked)
+  AreLinked-elsewhere lists linked = grind (arith, link_same)

@@ -8,7 +8,7 @@ along_is : (n : ℕ) (link : ℕ → Option ℕ) (start : Option ℕ) (list : Li
 along_is zero link start [] names few = refl
 along_is zero link start (b ∷ list) names few = absurd (omega arith)
 along_is (suc n) link start [] names few = rw names refl
-along_is (suc n) link start (b ∷ list) names few = let later = along_is n link (link b) list names.1 in grind arith
+along_is (suc n) link start (b ∷ list) names few = grind (arith, along_is n link (link b) list names.1)
 
 length-along : (n : ℕ) (link : ℕ → Option ℕ) (start : Option ℕ) → length (along n link start) ≤ n
 length-along zero link start = omega arith
@@ -48,15 +48,14 @@ module _ (link : ℕ → Option ℕ) where
   pub next_named : (start : Option ℕ) (b : ℕ) (list : List ℕ) → Names link start list → has_number b list ≡ true
       → link b ≡ next_of b list
   next_named start b [] names h = absurd (cc)
-  next_named start b (x ∷ list) names h = let later = next_named (link x) b list names.1 in
-      grind (arith, cases_eq, eq-eqb, head_named, ne_eqb, has_cases)
+  next_named start b (x ∷ list) names h = grind (arith, cases_eq, eq-eqb, head_named, ne_eqb, has_cases, next_named (link x) b list names.1)
 
   -- a link of a block of the list names a block of the list
   pub link_listed : (P : ℕ → Type 0) (start : Option ℕ) (b : ℕ) (list : List ℕ) → Names link start list
       → has_number b list ≡ true → ((c : ℕ) → has_number c list ≡ true → P c) → IfSome (link b) P
   link_listed P start b [] names h all = absurd (cc)
   link_listed P start b (x ∷ []) names h all = grind arith
-  link_listed P start b (x ∷ (y ∷ list)) names h all = let later = link_listed P (link x) b (y ∷ list) names.1 in grind arith
+  link_listed P start b (x ∷ (y ∷ list)) names h all = grind (arith, link_listed P (link x) b (y ∷ list) names.1)
 
   -- the link of the block at a position names the next one
   pub names_at : (start : Option ℕ) (i b : ℕ) (list : List ℕ) → Names link start list → slice_get list i ≡ Some b
@@ -68,16 +67,21 @@ module _ (link : ℕ → Option ℕ) where
   pub walk_more : (start : Option ℕ) (b : ℕ) (items list : List ℕ) → Names link start list → IsWalked (Some b) items list
       → IsWalked (link b) (items ++ b ∷ []) list
   walk_more start b items list names walked =
-      let n = length items in let long = length-append items (b ∷ []) in let at : slice_get list n ≡ Some b = sym walked.next in
-      let more = take_more list n 0 (slice_get_within list n b at) in let read = get_or_from_slice_get list n b 0 at in
-      let next = names_at start n b list names at in grind arith
+      let n = length items in let long = length-append items (b ∷ []) in let at = sym walked.next in
+      grind (
+        arith,
+        names_at start n b list names at,
+        get_or_from_slice_get list n b 0 at,
+        take_more list n 0
+            (slice_get_within list n b at),
+      )
 
   module _ (new : ℕ → Option ℕ) where
     -- links that are the same at each block of the list
     pub names_agree : (start : Option ℕ) (list : List ℕ) → ((c : ℕ) → has_number c list ≡ true → new c ≡ link c)
         → Names link start list → Names new start list
     names_agree start [] same names = names
-    names_agree start (b ∷ list) same names = let later = names_agree (link b) list in grind arith
+    names_agree start (b ∷ list) same names = grind (arith, names_agree (link b) list)
 
     -- the block at position i + 1 is removed: the one before it gets its link
     pub names_without : (start : Option ℕ) (prev b i : ℕ) (list : List ℕ) → slice_get list i ≡ Some prev → slice_get list (suc i) ≡ Some b
@@ -87,12 +91,19 @@ module _ (link : ℕ → Option ℕ) where
     names_without start prev b i [] before at distinct here others names = absurd (cc)
     names_without start prev b zero (x ∷ []) before at distinct here others names = absurd (cc)
     names_without start prev b zero (x ∷ (y ∷ list)) before at distinct here others names =
-        let left = without_head b (y ∷ list) distinct.1 at in let kept = names_agree (link y) list in
-        grind (arith, none_parts, ne_eqb, has_later, differ)
+        grind (arith, none_parts, ne_eqb, has_later, differ, names_agree (link y) list, without_head b (y ∷ list) distinct.1 at)
     names_without start prev b (suc i) (x ∷ list) before at distinct here others names =
-        let later = names_without (link x) prev b i list before at distinct.1 here in
-        let had = has_at i prev list before in let had' = has_at (suc i) b list at in
-        grind (arith, ne_eqb, differ, has_first, has_later)
+        grind (
+          arith,
+          ne_eqb,
+          differ,
+          has_first,
+          has_later,
+          has_at (suc i) b list at,
+          has_at i prev list before,
+          names_without
+              (link x) prev b i list before at distinct.1 here,
+        )
 
     -- b is put after prev: it gets prev's link, and prev's link then names it
     pub names_behind : (start : Option ℕ) (prev b : ℕ) (list : List ℕ) → has_number prev list ≡ true
@@ -103,6 +114,6 @@ module _ (link : ℕ → Option ℕ) where
     names_behind start prev b (x ∷ list) h none distinct at_b at_prev others names =
         let later = names_behind (link x) prev b list in let kept = names_agree (link x) list in
         elim (cases_eq x prev) [
-          | inl e ↦ rw (behind_here prev b x list e) (grind (arith, has_later, differ))
-          | inr ne ↦ rw (behind_later prev b x list ne) (grind (arith, has_first, has_cases, none_parts, has_later))
+          | inl e ↦ rw (behind_here prev b x list e) (grind (arith, differ))
+          | inr ne ↦ rw (behind_later prev b x list ne) (grind (arith, has_cases, none_parts, has_later))
         ]

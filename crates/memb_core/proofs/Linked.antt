@@ -67,11 +67,11 @@ module _ {name : ListName} {pool : PoolTable} {old new : ListHeads} {before afte
     others ne =
         let was = linked.each other in
         let names : Names (link_of pool after) (start_of other new) (list_of other old pool before) =
-        grind (arith, names_agree, changes.starts other) in
+        grind (arith, names_agree) in
         is_linked other new pool after (list_of other old pool before) linked.few names was.distinct was.used
 
     each : IsLinked other new pool after
-    each = grind (arith, same_name, mine, others)
+    each = grind (arith, mine, others)
 
   module _ (b : ℕ) where
     apart_from : (other : ListName) → other ≢ name → has_number b (list_of name new pool after) ≡ true
@@ -80,7 +80,7 @@ module _ {name : ListName} {pool : PoolTable} {old new : ListHeads} {before afte
 
     apart : (one other : ListName) → one ≢ other → has_number b (list_of one new pool after) ≡ true
         → has_number b (list_of other new pool after) ≡ false
-    apart one other ne h = grind (arith, same_name, apart_from)
+    apart one other ne h = grind (arith, apart_from)
 
   pub made : pool_of pool after ≡ pool_of pool before → (list_of name new pool after ≡ list) × LeavesOthers name pool old new before after
   made blocks = (
@@ -129,10 +129,17 @@ module _ (name : ListName) {pool : PoolTable} {old : ListHeads} {before : List �
         → ((c : ℕ) → c ≢ prev → link_of pool after c ≡ link_of pool before c)
         → Changes name pool old old before after (without b list)
     later_out i prev after within at_prev at here rest =
-        let had = has_at i prev list at_prev in
-        let names = names_without (link_of pool before) (link_of pool after) (start_of name old) prev b i list at_prev at was.distinct here
-        (λ c _. rest c) was.ends in
-        grind (arith, distinct_left, has_left, apart_before, differ)
+        grind (
+          arith,
+          distinct_left,
+          has_left,
+          apart_before,
+          differ,
+          names_without (link_of pool before) (link_of pool after)
+              (start_of name old) prev b i list at_prev at was.distinct here
+              (λ c _. rest c) was.ends,
+          has_at i prev list at_prev,
+        )
 
   module _ (b : ℕ) (used : is_used b pool ≡ true) (free : (other : ListName) → has_number b (list_of other old pool before) ≡ false)
       (after : List ℕ) (within : IsWithin pool after) where
@@ -168,4 +175,4 @@ pub absent_after : {name : ListName} {pool : PoolTable} {old new : ListHeads} {b
     → LeavesOthers name pool old new before after → list_of name new pool after ≡ without b (list_of name old pool before)
     → ((other : ListName) → other ≢ name → has_number b (list_of other old pool before) ≡ false) → (other : ListName)
     → has_number b (list_of other new pool after) ≡ false
-absent_after {name = name} b others taken absent other = grind (arith, same_name, has_left, others)
+absent_after {name = name} b others taken absent other = grind (arith, has_left, others)

@@ -36,12 +36,12 @@ only x t e = cc
 
 pub no_tail : (list : List ℕ) → tail_of list ≡ None → list ≡ []
 no_tail [] e = refl
-no_tail (x ∷ list) e = absurd (let some = slice_get-get_or (x ∷ list) (length list) 0 (omega arith) in grind arith)
+no_tail (x ∷ list) e = absurd (grind (arith, slice_get-get_or (x ∷ list) (length list) 0 (omega arith)))
 
 module _ (b : ℕ) where
   pub without_none : (list : List ℕ) → has_number b list ≡ false → without b list ≡ list
   without_none [] none = refl
-  without_none (x ∷ list) none = let later = without_none list in grind arith
+  without_none (x ∷ list) none = grind (arith, without_none list)
 
   module _ (x : ℕ) where
     module _ (list : List ℕ) where
@@ -55,31 +55,32 @@ module _ (b : ℕ) where
   -- the head is removed
   pub without_head : (list : List ℕ) → AreDistinct list → head_of list ≡ Some b → without b list ≡ popped list
   without_head [] distinct e = refl
-  without_head (x ∷ list) distinct e = grind (arith, without_first, without_none)
+  without_head (x ∷ list) distinct e = grind (arith, without_none)
 
   -- a number is left if it was there, and is another one
   pub has_left : (c : ℕ) (list : List ℕ) → has_number c (without b list) ≡ (if eqb b c then false else has_number c list)
   has_left c [] = grind arith
-  has_left c (x ∷ list) = let later = has_left c list in grind arith
+  has_left c (x ∷ list) = grind (arith, has_left c list)
 
   pub distinct_left : (list : List ℕ) → AreDistinct list → AreDistinct (without b list)
   distinct_left [] distinct = tt
-  distinct_left (x ∷ list) distinct = let later = distinct_left list distinct.1 in
-      grind (arith, cases_eq, without_first, without_later, has_left)
+  distinct_left (x ∷ list) distinct = grind (arith, cases_eq, without_first, without_later, has_left, distinct_left list distinct.1)
 
 -- at most one number is removed, so distinct numbers below n are at most n
 length-left : (b : ℕ) (list : List ℕ) → AreDistinct list → length list ≤ suc (length (without b list))
 length-left b [] distinct = omega arith
-length-left b (x ∷ list) distinct = let later = length-left b list distinct.1 in
-    grind (arith, cases_eq, without_first, without_later, without_none)
+length-left b (x ∷ list) distinct = grind (arith, cases_eq, without_first, without_later, without_none, length-left b list distinct.1)
 
 pub at_most : (n : ℕ) (list : List ℕ) → AreDistinct list → ((b : ℕ) → has_number b list ≡ true → b < n) → length list ≤ n
 at_most zero [] distinct below = omega arith
 at_most zero (x ∷ list) distinct below = absurd (omega (arith, below x (has_first x list)))
 at_most (suc n) list distinct below =
-    let fewer = at_most n (without n list) (distinct_left n list distinct)
-    (λ b had. let left = has_left n b list in grind (arith, below b)) in
-    omega (arith, length-left n list distinct)
+    omega (
+      arith,
+      length-left n list distinct,
+      at_most n (without n list) (distinct_left n list distinct)
+          (λ b had. grind (arith, has_left n b list)),
+    )
 
 pub has_at : (i b : ℕ) (list : List ℕ) → slice_get list i ≡ Some b → has_number b list ≡ true
 has_at i b [] at = absurd (cc)
@@ -90,14 +91,13 @@ module _ (b : ℕ) where
   -- the position of a number
   place_below : (list : List ℕ) → has_number b list ≡ true → position_or_len (λ other. eqb other b) list < length list
   place_below [] had = absurd (cc)
-  place_below (x ∷ list) had = let later = place_below list in grind arith
+  place_below (x ∷ list) had = grind (arith, place_below list)
 
   pub no_place : (list : List ℕ) → position (λ other. eqb other b) list ≡ None → has_number b list ≡ false
-  no_place list none = grind (arith, cases_Bool, cond-true, lt-ltb, place_below)
+  no_place list none = grind (arith, cond-true, lt-ltb, place_below)
 
   pub found : (place : ℕ) (list : List ℕ) → Some place ≡ position (λ other. eqb other b) list → slice_get list place ≡ Some b
-  found place list e = let some = position-Some (λ other. eqb other b) list place 0 (sym e) in
-      grind (arith, eqb-true, slice_get-get_or)
+  found place list e = grind (arith, eqb-true, slice_get-get_or, position-Some (λ other. eqb other b) list place 0 (sym e))
 
 module _ (prev : ℕ) where
   module _ (b : ℕ) where
@@ -111,20 +111,28 @@ module _ (prev : ℕ) where
 
     pub had_behind : (c : ℕ) (list : List ℕ) → has_number c (put_behind prev b list) ≡ true → (b ≡ c) ⊎ (has_number c list ≡ true)
     had_behind c [] h = inr h
-    had_behind c (x ∷ list) h' = let later = had_behind c list in grind arith
+    had_behind c (x ∷ list) h' = grind (arith, had_behind c list)
 
     pub distinct_behind : (list : List ℕ) → has_number b list ≡ false → AreDistinct list → AreDistinct (put_behind prev b list)
     distinct_behind [] none distinct = tt
     distinct_behind (x ∷ list) none distinct = let later = distinct_behind list in
         elim (cases_eq x prev) [
-          | inl e ↦ rw (behind_here x list e) (grind (arith, none_parts, none_from, cases_Bool, false≢true))
-          | inr ne ↦ rw (behind_later x list ne) (grind (arith, none_parts, none_from, cases_Bool, had_behind, false≢true))
+          | inl e ↦ rw (behind_here x list e) (grind (arith, none_from, cases_Bool, false≢true))
+          | inr ne ↦ rw (behind_later x list ne) (grind (arith, none_from, cases_Bool, had_behind, false≢true))
         ]
 
 module _ (t b : ℕ) where
   pub at_tail : (list : List ℕ) → AreDistinct list → tail_of list ≡ Some t
       → (has_number t list ≡ true) × (put_behind t b list ≡ list ++ b ∷ []) × (without t list ≡ chopped list)
   at_tail [] distinct e = absurd (cc)
-  at_tail (x ∷ []) distinct e = let same = only x t e in grind (arith, behind_here, without_first)
-  at_tail (x ∷ (y ∷ list)) distinct e = let later = at_tail (y ∷ list) distinct.1 in
-      grind (arith, tail_later, behind_later, without_later, differ, chopped_later)
+  at_tail (x ∷ []) distinct e = grind (arith, behind_here, without_first)
+  at_tail (x ∷ (y ∷ list)) distinct e = grind (
+    arith,
+    tail_later,
+    behind_later,
+    without_later,
+    differ,
+    chopped_later,
+    at_tail
+        (y ∷ list) distinct.1,
+  )

@@ -1,13 +1,9 @@
 -- Blocks that are apart share no byte of the arena, and each one's bytes are read from its part.
-use Rattle.mmem_core.proofs.Words.{◌≡◌, ◌≢◌, ℕ, ◌⊎◌, List, Option, Some, None, refl, ap, ◌∙◌, arith, option_map, cases_lt, IsName, number_of, Place, place_in, LieApart, extent_of, bytes_at_place, BlocksLieApart, HandleTable, IsWithin, region_of}
+use Rattle.mmem_core.proofs.Words.{◌≡◌, ◌≢◌, ℕ, ◌⊎◌, List, Option, Some, None, refl, ap, ◌∙◌, arith, option_map, cases_lt, number_of, Place, place_in, LieApart, extent_of, bytes_at_place, BlocksLieApart, HandleTable, IsWithin, region_of}
 use Rattle.arena_core.specs.Code.Extents.{LiesIn, AreApart}
 use Rattle.mmem_core.proofs.PlaceLemmas.{some_size}
 use Rattle.mmem_core.proofs.StoreLemmas.{block_in, get_or-blocks}
 use Rattle.mmem_core.proofs.TableLemmas.{bytes_are}
-
--- two names have two numbers
-number_of-differs : (p h q k : ℕ) → IsName p h → IsName q k → (p ≢ q) ⊎ (h ≢ k) → number_of p h ≢ number_of q k
-number_of-differs p h q k named named' differ = grind arith
 
 module _ (table : HandleTable) (lie : LieApart table.places table.span.len) where
   inside : (i : ℕ) (place : Place) → place_in table.places i ≡ Some place → LiesIn table.span (extent_of table place)

@@ -4,7 +4,7 @@ use Rattle.mmem_core.specs.declared.mmem.Mmem.TheInside.{Inside}
 use Rattle.mmem_core.proofs.PlaceLemmas.{placed, len_le_room, live_from_room, live_below, bytes_moved-same, bytes_moved-set, room_moved-same}
 use Rattle.mmem_core.proofs.RingLemmas.{shown, hidden, ends, next_below, linked_slid}
 use Rattle.mmem_core.proofs.Shares.{rooms_kept}
-use Rattle.mmem_core.proofs.Sliding.{AreSliding, sliding_first, sliding_more, last_is_end, past, lowered_down, lowered_room, lowered_order}
+use Rattle.mmem_core.proofs.Sliding.{AreSliding, sliding_more, last_is_end, past, lowered_room, lowered_order}
 use Rattle.mmem_core.proofs.Sliding as sliding
 use Rattle.mmem_core.proofs.TableLemmas.{with_place, moved, unused_is}
 
@@ -33,7 +33,7 @@ pub midway_first : (m : Inside) (arena : Contents) (next : Option ℕ) → IsLai
     → LieApart m.places m.span.len → m.span.len ≤ 65536 → m.slid < 2 ^ 64 → m.span.at + m.span.len ≤ length arena.bytes
     → Names (get_or m.order.behind 272 0) next → IfSome next (λ number. number < 272) → IsMidway m m arena arena next 0
 midway_first m arena next laid_out lie small slid within next_is below =
-    let none = ends (shown laid_out) in grind (arith, bytes_moved-same)
+    grind (arith, bytes_moved-same, ends (shown laid_out))
 
 module _ {old now : Inside} {before after : Contents} {next : Option ℕ} {number end : ℕ} (is : next ≡ Some number)
     (midway : IsMidway old now before after next end) where
@@ -78,7 +78,6 @@ module _ {old now : Inside} {before after : Contents} {next : Option ℕ} {numbe
         before after' next' (end + up4 place.len)
     midway_more slid after' next' slid_is after_is next_is below =
         let lowered = placed end place.len in
-        let ys = slice_set now.places number lowered in
         let new = with_place (table_of now) slid number lowered in
         let lie = midway.sliding.apart in
         let n = len_le_room place.len in
@@ -96,7 +95,7 @@ module _ {old now : Inside} {before after : Contents} {next : Option ℕ} {numbe
         let more = sliding_more midway.sliding number place live down lowest in
         let rooms = lowered_room midway.sliding number place live down lowest in
         record {
-          same = ap (λ (m : Inside). record m { places = ys; slid = slid }) midway.same;
+          same = ap (λ (m : Inside). record m { places = (slice_set now.places number lowered); slid = slid }) midway.same;
           same_rooms = λ i. rooms i ∙ midway.same_rooms i;
           laid_out = record {
             linked = hidden (linked_slid lie more.apart (length-set now.places number lowered) rooms

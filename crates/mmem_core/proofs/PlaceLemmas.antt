@@ -45,9 +45,9 @@ module _ (xs : List (Option Place)) (i : ℕ) (p : Option Place) (below : i < le
       → (at_of p + room_of p ≤ at_of (place_in xs j)) ⊎ (at_of (place_in xs j) + room_of (place_in xs j) ≤ at_of p))
       → LieApart (slice_set xs i p) size
   LieApart-set size lie inside some clear = record {
-    inside = λ j. let here = entry j in grind (arith, lie.inside j);
-    apart = λ j k ne one other le. let here = entry j in let there = entry k in grind (arith, clear j, clear k, lie.apart j k ne);
-    no_empty = λ j live. let here = entry j in grind (arith, some, lie.no_empty j);
+    inside = λ j. grind (arith, lie.inside j, entry j);
+    apart = λ j k ne one other le. grind (arith, clear j, clear k, lie.apart j k ne, entry k, entry j);
+    no_empty = λ j live. grind (arith, some, lie.no_empty j, entry j);
   }
 
 -- where the last block ends
@@ -71,8 +71,7 @@ module _ (places : List (Option Place)) (i n : ℕ) (below : i < length places) 
 
   pub last_end-added : last_end (slice_set places i fresh) ≡ last_end places + up4 n
   last_end-added =
-      let new = get_or-set_same places i fresh None below in let new_at = ap at_of new in
-      grind (arith, last_le, cases_eq, get_or-set_other, end_le_last)
+      let new = get_or-set_same places i fresh None below in grind (arith, last_le, cases_eq, get_or-set_other, end_le_last, ap at_of new)
 
   pub LieApart-added : (size : ℕ) → LieApart places size → 1 ≤ n → last_end places + up4 n ≤ size → LieApart (slice_set places i fresh) size
   LieApart-added size lie some room = LieApart-set places i fresh below size lie room (λ _. omega arith)
@@ -98,7 +97,7 @@ module _ (places : List (Option Place)) (size i : ℕ) (place : Place) (lie : Li
 pub begins_behind : (xs : List (Option Place)) (i n : ℕ) → i < length xs → place_in xs i ≡ None
     → (ys : List (Option Place)) → ys ≡ slice_set xs i (placed (last_end xs) n)
     → IsSomeAnd (place_in ys i) (λ (place : Place). place.at ≡ last_end (slice_set ys i None))
-begins_behind xs i n below none ys is = let same = set-get_or xs i None in grind (arith, get_or-set_same, set-set)
+begins_behind xs i n below none ys is = grind (arith, get_or-set_same, set-set, set-get_or xs i None)
 
 -- the number of bytes that a change of the positions moves
 pub room_moved-same : (p : Option Place) → room_moved p p ≡ 0

@@ -15,9 +15,9 @@ no_links = record {
     entry = inl ends;
     lowest = λ j some _. absurd (omega (arith, ap room_of (place_in-none 272 j), some));
   });
-  back = λ i entry. let only = no_entry i entry in grind (arith, ends);
+  back = λ i entry. grind (arith, ends, no_entry i entry);
   last = λ i entry. rw (no_entry i entry) (inl ends);
-  forth = λ i entry. let only = no_entry i entry in grind (arith, ends);
+  forth = λ i entry. grind (arith, ends, no_entry i entry);
 }
   where
     ends : get_or {A = ℕ} (replicate 273 272) 272 0 ≡ 272
@@ -49,9 +49,15 @@ module _ {places : List (Option Place)} {order : Order} (linked : IsLinked place
   pub last_is : (size : ℕ) → LieApart places size → last_end places ≡ end_at places (get_or order.before 272 0)
   last_is size lie =
       let last = get_or order.before 272 0 in let forth = linked.forth 272 (inl refl) in
-      let next = linked.next last (linked.last 272 (inl refl)) in
       let each : (i : ℕ) → at_of (place_in places i) + room_of (place_in places i) ≤ end_at places last =
-      λ i. grind (arith, next.lowest i, lie.no_empty i, lie.apart i last, lie.apart last i, cases_lt) in
+      λ i. grind (
+        arith,
+        (linked.next last (linked.last 272 (inl refl))).lowest i,
+        lie.no_empty i,
+        lie.apart i last,
+        lie.apart last i,
+        cases_lt,
+      ) in
       grind (arith, last_le, end_le_last)
 
 -- blocks that slide, in the order that they have
@@ -80,9 +86,9 @@ module _ {xs ys : List (Option Place)} {size size' : ℕ} (lie : LieApart xs siz
         names = same ∙ linked.names;
         entries_before = linked.entries_before;
         entries_behind = linked.entries_behind;
-        next = λ i entry. let next = linked.next i (was i entry) in record {
+        next = λ i entry. record {
           entry = grind (arith, stays_behind, rooms);
-          lowest = λ j some behind. grind (arith, next.lowest j, was_behind i j, no_higher, rooms);
+          lowest = λ j some behind. grind (arith, (linked.next i (was i entry)).lowest j, was_behind i j, no_higher, rooms);
         };
         back = λ i entry. linked.back i (was i entry);
         last = λ i entry. is (get_or order.before i 0) (linked.last i (was i entry));
@@ -159,8 +165,8 @@ module _ {xs : List (Option Place)} {order : Order} (links : IsLinked xs order) 
     | inl e ↦ grind (arith, behind_x, place_x, place_other, cases_eq, end_le_last)
     | inr ne ↦ elim (cases_eq i last) [
       | inl e ↦ grind (arith, behind_last, place_x, place_other, cases_eq, end_le_last, none_behind)
-      | inr ne' ↦ let next = links.next i (was_entry i entry ne) in let other = next_other i (was_entry i entry ne) ne' in
-          grind (arith, behind_other, place_x, place_other, cases_eq, end_le_last, next.lowest)
+      | inr ne' ↦ let other = next_other i (was_entry i entry ne) ne' in
+          grind (arith, behind_other, place_x, place_other, cases_eq, end_le_last, (links.next i (was_entry i entry ne)).lowest)
     ]
   ]
 
@@ -285,8 +291,7 @@ module _ {xs : List (Option Place)} {order : Order} {size : ℕ} (chain : IsLink
     next_of_left low n ne next past le = let there = place_else n ne in record {
       entry = grind (arith, same_end);
       lowest = λ j some behind. let here = left_live j some in let some' : 0 < room_of (place_in xs j) = grind arith in
-          let lowest = next.lowest j some' (past j here.0 some' (omega (arith, behind, ap at_of here.1, same_end))) in
-          grind arith;
+          grind (arith, next.lowest j some' (past j here.0 some' (omega (arith, behind, ap at_of here.1, same_end))));
     }
 
     next_left : IsNext left (end_at left i) (get_or shorter.behind i 0)
@@ -316,9 +321,10 @@ module _ {xs : List (Option Place)} {order : Order} {size : ℕ} (chain : IsLink
       | inl e ↦ grind (arith, at_lower, at_higher)
       | inr ne ↦ grind (arith, behind_else, before_else, before_higher)
     ];
-    last = λ i entry. let was = entry_left i entry in let forth = chain.forth i was.1 in elim (cases_eq i higher) [
+    last = λ i entry. let was = entry_left i entry in elim (cases_eq i higher) [
       | inl e ↦ rw (ap (λ k. get_or shorter.before k 0) e ∙ at_higher) (still_entry lower lower_ne lower_entry)
-      | inr ne ↦ rw (before_else i ne) (still_entry (get_or order.before i 0) (λ e. ne (sym forth ∙ ap (λ k. get_or order.behind k 0) e))
+      | inr ne ↦ rw (before_else i ne) (still_entry (get_or order.before i 0)
+          (λ e. ne (sym (chain.forth i was.1) ∙ ap (λ k. get_or order.behind k 0) e))
           (chain.last i was.1))
     ];
     forth = λ i entry. let was = entry_left i entry in let forth = chain.forth i was.1 in elim (cases_eq i higher) [

@@ -7,13 +7,13 @@ use Rattle.mmem_core.proofs.PlaceLemmas.{get_or-same, place_in-none}
 pub same_sum : (f g : ℕ → ℕ) (from n : ℕ) → ((i : ℕ) → from ≤ i → i < from + n → f i ≡ g i)
     → sum_by f (range_with_len from n) ≡ sum_by g (range_with_len from n)
 same_sum f g from zero same = refl
-same_sum f g from (suc n) same = let later = same_sum f g (from + 1) n in grind (arith, sum_by-cons)
+same_sum f g from (suc n) same = grind (arith, sum_by-cons, same_sum f g (from + 1) n)
 
 -- and that agree on all of these but one
 sum_changed : (f g : ℕ → ℕ) (h from n : ℕ) → from ≤ h → h < from + n → ((i : ℕ) → i ≢ h → f i ≡ g i)
     → sum_by f (range_with_len from n) + g h ≡ sum_by g (range_with_len from n) + f h
 sum_changed f g h from zero low high same = absurd (omega (arith, low, high))
-sum_changed f g h from (suc n) low high same = let later = sum_changed f g h (from + 1) n in grind (arith, sum_by-cons, cases_eq, same_sum)
+sum_changed f g h from (suc n) low high same = grind (arith, sum_by-cons, cases_eq, same_sum, sum_changed f g h (from + 1) n)
 
 -- no block is live
 room_by-none : (n p : ℕ) → room_by p (replicate n None) ≡ 0
@@ -46,13 +46,19 @@ module _ (quota : ℕ) where
       → sum_by (λ n. n) taken ≤ quota * owners
   sum_within [] owners each = omega arith
   sum_within (n ∷ taken) zero each =
-      let later = sum_within taken zero (λ i. omega (arith, each (suc i), no_share (suc i))) in
-      omega (arith, sum_by-cons (λ n. n) n taken, each 0, later)
+      omega (arith, sum_by-cons (λ n. n) n taken, each 0, sum_within taken zero (λ i. omega (arith, each (suc i), no_share (suc i))))
   sum_within (n ∷ taken) (suc owners) each =
-      let later = sum_within taken owners (λ i. omega (arith, each (suc i), later_share owners i)) in
       let first : share quota (suc owners) 0 ≡ quota = grind (arith, nat_tests) in
       let product : quota * suc owners ≡ quota + quota * owners = omega (arith, mul-suc quota owners) in
-      omega (arith, sum_by-cons (λ n. n) n taken, each 0, first, later, product)
+      omega (
+        arith,
+        sum_by-cons (λ n. n) n taken,
+        each 0,
+        first,
+        sum_within taken owners
+            (λ i. omega (arith, each (suc i), later_share owners i)),
+        product,
+      )
 
   -- a share is the quota, or nothing
   share_of_owner : (owners p : ℕ) → 3 ≤ p → p ≤ 2 + owners → share quota owners (p - 3) ≡ quota
@@ -82,13 +88,18 @@ module _ (quotas : Quotas) (places : List (Option Place)) (taken : List ℕ) (us
   share_is_there quota p each low high owner =
       let entry : p - 3 < length taken = omega (arith, shared.entries, low, high) in
       let all = slice_set taken (p - 3) quota in
-      let most = sum_within quota all quotas.owners
-      (λ i. elim (cases_eq i (p - 3)) [
-        | inl here ↦
-            grind (arith, get_or-set_same, share_of_owner)
-        | inr other ↦ omega (arith, get_or-set_other taken (p - 3) i quota 0 other, shared.within quota each i)
-      ]) in
-      omega (arith, most, sum_by-set (λ n. n) taken (p - 3) quota 0 entry, shared.total, shared.fit quota each)
+      omega (
+        arith,
+        sum_by-set (λ n. n) taken (p - 3) quota 0 entry,
+        shared.total,
+        shared.fit quota each,
+        sum_within quota all quotas.owners
+            (λ i. elim (cases_eq i (p - 3)) [
+              | inl here ↦
+                  grind (arith, get_or-set_same, share_of_owner)
+              | inr other ↦ omega (arith, get_or-set_other taken (p - 3) i quota 0 other, shared.within quota each i)
+            ]),
+      )
 
   pub rooms_kept : (new : List (Option Place)) → ((i : ℕ) → room_of (place_in new i) ≡ room_of (place_in places i))
       → AreShared quotas new taken used size

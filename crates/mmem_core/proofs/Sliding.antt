@@ -18,7 +18,7 @@ to_slide-first : (p : Option Place) → to_slide 0 p ≡ room_of p
 to_slide-first p = grind (arith, nat_tests)
 
 pub sliding_first : (size : ℕ) (xs : List (Option Place)) → LieApart xs size → AreSliding size (sum_by room_of xs) 0 xs
-sliding_first size xs lie = let all = ap (λ f. sum_by f xs) (λ k p. to_slide-first p k) in grind arith
+sliding_first size xs lie = grind (arith, ap (λ f. sum_by f xs) (λ k p. to_slide-first p k))
 
 none_to_slide : (end : ℕ) → to_slide end None ≡ 0
 none_to_slide end = grind (arith, nat_tests)
@@ -115,7 +115,7 @@ module _ {size total end : ℕ} {xs : List (Option Place)} (sliding : AreSliding
           (λ j ne _ _. elim (past j ne) [ inl low ↦ inr low | inr high ↦ inl (omega (arith, behind)) ]);
       parted = moved_parted;
       together = moved_together;
-      ends = let a = ap at_of (at_here i refl) in grind (arith, at_here, end_le_last);
+      ends = grind (arith, at_here, end_le_last, ap at_of (at_here i refl));
     }
 
   -- all have slid down

@@ -109,7 +109,7 @@ module _ (table : HandleTable) (lie : LieApart table.places table.span.len) (B :
     rewritten at ws room =
         let g = place_inside in let long = region_length in let n = places.len_le_room place.len in
         let is = (changed table.slid (place.at + at) ws i (Some place) (omega arith)
-        (λ j ne. let side = places.sides table.places table.span.len i place lie live j ne in grind arith)).stored in
+        (λ j ne. grind (arith, places.sides table.places table.span.len i place lie live j ne))).stored in
         let new : bytes_at (written region (place.at + at) ws) place ≡ overwritten at ws (bytes_at region place) =
         grind (arith, written-range, written_is, length-range, append_assoc) in
         let same = set-get_or table.places i None in let old = block_read in
@@ -125,7 +125,7 @@ module _ (table : HandleTable) (lie : LieApart table.places table.span.len) (B :
     moved slid' to down past =
         let g = place_inside in let n = places.len_le_room place.len in let long = region_length in let count = place_length in
         let ws = slice_range B (table.span.at + place.at) (table.span.at + place.at + place.len) in
-        let is = changed slid' to ws i (places.placed to place.len) (omega arith) (λ j ne. let side = past j ne in grind arith) in
+        let is = changed slid' to ws i (places.placed to place.len) (omega arith) (λ j ne. grind (arith, past j ne)) in
         let new = block_written region to ws (omega arith) in
         let same = set-get_or (store_of table B).blocks i None in let old = block_is in
         record { stored = grind arith; rest = is.rest }

@@ -11,7 +11,7 @@ use Rattle.process_core.proofs.Sound.{none_from_is_one_of, same_number}
 
 all_kept : (P : ℕ → Type 0) (p : ℕ) (ns : List ℕ) → AllByRecursion P ns → AllByRecursion P (others p ns)
 all_kept P p [] a = a
-all_kept P p (n ∷ ns) a = let later = all_kept P p ns a.1 in grind arith
+all_kept P p (n ∷ ns) a = grind (arith, all_kept P p ns a.1)
 
 -- ---- at first
 
@@ -56,8 +56,7 @@ module _ (p : ℕ) where
   distinct_others : (ns : List ℕ) → IsDistinct eqb ns → IsDistinct eqb (others p ns)
   distinct_others [] d = d
   distinct_others (n ∷ ns) d =
-      let later = distinct_others ns (IsDistinct-tail eqb n ns d) in
-      grind (arith, IsDistinct-tail, IsDistinct-cons, all_kept, IsDistinct-head)
+      grind (arith, IsDistinct-tail, IsDistinct-cons, all_kept, IsDistinct-head, distinct_others ns (IsDistinct-tail eqb n ns d))
 
   module _ (s : List State) where
     module _ (m : ℕ) where
@@ -89,13 +88,34 @@ module _ (p : ℕ) where
     pub kept_added : p < 20 → is_one_of p ns ≡ false
         → IsKept s m ns → IsKept (set s p State.Running) m (p ∷ ns)
     kept_added known none k =
-        let apart : IsDistinct eqb (p ∷ ns) = IsDistinct-cons eqb p ns (none_from_is_one_of p ns none) k.distinct in
-        grind (arith, length-set, nat_tests, same_number, get_or-set_other, get_or-set_same)
+        grind (
+          arith,
+          length-set,
+          nat_tests,
+          same_number,
+          get_or-set_other,
+          get_or-set_same,
+          IsDistinct-cons eqb p ns
+              (none_from_is_one_of p ns none) k.distinct,
+        )
 
     pub kept_others : p < 20
         → IsKept s m ns → IsKept (set s p State.Absent) (with_bit p false m) (others p ns)
     kept_others known k =
-        grind (arith, length-set, distinct_others, nat_tests, same_number, others_stay, gone, get_or-set_other, get_or-set_same, bit_other, bit_same, bit_small)
+        grind (
+          arith,
+          length-set,
+          distinct_others,
+          nat_tests,
+          same_number,
+          others_stay,
+          gone,
+          get_or-set_other,
+          get_or-set_same,
+          bit_other,
+          bit_same,
+          bit_small,
+        )
 
   module _ (s later : List State) (m new : ℕ) (far : (n : ℕ) → n ≢ p → process_at s m n ≡ process_at later new n) where
     -- only p changed, and that is the change
@@ -103,7 +123,7 @@ module _ (p : ℕ) where
         → changed p change (listed s m ns) ≡ listed later new ns
     listed_changed change [] here = refl
     listed_changed change (n ∷ ns) here =
-        let rest = listed_changed change ns here in let others = far n in grind (arith, nat_tests, same_number, here, others, rest)
+        let rest = listed_changed change ns here in grind (arith, nat_tests, same_number, here, rest)
 
     -- what is not on the list changed
     listed_elsewhere : (ns : List ℕ) → is_one_of p ns ≡ false → listed s m ns ≡ listed later new ns
@@ -136,14 +156,14 @@ module _ (p : ℕ) where
     pub added_listed : p < 20 → is_one_of p ns ≡ false → IsKept s m ns
         → listed (set s p State.Running) m (p ∷ ns) ≡ record { number = p; state = State.Running; marked = false } ∷ listed s m ns
     added_listed known none k =
-        let others = listed_elsewhere s (set s p State.Running) m m (λ n apart. grind (arith, get_or-set_other)) ns none in
-        grind (arith, get_or-set_same)
+        grind (arith, get_or-set_same, listed_elsewhere s (set s p State.Running) m m (λ n apart. grind (arith, get_or-set_other)) ns none)
 
   pub removed_listed : (s : List State) (m : ℕ) (ns : List ℕ) → p < 20 → m < 2 ^ 20
       → listed (set s p State.Absent) (with_bit p false m) (others p ns) ≡ without p (listed s m ns)
   removed_listed s m ns known small =
       sym (without_listed s m ns
-      ∙ listed_elsewhere s _ m _ (λ n apart. grind (arith, get_or-set_other, bit_other m p false n known small apart)) (others p ns) (gone ns))
+      ∙ listed_elsewhere s _ m _ (λ n apart. grind (arith, get_or-set_other, bit_other m p false n known small apart)) (others p ns)
+      (gone ns))
 
   module _ {list : List Process} {s : List State} {m : ℕ} {ns : List ℕ} where
     -- a process is on the list exactly where it is not Absent
@@ -183,7 +203,7 @@ module _ (p : ℕ) where
   module _ (ns : List ℕ) where
     pub ends_added : is_one_of p ns ≡ false → EndsWithKernel ns → EndsWithKernel (p ∷ ns)
     ends_added none e =
-        let least : 4 ≤ p = beyond_kernel e.applications (rw e.split at none) in
+        let least = beyond_kernel e.applications (rw e.split at none) in
         record { applications = p ∷ e.applications; split = grind arith; above = grind (arith, nat_tests, same_number) }
 
     pub ends_others : 4 ≤ p → EndsWithKernel ns → EndsWithKernel (others p ns)
@@ -216,9 +236,9 @@ module _ (s : List State) where
           → nat_lt 15 m ≡ false → from_marked (listed s m ns) walk ≡ []
       no_application_marked [] k are none = refl
       no_application_marked (p ∷ walk) k are none =
-          let least : 4 ≤ p = are p (grind (arith, nat_tests)) in
-          let unmarked = marked_kept p s m ns k ∙ unmarked_beyond m p least none in
-          rw unmarked (no_application_marked walk k (λ q h. are q (grind (arith, nat_tests, h))) none)
+          let least = are p (grind (arith, nat_tests)) in
+          rw (marked_kept p s m ns k ∙ unmarked_beyond m p least none) (no_application_marked walk k
+          (λ q h. are q (grind (arith, nat_tests, h))) none)
 
 -- whether p is the only one
 pub only_counted : (s : List State) (m : ℕ) (ns : List ℕ) (p : ℕ) → p < 20 → IsKept s m ns →

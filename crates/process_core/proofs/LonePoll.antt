@@ -13,7 +13,7 @@ both_true e f = grind arith
 -- where no process is marked, a poll round passes over all
 none_marked : (list : List Process) (p : ℕ) → is_any_marked list ≡ false → is_marked p list ≡ false
 none_marked [] p h = refl
-none_marked (x ∷ list) p h = let more = none_marked list p (grind (arith, h)) in grind (arith, h, more)
+none_marked (x ∷ list) p h = grind (arith, h, none_marked list p (grind (arith, h)))
 
 -- a marked process is on the list
 marked_is_one_of : (list : List Process) (p : ℕ) → is_marked p list ≡ true → is_one_of p (numbers list) ≡ true
@@ -43,7 +43,7 @@ module _ (list : List Process) where
     where
       split : (b : Bool) → is_marked q list ≡ b → (is_one_of p walk ≡ true → (later : List ℕ) × (from_marked list walk ≡ p ∷ later))
           → (later : List ℕ) × (from_marked list (q ∷ walk) ≡ p ∷ later)
-      split true e more = let same = alone q e in (walk, rw e (rw same refl))
+      split true e more = (walk, rw e (rw (alone q e) refl))
       split false e more = let rest = more (grind (arith, nat_tests, h, here, e)) in (rest.0, rw e rest.1)
 
 module _ {X : Type 0} where
@@ -55,12 +55,12 @@ module _ {X : Type 0} where
           → is_any_marked s.processes ≡ true → is_any_marked (with_mark p false s.processes) ≡ false
           → from_marked s.processes (numbers s.processes) ≡ p ∷ later → IsLonePoll p s
       lone_poll_at later bare kernel here some none first =
-          let round : Scheduler X = record s { agenda = Item.Deliver ∷ [] } in
-          let begun : Scheduler X = in_front (Item.Polls ∷ []) round in
-          let after : Scheduler X = in_front (map (λ q. Item.PollOne q) later) round in
-          let served : Scheduler X = record after { processes = with_mark p false s.processes } in
-          let left : Scheduler X = record round { processes = with_mark p false s.processes } in
-          let poll : Job X = Job.Serve p (plain_event POLL) in
+          let round = record s { agenda = Item.Deliver ∷ [] } in
+          let begun = in_front (Item.Polls ∷ []) round in
+          let after = in_front (map (λ q. Item.PollOne q) later) round in
+          let served = record after { processes = with_mark p false s.processes } in
+          let left = record round { processes = with_mark p false s.processes } in
+          let poll = Job.Serve p (plain_event POLL) in
           record {
             begun = begun;
             served = served;
@@ -80,14 +80,21 @@ module _ {X : Type 0} where
           let outer = and_parts (is_empty s.agenda) (is_only_marked p s.processes) alone in
           let only = and_parts (is_marked p s.processes) (not (is_any_marked (with_mark p false s.processes))) outer.1 in
           let none = not-true (is_any_marked (with_mark p false s.processes)) only.1 in
-          let first = marked_first s.processes (numbers s.processes) p (λ q h. alone_marked s.processes p q none h) only.0
-          (marked_is_one_of s.processes p only.0) in
-          grind (arith, lone_poll_at, empty_list, nat_tests, marked_is_any)
+          grind (
+            arith,
+            lone_poll_at,
+            empty_list,
+            nat_tests,
+            marked_is_any,
+            marked_first s.processes (numbers s.processes) p
+                (λ q h. alone_marked s.processes p q none h) only.0
+                (marked_is_one_of s.processes p only.0),
+          )
 
 -- At rest a process is marked, and its mark is removed again.
 marked_again : (list : List Process) (p : ℕ) → is_any_marked list ≡ false → with_mark p false (with_mark p true list) ≡ list
 marked_again [] p none = refl
-marked_again (x ∷ list) p none = let rest = marked_again list p in grind (arith, nat_tests, or_parts)
+marked_again (x ∷ list) p none = grind (arith, nat_tests, or_parts, marked_again list p)
 
 none_waits : {A : Type 0} (events : List A) → nat_lt 0 (length events) ≡ false → events ≡ []
 none_waits [] h = refl
@@ -109,7 +116,7 @@ module _ {X : Type 0} where
           let parts = and_parts (is_empty s.agenda) (not (wants_round s)) idle in
           let wants = or_parts (is_any_marked s.processes) (nat_lt 0 (length s.events)) (not-true (wants_round s) parts.1) in
           let bare = empty_list s.agenda parts.0 in let quiet = none_waits s.events wants.1 in
-          let rested : Scheduler X = record s { processes = s.processes } in
+          let rested = record s { processes = s.processes } in
           rw (marked_again s.processes p wants.0)
           (yields_next (record s { agenda = Item.Deliver ∷ [] }) (Some Job.Rest) rested (rw quiet refl)
           (0, rw (quiet, wants.0) refl, rw (quiet, wants.0, bare) refl))
@@ -182,8 +189,7 @@ module _ (codes : List ℕ) where
     receivers_open walk h =
         let first = and_parts (is_empty (front_items d.front d.reply d.synch)) (_) h in let second = and_parts (_) (_) first.1 in
         let third = and_parts (is_empty d.polls) (is_broadcast d.base) second.1 in
-        let bare : reverse d.stack.items ≡ [] = empty_list (reverse d.stack.items) (is_empty_continuations d.stack.items ∙ second.0) in
-        grind arith
+        grind (arith, empty_list (reverse d.stack.items) (is_empty_continuations d.stack.items ∙ second.0))
 
     pub passed : passes_receiver codes d ≡ true
         → (is_any_marked d.processes ≡ false)
@@ -208,7 +214,7 @@ module _ (codes : List ℕ) where
             receivers_open d.walk n
             ∙ sym (ap (behind_kernel_receivers codes) (receivers_open d.walk n) ∙ receivers_behind d.broadcast d.walk false o)
         split kernel k false n other o h =
-            let fails = rw (← is_empty_continuations d.stack.items) at n in sym (grind (arith, nat_tests, nothing_behind, fails))
+            sym (grind (arith, nat_tests, nothing_behind, rw (← is_empty_continuations d.stack.items) at n))
 
     pub none_passed : passes_receiver codes d ≡ false
         → kernel_receivers_passed codes (scheduler_of d) ≡ scheduler_of d
@@ -234,9 +240,8 @@ module _ (d : SchedulerFields) where
       let first = and_parts (is_empty (front_items d.front d.reply d.synch)) (_) all in let second = and_parts (_) (_) first.1 in
       let third = and_parts (is_empty d.polls) (_) second.1 in
       let front = empty_list (front_items d.front d.reply d.synch) first.0 in
-      let bare : reverse d.stack.items ≡ [] = empty_list (reverse d.stack.items) (is_empty_continuations d.stack.items ∙ second.0) in
-      let polls = empty_list d.polls third.0 in
-      rw (front, bare, polls) refl
+      let bare = empty_list (reverse d.stack.items) (is_empty_continuations d.stack.items ∙ second.0) in
+      rw (front, bare, empty_list d.polls third.0) refl
 
 module _ (is_polled : Bool) where
   module _ (walk : List ℕ) where

@@ -6,7 +6,7 @@ use Rattle.std.specs.Int.{bit_at, bit_not, w32, trailing_zeros}
 use Rattle.std.proofs.lemmas.Bool.{cases_lt}
 use Rattle.std.proofs.lemmas.Bool.Decides.{nat_tests}
 use Rattle.std.proofs.lemmas.Nat.{and-not, and_comm, and_le_l, one_shl, or_lt, pow_below}
-use Rattle.std.proofs.lemmas.Nat.Bits.{and_pow, bit_at-lt, bit_at-pow_same, bit_at-trailing_zeros, bit_at-zero, bit_at_above, bit_at_and, bit_at_clear_other, bit_at_clear_same, bit_at_set_other, bit_at_set_same, shr_and_one}
+use Rattle.std.proofs.lemmas.Nat.Bits.{and_pow, bit_at-pow_same, bit_at-trailing_zeros, bit_at-zero, bit_at_above, bit_at_and, bit_at_clear_other, bit_at_clear_same, bit_at_set_other, bit_at_set_same, shr_and_one}
 
 abbrev is_one : ℕ → Bool
 is_one bit = bit == 1
@@ -20,13 +20,12 @@ counted zero p h = let none = no_bit p in absurd (cc)
 counted (suc m) p h = omega arith
 
 small_word : (m : ℕ) → m < 2 ^ 20 → m < 2 ^ 32
-small_word m small = let wider : 2 ^ 20 < 2 ^ 32 = pow_below 20 32 (omega arith) in omega (arith, small, wider)
+small_word m small = omega (arith, small)
 
 pub some_marked : (m : ℕ) → 0 < m → m < 2 ^ 20 → (p : ℕ) × (mark_at m p ≡ true)
 unfolding mark_at
 some_marked m some small =
-    let found = bit_at-trailing_zeros w32 m some (small_word m small) in
-    (trailing_zeros w32 m, ap is_one found.1)
+    (trailing_zeros w32 m, ap is_one (bit_at-trailing_zeros w32 m some (small_word m small)).1)
 
 pub unmarked_beyond : (m p : ℕ) → 4 ≤ p → nat_lt 15 m ≡ false → mark_at m p ≡ false
 unfolding mark_at
@@ -70,9 +69,10 @@ module _ (m p : ℕ) where
   unfolding with_bit
   taken_away low small =
       let within : p < 32 = omega (arith, low) in
-      let others = and_comm (bit_not w32 (2 ^ p)) m in let own = and_comm (2 ^ p) m ∙ and_pow m p in
+      let own = and_comm (2 ^ p) m ∙ and_pow m p in
       subst (λ bit. bit_and m (bit_not w32 bit) + bit_at m p * 2 ^ p ≡ m) (sym (one_shl p 32 within))
-      (sym (ap (λ (rest : ℕ). rest + bit_and (2 ^ p) m) others ∙ ap (λ (bit : ℕ). bit_and m (bit_not w32 (2 ^ p)) + bit) own)
+      (sym (ap (λ (rest : ℕ). rest + bit_and (2 ^ p) m) (and_comm (bit_not w32 (2 ^ p)) m) ∙ ap
+      (λ (bit : ℕ). bit_and m (bit_not w32 (2 ^ p)) + bit) own)
       ∙ and-not 32 (2 ^ p) m (pow_below p 32 within) (small_word m small))
 
   only_by : p < 20 → m < 2 ^ 20 → (bit : ℕ) → bit_at m p ≡ bit
@@ -83,7 +83,7 @@ module _ (m p : ℕ) where
   only_by low small (suc zero) set =
       let sum : with_bit p false m + 2 ^ p ≡ m = omega (arith, taken_away low small, ap (λ (bit : ℕ). bit * 2 ^ p) set) in
       grind (arith, nat_tests, sum)
-  only_by low small (suc (suc bit)) more = absurd (omega (arith, bit_at-lt m p, more))
+  only_by low small (suc (suc bit)) more = absurd (omega (arith, more))
 
   -- whether only p is marked
   pub only_bit : p < 20 → m < 2 ^ 20 → (mark_at m p && not (nat_lt 0 (with_bit p false m))) ≡ (m == 2 ^ p)

@@ -38,7 +38,7 @@ module _ {X : Type 0} where
 
 none_shown : (ps : List ℕ) (f : ℕ → Item) → ((p : ℕ) → is_shown (f p) ≡ false) → list_any is_shown (map f ps) ≡ false
 none_shown [] f h = refl
-none_shown (p ∷ ps) f h = let first = h p in let rest = none_shown ps f h in grind (arith, first, rest)
+none_shown (p ∷ ps) f h = let first = h p in grind (arith, first, none_shown ps f h)
 
 shown_in_either : (xs ys : List Item) → list_any is_shown xs ≡ false → list_any is_shown ys ≡ false → list_any is_shown (xs ++ ys) ≡ false
 shown_in_either xs ys a b = grind (arith, list_any-append)

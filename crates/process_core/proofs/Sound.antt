@@ -1,5 +1,5 @@
 -- The stack stays sound, and is short.
-use Rattle.process_core.proofs.Common.{◌≡◌, ℕ, ◌+◌, ◌<◌, ◌≤◌, Bool, true, false, List, [], ◌∷◌, length, refl, ap, arith, eqb, Option, Some, None, ◌*◌, IsDistinct, AllByRecursion, nat_tests, range_with_len, zero, suc, Pid, state_of, with_state, with_mark, without, IsApplication, is_in_activation, answering, is_one_of, has_ended, IsSound, Process, State, Continuation, IsOfMote, leaving, IsNested, AreIn, ◌++◌, reverse, length-reverse, Event, Reply, is_ending, IsInOrder, BootsKnown, scheduler_behind, scheduler_of, front_items, reverse-append, SchedulerFields, Base, Front, IsOrdered, StartsKnown, active_in, turn_in, front_after}
+use Rattle.process_core.proofs.Common.{◌≡◌, ℕ, ◌+◌, ◌<◌, ◌≤◌, Bool, true, false, List, [], ◌∷◌, length, refl, ap, arith, eqb, Option, Some, None, ◌*◌, IsDistinct, AllByRecursion, nat_tests, range_with_len, zero, suc, Pid, state_of, with_state, with_mark, without, IsApplication, is_in_activation, answering, is_one_of, has_ended, IsSound, Process, State, Continuation, IsOfMote, leaving, IsNested, AreIn, ◌++◌, reverse, length-reverse, Event, Reply, is_ending, IsInOrder, scheduler_behind, scheduler_of, front_items, reverse-append, SchedulerFields, Base, Front, IsOrdered, StartsKnown, active_in, turn_in, front_after}
 use Rattle.std.proofs.lemmas.Bool.{false_from_ne_true, or_parts}
 use Rattle.std.proofs.lemmas.Cmp.{nat_eq_equiv}
 use Rattle.std.proofs.lemmas.List.FromFn.{length-range_with_len}
@@ -132,9 +132,8 @@ module _ (n : ℕ) where
   -- n applications at most
   few_applications : (xs : List ℕ) → IsDistinct eqb xs → ((p : ℕ) → is_one_of p xs ≡ true → IsApplication n p) → length xs ≤ n
   few_applications xs distinct are =
-      let few = length-le_from_is_member nat_eq_equiv xs (range_with_len 4 n) distinct (λ p h.
-      let a = application_range p (are p h) in in_range p 4 n a.0 a.1) in
-      rw length-range_with_len at few
+      rw length-range_with_len at (length-le_from_is_member nat_eq_equiv xs (range_with_len 4 n) distinct (λ p h.
+      let a = application_range p (are p h) in in_range p 4 n a.0 a.1))
 
   -- two continuations for each application
   pub length-le_from_sound : (processes : List Process) (stack : List Continuation) (turn : Option Pid)
@@ -142,9 +141,12 @@ module _ (n : ℕ) where
   length-le_from_sound processes stack turn sound =
       let a = few_applications (answering stack) (answering_apart stack sound.nested)
       (λ p h. application_in is_in_activation n processes p sound.mote (sound.answers p h) refl refl) in
-      let l = few_applications (leaving stack) (leaving_apart stack sound.nested)
-      (λ p h. application_in has_ended n processes p sound.mote (sound.leaves p h) refl refl) in
-      grind (arith, short)
+      grind (
+        arith,
+        short,
+        few_applications (leaving stack) (leaving_apart stack sound.nested)
+            (λ p h. application_in has_ended n processes p sound.mote (sound.leaves p h) refl refl),
+      )
 
 module _ {n : ℕ} {list : List Process} {stack : List Continuation} where
   pub sound-quiet : {turn : Option Pid}
@@ -207,10 +209,9 @@ module _ {n : ℕ} {list : List Process} {stack : List Continuation} where
           → IsSound n list (Continuation.Leave q walk exits ∷ stack) None
           → IsSound n (with_state q.0 State.Ending list) (Continuation.Leave q later still ∷ stack) (Some q)
       sound-exiting later exits still s =
-          let new = with_state q.0 State.Ending list in let own = s.leaves q.0 (grind (arith, is_first q.0)) in
+          let new = with_state q.0 State.Ending list in let own = s.leaves q.0 (grind arith) in
           let ends = state_at q.0 State.Ending list (λ absent. grind (arith, own)) in
-          let same = λ (r : ℕ) (h : eqb r q.0 ≡ false). state_after q.0 r State.Ending list h in
-          grind arith
+          grind (arith, (λ (r : ℕ) (h : eqb r q.0 ≡ false). state_after q.0 r State.Ending list h))
 
       -- q leaves the list
       pub sound-removed : (exits : Bool)
@@ -249,8 +250,8 @@ module _ (d : SchedulerFields) where
   pub order_booting : (p : ℕ) (later : List ℕ) → d.base ≡ Base.Boot → d.walk ≡ p ∷ later → IsInOrder d
       → (p < 4 + d.applications) × IsInOrder (record d { walk = later })
   order_booting p later boots e order =
-      let known : BootsKnown d.applications Base.Boot (p ∷ later) = rw (boots, e) at order.boots in (
-        known p (grind (arith, is_first p)),
+      let known = rw (boots, e) at order.boots in (
+        known p (grind arith),
         grind arith,
       )
 

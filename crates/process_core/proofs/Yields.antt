@@ -34,7 +34,7 @@ module _ {X : Type 0} where
         → Yields s None between → Yields between next after → Yields s next after
     yields_after between None after first y =
         let r = after_items_twice first.0 y.0 s in (r.0, r.1 ∙ ap (after_items y.0) first.1 ∙ y.1)
-    yields_after between (Some next) after first y = let r = after_items_twice first.0 y.0 s in grind arith
+    yields_after between (Some next) after first y = grind (arith, after_items_twice first.0 y.0 s)
 
     -- a poll round passes over the processes that are not marked
     pub unmarked_pass : (walk : List ℕ)
@@ -64,7 +64,7 @@ module _ {X : Type 0} where
             → (from_marked s.processes passed ≡ []
             → Yields (in_front (map (λ q. Item.PollOne q) (passed ++ left)) s) None (in_front (map (λ q. Item.PollOne q) left) s))
             → Yields (in_front (map (λ q. Item.PollOne q) (p ∷ (passed ++ left))) s) None (in_front (map (λ q. Item.PollOne q) left) s)
-        split true e none later = let some : p ∷ passed ≡ [] = rw e at none in absurd (cc)
+        split true e none later = let some = rw e at none in absurd (cc)
         split false e none later =
             yields_next (in_front (map (λ q. Item.PollOne q) (p ∷ (passed ++ left))) s) None (in_front (map (λ q. Item.PollOne q) left) s)
             refl (rw e (later (rw e at none)))

@@ -9,7 +9,7 @@ module _ (cells : List LinkedCell) where
     -- the link there
     pub next_at : IsNamed (timer_at k)
         → next_of cells (timer_at k) ≡ led_to (get_or cells k zero_linked).next
-    next_at named = grind (arith, place_at)
+    next_at named = grind arith
 
 module _ (table : Inside) where
   module _ (k : ℕ) where

@@ -21,11 +21,11 @@ same_timers t u cells armed = grind arith
 
 stands_for : (table : Inside) (timers : Timers) → length table.cells ≡ 192 → HasStarts table.cells → AreFlagged table.cells timers.armed
     → named_cells all_timers table.cells ≡ timers.cells → Relinked table.cells (led_to table.first) timers.armed → StandsFor table timers
-stands_for table timers places starts flags cells r = grind (arith, same_timers)
+stands_for table timers places starts flags cells r = grind arith
 
 -- at boot
 pub timers_at_boot : timers_of (record { cells = replicate 192 zero_linked; first = None }) ≡ no_timers
-timers_at_boot = grind (arith, same_timers, replicate, cells_at_boot, listed_from_none)
+timers_at_boot = grind (arith, replicate, cells_at_boot, listed_from_none)
 
 module _ (cells : List LinkedCell) where
   starts_set : (k : ℕ) (x : LinkedCell) → x.cell.start ≤ 2 ^ 63 → HasStarts cells → HasStarts (set cells k x)
@@ -62,7 +62,7 @@ closed_over table k before =
 
 -- the timer was not on the list
 pub nothing_removed : (timer : Timer) (timers : Timers) → is_armed timer timers ≡ false → timers ≡ stop_timer timer timers
-nothing_removed timer timers none = grind (arith, same_timers, others_none)
+nothing_removed timer timers none = grind (arith, others_none)
 
 module _ (table : Inside) where
   module _ (t : Timer) where
@@ -141,8 +141,7 @@ module _ (table : Inside) where
     pub head_removed_at : IsTable table → IsNamed (timer_at place) → IsBehind None →
         StandsFor (without_head table place) (stop_timer (timer_at place) (timers_of table))
     head_removed_at h named behind =
-        subst (λ at. StandsFor (without_head table at) (stop_timer (timer_at place) (timers_of table)))
-        (place_at place named) (head_removed (timer_at place) h named behind)
+        grind (arith, timer_at, timers_of, place_at, head_removed)
 
     module _ (before : ℕ) where
       pub named_behind : IsTable table → IsBehind (Some before) → IsNamed (timer_at before)
@@ -160,8 +159,7 @@ module _ (table : Inside) where
     pub stands_unlinked : (v : Timers) → timers_of table ≡ v → IsTable table → IsNamed (timer_at place) → (before : Option ℕ)
         → StandsBehind before (timer_at place) v.armed → StandsFor (unlinked before) (stop_timer (timer_at place) v)
     stands_unlinked v is h named None =
-        subst (λ v. StandsBehind None (timer_at place) v.armed → StandsFor (unlinked None) (stop_timer (timer_at place) v)) is
-        (head_removed_at h named)
+        grind (arith, stop_timer, head_removed_at)
     stands_unlinked v is h named (Some before) =
         subst (λ v. StandsBehind (Some before) (timer_at place) v.armed →
         StandsFor (unlinked (Some before)) (stop_timer (timer_at place) v)) is

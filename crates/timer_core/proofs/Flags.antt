@@ -21,7 +21,7 @@ module _ (cells : List LinkedCell) where
             AreFlagged cells list → x.is_armed ≡ list_any (is_timer t) new →
             ((u : Timer) → is_timer t u ≡ false → list_any (is_timer u) new ≡ list_any (is_timer u) list)
             → AreFlagged (set cells (place_of t) x) new
-        flags_set new h within flags own others = grind (arith, same_timer, places_differ, get_or-set_same, get_or-set_other)
+        flags_set new h within flags own others = grind (arith, places_differ, get_or-set_same, get_or-set_other)
 
         -- a write that keeps the flag
         pub flags_kept : IsNamed t → place_of t < length cells →

@@ -21,7 +21,7 @@ module _ (out : Timer → Bool) where
 module _ (test : Timer → Bool) where
   left_all : (list : List Timer) → list ≡ left (below test 0) list
   left_all [] = refl
-  left_all (t ∷ later) = let rest = left_all later in grind arith
+  left_all (t ∷ later) = grind (arith, left_all later)
 
   pub without_none : (timers : Timers) → timers ≡ without (below test 0) timers
   without_none timers = grind (arith, left_all)
@@ -29,7 +29,7 @@ module _ (test : Timer → Bool) where
 module _ (out all : Timer → Bool) where
   left_same : ((t : Timer) → IsNamed t → out t ≡ all t) → (list : List Timer) → AllNamed list → left out list ≡ left all list
   left_same same [] h = refl
-  left_same same (t ∷ later) h = let here = same t h.0 in let rest = left_same same later h.1 in rw (here, rest)
+  left_same same (t ∷ later) h = rw (same t h.0, left_same same later h.1)
 
   pub without_same : ((t : Timer) → IsNamed t → out t ≡ all t) → (timers : Timers) → AllNamed timers.armed
       → without out timers ≡ without all timers
@@ -38,7 +38,7 @@ module _ (out all : Timer → Bool) where
   module _ (more : Timer → Bool) (both : (t : Timer) → (out t || more t) ≡ all t) where
     left_more : (list : List Timer) → left more (left out list) ≡ left all list
     left_more [] = refl
-    left_more (t ∷ later) = let here = both t in let rest = left_more later in grind arith
+    left_more (t ∷ later) = grind (arith, left_more later)
 
     pub without_more : (timers : Timers) → without more (without out timers) ≡ without all timers
     without_more timers = grind (arith, left_more)

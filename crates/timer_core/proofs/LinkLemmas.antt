@@ -10,7 +10,7 @@ pub linked_from_names : (n : ℕ) (cells : List LinkedCell) (link : Option Timer
 linked_from_names zero cells link [] h few = refl
 linked_from_names zero cells link (t ∷ later) h few = absurd (omega arith)
 linked_from_names (suc n) cells link [] h few = rw h refl
-linked_from_names (suc n) cells link (t ∷ later) h few = let rest = linked_from_names n cells (next_of cells t) later h.1.1 in grind arith
+linked_from_names (suc n) cells link (t ∷ later) h few = grind (arith, linked_from_names n cells (next_of cells t) later h.1.1)
 
 -- timers in range with distinct names are at most as many as the table has slots
 abbrev pub AllNamed : List Timer → Type 0
@@ -20,7 +20,7 @@ AllNamed (t ∷ later) = IsNamed t × AllNamed later
 places_apart : (t : Timer) (list : List Timer) → IsNamed t → AllNamed list → list_any (is_timer t) list ≡ false →
     AllByRecursion (λ place. eqb (place_of t) place ≡ false) (map place_of list)
 places_apart t [] h k none = tt
-places_apart t (u ∷ later) h k none = let rest = places_apart t later h k.1 in grind (arith, or_parts, ne_eqb, places_differ)
+places_apart t (u ∷ later) h k none = grind (arith, or_parts, ne_eqb, places_differ, places_apart t later h k.1)
 
 places_distinct : (list : List Timer) → AllNamed list → AreApart list → IsDistinct eqb (map place_of list)
 unfolding IsDistinct
@@ -29,7 +29,7 @@ places_distinct (t ∷ later) h apart = (places_apart t later h.0 h.1 apart.0, p
 
 places_below : (list : List Timer) → AllNamed list → (q : ℕ) → list_any (eqb q) (map place_of list) ≡ true → q < 192
 places_below [] h q e = absurd (cc)
-places_below (t ∷ later) h q e = let rest = places_below later h.1 q in grind (arith, or_cases, eqb-true, place_below)
+places_below (t ∷ later) h q e = grind (arith, or_cases, eqb-true, place_below, places_below later h.1 q)
 
 few_timers : (list : List Timer) → AllNamed list → AreApart list → length list ≤ 192
 few_timers list h apart =
@@ -75,7 +75,7 @@ module _ (cells : List LinkedCell) where
     -- a write to a cell changes only the link of that timer
     pub next_of_other : (u : Timer) (x : LinkedCell) → IsNamed t → IsNamed u → is_timer t u ≡ false →
         next_of (set cells (place_of t) x) u ≡ next_of cells u
-    next_of_other u x h k e = grind (arith, places_differ, get_or-set_other)
+    next_of_other u x h k e = grind (arith, get_or-set_other)
 
     module _ (x : LinkedCell) where
       pub next_of_same : place_of t < length cells
@@ -86,15 +86,20 @@ module _ (cells : List LinkedCell) where
       pub names_other : (link : Option Timer) (list : List Timer) → IsNamed t →
           list_any (is_timer t) list ≡ false → Names cells link list → Names (set cells (place_of t) x) link list
       names_other link [] h none names = names
-      names_other link (u ∷ later) h none names = let rest = names_other (next_of cells u) later h in
-          grind (arith, or_parts, next_of_other)
+      names_other link (u ∷ later) h none names = grind (arith, or_parts, next_of_other, names_other (next_of cells u) later h)
 
     -- a write that keeps the link keeps the list
     names_kept : (x : LinkedCell) (link : Option Timer) (list : List Timer) → place_of t < length cells →
         led_to x.next ≡ next_of cells t → Names cells link list → Names (set cells (place_of t) x) link list
     names_kept x link [] within e names = names
-    names_kept x link (u ∷ later) within e names = let rest = names_kept x (next_of cells u) later within e names.1.1 in
-        grind (arith, cases_eq, next_of_same, get_or-set_other)
+    names_kept x link (u ∷ later) within e names = grind (
+      arith,
+      cases_eq,
+      next_of_same,
+      get_or-set_other,
+      names_kept x
+          (next_of cells u) later within e names.1.1,
+    )
 
   module _ (link : Option Timer) where
     listed_from_names : (list : List Timer) → Names cells link list → AreApart list → listed_from cells link ≡ list
@@ -103,8 +108,7 @@ module _ (cells : List LinkedCell) where
 
     pub relinked : (list : List Timer) → Names cells link list → AreApart list → Relinked cells link list
     relinked list h apart =
-        let listed = listed_from_names list h apart in
-        record { sound = record { ends = rw listed h; apart = rw listed apart }; listed = listed }
+        grind (arith, listed_from_names)
 
   passes_first : (link : Option Timer) (timer : Timer) (list : List Timer) → link ≡ Some timer → Names cells link list → AreApart list
       → listed_from cells link ≡ list → Passes link timer

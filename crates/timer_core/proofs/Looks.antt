@@ -13,7 +13,7 @@ module _ (test : Timer → Bool) where
   -- none of those that were passed
   pub found_behind : (earlier later : List Timer) → list_any test earlier ≡ false → find test (earlier ++ later) ≡ find test later
   found_behind [] later none = refl
-  found_behind (t ∷ earlier) later none = let rest = found_behind earlier later in grind (arith, or_parts)
+  found_behind (t ∷ earlier) later none = grind (arith, or_parts, found_behind earlier later)
 
   pub none_of_more : (t : Timer) (earlier : List Timer) → list_any test earlier ≡ false → test t ≡ false
       → list_any test (earlier ++ t ∷ []) ≡ false

@@ -4,14 +4,14 @@ use Rattle.timer_core.proofs.NameLemmas.{same_timer}
 
 none_found_in_fewer : {A : Type 0} (test keep : A → Bool) (items : List A) → find test items ≡ None → find test (filter keep items) ≡ None
 none_found_in_fewer test keep [] none = refl
-none_found_in_fewer test keep (a ∷ items) none = let rest = none_found_in_fewer test keep items in grind arith
+none_found_in_fewer test keep (a ∷ items) none = grind (arith, none_found_in_fewer test keep items)
 
 module _ (t : Timer) where
   -- another timer keeps its cell
   other_kept : (u : Timer) (cell : Cell) (cells : List NamedCell) → is_timer t u ≡ false
       → cell_under u (with_cell t cell cells) ≡ cell_under u cells
   other_kept u cell [] apart = refl
-  other_kept u cell (named ∷ later) apart = let rest = other_kept u cell later apart in grind (arith, same_timer)
+  other_kept u cell (named ∷ later) apart = grind (arith, same_timer, other_kept u cell later apart)
 
 module _ (clock : ℕ) where
   pub none_due_in_fewer : (keep : Timer → Bool) (timers : Timers) → first_due clock timers ≡ None →
@@ -23,7 +23,7 @@ module _ (clock : ℕ) where
     none_due_kept : (listed : List Timer) → find (is_due clock timers) listed ≡ None
         → find (is_due clock (armed_with t cell timers)) listed ≡ None
     none_due_kept [] none = refl
-    none_due_kept (u ∷ listed) none = let rest = none_due_kept listed in grind (arith, lt-leb, same_timer, other_kept)
+    none_due_kept (u ∷ listed) none = grind (arith, lt-leb, same_timer, other_kept, none_due_kept listed)
 
     pub none_due_after_arming : first_due clock timers ≡ None → first_due clock (armed_with t cell timers) ≡ None
     none_due_after_arming none = grind (arith, none_due_kept, lt-leb)

@@ -1,6 +1,6 @@
 -- A timer is removed from the list: the one before it gets its link.
 use Rattle.timer_core.proofs.Words.{◌≡◌, ◌<◌, false, not, List, [], ◌∷◌, ◌++◌, length, refl, arith, set, append_assoc, list_any-append, Option, filter, list_any, or_parts, Timer, LinkedCell, place_of, IsNamed, is_timer, next_of, led_to, listed_from, Names, AreApart, IsList}
-use Rattle.timer_core.proofs.NameLemmas.{is_timer_itself, is_timer_flips}
+use Rattle.timer_core.proofs.NameLemmas.{is_timer_flips}
 use Rattle.timer_core.proofs.LinkLemmas.{Passes, Relinked, relinked, names_other, next_of_other, next_of_same}
 
 -- the list without a timer
@@ -9,18 +9,18 @@ others timer list = filter (λ other. not (is_timer timer other)) list
 
 pub others_none : (t : Timer) (list : List Timer) → list_any (is_timer t) list ≡ false → others t list ≡ list
 others_none t [] none = refl
-others_none t (u ∷ later) none = let rest = others_none t later in grind (arith, or_parts)
+others_none t (u ∷ later) none = grind (arith, or_parts, others_none t later)
 
 -- the list without its first timer
 pub others_itself : (cells : List LinkedCell) (link : Option Timer) (timer : Timer) → Passes cells link timer →
     listed_from cells (next_of cells timer) ≡ others timer (listed_from cells link)
-others_itself cells link timer p = grind (arith, is_timer_itself, others_none)
+others_itself cells link timer p = grind (arith, others_none)
 
 -- the timer is on the list once
 pub others_middle : (t : Timer) (earlier later : List Timer) → list_any (is_timer t) (earlier ++ later) ≡ false →
     others t (earlier ++ t ∷ later) ≡ earlier ++ later
-others_middle t [] later once = grind (arith, is_timer_itself, others_none)
-others_middle t (u ∷ earlier) later once = let rest = others_middle t earlier later in grind (arith, or_parts)
+others_middle t [] later once = grind (arith, others_none)
+others_middle t (u ∷ earlier) later once = grind (arith, or_parts, others_middle t earlier later)
 
 none_behind : (t before : Timer) (earlier rest : List Timer) → list_any (is_timer t) (earlier ++ before ∷ rest) ≡ false →
     (is_timer t before ≡ false) × (list_any (is_timer t) (earlier ++ rest) ≡ false)
@@ -29,7 +29,7 @@ none_behind t before earlier rest none = grind (arith, list_any-append)
 -- a timer on a list of timers that are apart is none of the others
 pub one_apart : (t : Timer) (earlier later : List Timer) → AreApart (earlier ++ t ∷ later) → AreApart (t ∷ (earlier ++ later))
 one_apart t [] later apart = apart
-one_apart t (u ∷ earlier) later apart = let rest = one_apart t earlier later apart.1 in grind (arith, none_behind, is_timer_flips)
+one_apart t (u ∷ earlier) later apart = grind (arith, none_behind, is_timer_flips, one_apart t earlier later apart.1)
 
 pub names_behind : (cells : List LinkedCell) (link : Option Timer) (t : Timer) (earlier later : List Timer)
     → Names cells link (earlier ++ t ∷ later) → IsNamed t × Names cells (next_of cells t) later
@@ -44,10 +44,15 @@ names_closed : (cells : List LinkedCell) (link : Option Timer) (timer before : T
     → IsNamed before →
     place_of before < length cells → led_to x.next ≡ next_of cells timer → AreApart (earlier ++ before ∷ (timer ∷ rest)) →
     Names cells link (earlier ++ before ∷ (timer ∷ rest)) → Names (set cells (place_of before) x) link (earlier ++ before ∷ rest)
-names_closed cells link timer before x [] rest h within e apart names = grind (arith, or_parts, next_of_same, names_other)
-names_closed cells link timer before x (u ∷ earlier) rest h within e apart names = let later =
-    names_closed cells (next_of cells u) timer before x earlier rest h within e apart.1 names.1.1 in
-    grind (arith, none_behind, next_of_other, is_timer_flips)
+names_closed cells link timer before x [] rest h within e apart names = grind (arith, next_of_same, names_other)
+names_closed cells link timer before x (u ∷ earlier) rest h within e apart names = grind (
+  arith,
+  none_behind,
+  next_of_other,
+  is_timer_flips,
+  names_closed cells
+      (next_of cells u) timer before x earlier rest h within e apart.1 names.1.1,
+)
 
 pub relinked_without : (cells : List LinkedCell) (link : Option Timer) (timer before : Timer) (x : LinkedCell) (earlier later : List Timer)
     → IsNamed before → place_of before < length cells → led_to x.next ≡ next_of cells timer

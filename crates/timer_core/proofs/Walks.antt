@@ -42,7 +42,6 @@ module _ (cells : List LinkedCell) (first : Option ℕ) where
   walked_behind (Some place) earlier later l listed ends =
       let whole : listed_from cells (led_to first) ≡ ends.0 ++ timer_at place ∷ later = grind (arith, append_assoc) in
       let names = names_behind cells (led_to first) (timer_at place) ends.0 later (rw whole at l.ends) in
-      let apart = apart_behind (timer_at place) ends.0 later (rw whole at l.apart) in
-      let next = next_at cells place names.0 in
-      let r = relinked cells (next_of cells (timer_at place)) later names.1 apart.1 in
-      record { ends = ends; listed = grind arith; list = rw next at r.sound }
+      let r = relinked cells (next_of cells (timer_at place)) later names.1
+      (apart_behind (timer_at place) ends.0 later (rw whole at l.apart)).1 in
+      record { ends = ends; listed = grind arith; list = rw (next_at cells place names.0) at r.sound }

@@ -1,5 +1,5 @@
 -- A write into a live block's bytes.
-use Rattle.heap_core.proofs.Lemmas.Words.{◌≡◌, ℕ, ◌+◌, ◌-◌, ◌≤◌, ◌<◌, List, [], ◌∷◌, ◌++◌, length, slice_range, true, not, eqb, refl, sym, ap, ◌∙◌, arith, Some, IsSomeAnd, filter, map, if◌then◌else◌, append_assoc, map-append, length-map, filter-append, eq-eqb, number_of, overwritten, ChangesOnly, written, length-range, written-range, changes_only, written_is, Chunk, Region, Block, HeapStore, has_name, block_of, find_block, without_block, is_a_name, blocks_in, is_named, heap_of, chunks_of, store_of, Owned, Spliced, block_in_chunk, without_place, unnamed, ◌≢◌, ◌⊎◌, Option, find, option_map, LiesIn, AreApart, IsLaidOut, extent_of, bytes_behind_header, BlocksLieApart, None, range_of, LieInOrder, end_of, Tell, least_len, cases_Bool}
+use Rattle.heap_core.proofs.Lemmas.Words.{◌≡◌, ℕ, ◌+◌, ◌-◌, ◌≤◌, ◌<◌, List, [], ◌∷◌, ◌++◌, length, slice_range, true, not, eqb, refl, sym, ap, ◌∙◌, arith, Some, IsSomeAnd, filter, map, if◌then◌else◌, append_assoc, map-append, length-map, filter-append, eq-eqb, number_of, overwritten, ChangesOnly, written, length-range, written-range, changes_only, written_is, Chunk, Region, Block, HeapStore, has_name, block_of, find_block, without_block, is_a_name, blocks_in, is_named, heap_of, chunks_of, store_of, Owned, Spliced, block_in_chunk, without_place, unnamed, ◌≢◌, ◌⊎◌, Option, find, option_map, LiesIn, AreApart, IsLaidOut, extent_of, bytes_behind_header, BlocksLieApart, None, range_of, LieInOrder, end_of, Tell, cases_Bool}
 use Rattle.heap_core.proofs.Lemmas.Names.{IsStored, count_append, count_first, map_unnamed, filter_unnamed, keeps_name}
 use Rattle.heap_core.proofs.Lemmas.ChunkHeaders.{store_with, live_frame, changes_more, count, elsewhere, swapped, Around, around, place_told, told_le}
 use Rattle.heap_core.proofs.Lemmas.Freed.{all_blocks, filter_swap, filter_map, all_bytes, in_order, live_of, named_here, named_skip, owner_named}
@@ -44,7 +44,7 @@ module _ {heap : Region} {B : List ℕ} (laid : IsStored heap B) {chunk : Chunk}
   -- it is removed by its position, or by its name
   by_name : filter (elsewhere chunk.at) (blocks_in heap.header B b (chunks_of heap B))
       ≡ filter (λ (other : Block). not (has_name name other)) (blocks_in heap.header B b (chunks_of heap B))
-  by_name = let left = cut_left (cut_at a) in grind (arith, eq-eqb, all_are, filter-append, filter_unnamed, few)
+  by_name = grind (arith, eq-eqb, all_are, filter-append, filter_unnamed, few, cut_left (cut_at a))
 
   pub without_place_is : without_place chunk.at (store_of heap B) ≡ without_block name (store_of heap B)
   without_place_is = ap (store_with heap) by_name
@@ -80,14 +80,13 @@ module _ {heap : Region} {B : List ℕ} (laid : IsStored heap B) {chunk : Chunk}
         refl a.enough ((λ live. live), (λ none. none))
 
     abbrev over : Block → Block
-    over = λ other. let new : Block = record other { bytes = overwritten at ws other.bytes } in new
+    over = λ other. let new = record other { bytes = overwritten at ws other.bytes } in new
 
     pub body_blocks : blocks_in heap.header B' b (chunks_of heap B') ≡ map (λ other. if has_name name other then over other else other)
         (blocks_in heap.header B b (chunks_of heap B))
     body_blocks = let here : eqb name name ≡ true = eq-eqb name name refl in
         let new : blocks_in heap.header B' b (chunk ∷ []) ≡ over block ∷ [] = grind (arith, read) in
-        let spliced = body_spliced in let all = all_are in
-        let low = map_unnamed name over xs few.0 in let high = map_unnamed name over ys few.1 in grind (arith, map-append)
+        grind (arith, map-append, map_unnamed name over ys few.1, map_unnamed name over xs few.0, all_are, body_spliced)
 
     abbrev change : Block → Block
     change = λ other. if has_name name other then over other else other
@@ -110,25 +109,40 @@ module _ (header : ℕ) where
       → (from ≤ one.at) × (length one.bytes ≤ one.room) × (end_of header one ≤ size)
   lies from size name one [] h e = absurd (cc)
   lies from size name one (x ∷ xs) h e =
-      let later = lies (end_of header x) size name one xs h.2 in let all = all_bytes header (end_of header x) size xs h.2 in grind arith
+      grind (arith, all_bytes header (end_of header x) size xs h.2, lies (end_of header x) size name one xs h.2)
 
   lie_apart : (from size name name' : ℕ) (one other : Block) (xs : List Block) → name ≢ name' → LieInOrder header from xs size
       → find (has_name name) xs ≡ Some one → find (has_name name') xs ≡ Some other
       → (end_of header one ≤ other.at) ⊎ (end_of header other ≤ one.at)
   lie_apart from size name name' one other [] ne h e e' = absurd (cc)
   lie_apart from size name name' one other (x ∷ xs) ne h e e' =
-      let later = lie_apart (end_of header x) size name name' one other xs ne h.2 in
-      let first = lies (end_of header x) size name one xs h.2 in let second = lies (end_of header x) size name' other xs h.2 in
-      grind (arith, cases_Bool)
+      grind (
+        arith,
+        cases_Bool,
+        lies (end_of header x) size name' other xs h.2,
+        lies (end_of header x) size name one xs h.2,
+        lie_apart
+            (end_of header x) size name name' one other xs ne h.2,
+      )
 
   -- its bytes are those after its header
   reads : (B : List ℕ) (b size name x z : ℕ) (block : Block) (l : List Chunk) → b + size ≤ length B → z ≤ size → Tell header B b x z l
       → find (has_name name) (live_of header B b l) ≡ Some block → block.bytes ≡ range_of (b + block.at + header) (length block.bytes) B
   reads B b size name x z block [] fits most t e = absurd (cc)
   reads B b size name x z block (c ∷ l) fits most t e =
-      let enough : least_len header c ≤ c.len = t.1 in let at = place_told B b x c t.0 in
-      let later = reads B b size name (x + c.len) z block l fits most t.2 in
-      grind (arith, told_le, cases_Bool, owner_named, named_here, length-range, named_skip)
+      grind (
+        arith,
+        told_le,
+        cases_Bool,
+        owner_named,
+        named_here,
+        length-range,
+        named_skip,
+        reads B b size name
+            (x + c.len) z block l fits most t.2,
+        place_told B b x c t.0,
+        t.1,
+      )
 
 module _ {heap : Region} {B : List ℕ} (laid : IsLaidOut heap B) where
   read_as : (name : ℕ) (o : Option Block) → find_block name (heap_of heap B) ≡ o
@@ -140,13 +154,12 @@ module _ {heap : Region} {B : List ℕ} (laid : IsLaidOut heap B) where
   inside : (name : ℕ) (block : Block) → find_block name (heap_of heap B) ≡ Some block
       → (length block.bytes ≤ block.room) × LiesIn heap.span (extent_of heap block)
   inside name block e =
-      let o = lies heap.header 0 heap.span.len name block (heap_of heap B).blocks (in_order laid.chunks) e in grind arith
+      grind (arith, lies heap.header 0 heap.span.len name block (heap_of heap B).blocks (in_order laid.chunks) e)
 
   apart : (name name' : ℕ) (one other : Block) → name ≢ name' → find_block name (heap_of heap B) ≡ Some one
       → find_block name' (heap_of heap B) ≡ Some other → AreApart (extent_of heap one) (extent_of heap other)
   apart name name' one other ne e e' =
-      let o = lie_apart heap.header 0 heap.span.len name name' one other (heap_of heap B).blocks ne (in_order laid.chunks) e e' in
-      grind arith
+      grind (arith, lie_apart heap.header 0 heap.span.len name name' one other (heap_of heap B).blocks ne (in_order laid.chunks) e e')
 
   pub blocks_lie_apart : BlocksLieApart heap B
   blocks_lie_apart = record {

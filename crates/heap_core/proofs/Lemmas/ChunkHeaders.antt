@@ -16,7 +16,7 @@ module _ (header : ℕ) where
   walked zero B b at end [] t few = refl
   walked zero B b at end (c ∷ l) t few = grind (arith, told_le)
   walked (suc n) B b at end [] t few = grind (arith, le-ltb)
-  walked (suc n) B b at end (c ∷ l) t few = let later = walked n B b (at + c.len) end l t.2 in grind (arith, told_le, lt-ltb)
+  walked (suc n) B b at end (c ∷ l) t few = grind (arith, told_le, lt-ltb, walked n B b (at + c.len) end l t.2)
 
   module _ (B : List ℕ) where
     module _ (b : ℕ) where
@@ -32,7 +32,7 @@ module _ (header : ℕ) where
 
       pub told_split : (x z : ℕ) (l r : List Chunk) → Tell header B b x z (l ++ r) → Split x z l r
       told_split x z [] r t = record { mid = x; front = refl; back = t }
-      told_split x z (c ∷ l) r t = let later = told_split (x + c.len) z l r t.2 in grind arith
+      told_split x z (c ∷ l) r t = grind (arith, told_split (x + c.len) z l r t.2)
 
 module _ (B : List ℕ) where
   -- the chunk that the three words of a header describe
@@ -63,10 +63,10 @@ module _ (header : ℕ) (B B' : List ℕ) (b s n : ℕ) (changes : ChangesOnly s
       → Tell header B' b x y l × (blocks_in header B' b l ≡ blocks_in header B b l)
   framed x y [] side t = (t, refl)
   framed x y (c ∷ l) side t =
-      let enough : least_len header c ≤ c.len = t.1 in let le = told_le header B b (x + c.len) y l t.2 in
+      let enough = t.1 in let le = told_le header B b (x + c.len) y l t.2 in
       let at = place_told B b x c t.0 in
       let later = framed (x + c.len) y l (grind arith) t.2 in
-      let here = chunk_frame B B' b s n changes x (grind arith) in let same = later.1 in ((here ∙ t.0, t.1, later.0), grind arith)
+      let same = later.1 in (((chunk_frame B B' b s n changes x (grind arith)) ∙ t.0, t.1, later.0), grind arith)
 
 pub owner_cases : (o : Option ℕ) → (o ≡ None) ⊎ ((name : ℕ) × (o ≡ Some name))
 owner_cases None = inl refl
@@ -84,7 +84,7 @@ module _ (header : ℕ) where
       pub blocks_append : (l r : List Chunk)
           → blocks_in header B b (l ++ r) ≡ blocks_in header B b l ++ blocks_in header B b r
       blocks_append [] r = refl
-      blocks_append (c ∷ l) r = let later = blocks_append l r in grind arith
+      blocks_append (c ∷ l) r = grind (arith, blocks_append l r)
 
       pub split_at : (end : ℕ) (chunk : Chunk) (before behind : List Chunk) → Tell header B b 0 end (before ++ (chunk ∷ behind))
           → Tell header B b 0 chunk.at before × (chunk_at B b chunk.at ≡ chunk) × (least_len header chunk ≤ chunk.len)
@@ -143,13 +143,13 @@ module _ (x : ℕ) where
   module _ (y : ℕ) where
     pub filter_elsewhere : (at : ℕ) (xs : List Block) → Between x y xs → (at < x) ⊎ (y ≤ at) → filter (elsewhere at) xs ≡ xs
     filter_elsewhere at [] h side = refl
-    filter_elsewhere at (block ∷ xs) h side = let later = filter_elsewhere at xs h.2 side in grind arith
+    filter_elsewhere at (block ∷ xs) h side = grind (arith, filter_elsewhere at xs h.2 side)
 
     module _ (block : Block) where
       pub placed_behind : (xs ys : List Block) → Between x y xs → y ≤ block.at
           → placed block (xs ++ ys) ≡ xs ++ placed block ys
       placed_behind [] ys h le = refl
-      placed_behind (other ∷ xs) ys h le = let later = placed_behind xs ys h.2 le in grind arith
+      placed_behind (other ∷ xs) ys h le = grind (arith, placed_behind xs ys h.2 le)
 
       pub placed_front : (xs : List Block) → Between x y xs → block.at < x → placed block xs ≡ block ∷ xs
       placed_front [] h le = refl
@@ -170,7 +170,7 @@ module _ (c : Chunk) where
 
   pub in_left : (l r : List Chunk) → In l → In (l ++ r)
   in_left [] r h = absurd h
-  in_left (d ∷ l) r h = let later = in_left l r in grind arith
+  in_left (d ∷ l) r h = grind (arith, in_left l r)
 
   pub in_right : (l r : List Chunk) → In r → In (l ++ r)
   in_right [] r h = h
@@ -178,7 +178,7 @@ module _ (c : Chunk) where
 
   pub in_cases : (l r : List Chunk) → In (l ++ r) → In l ⊎ In r
   in_cases [] r h = inr h
-  in_cases (d ∷ l) r h = let later = in_cases l r in grind arith
+  in_cases (d ∷ l) r h = grind (arith, in_cases l r)
 
   pub in_of : (l : List Chunk) → Stands c l → In l
   in_of l s = grind (arith, in_right)
@@ -236,8 +236,7 @@ module _ (header : ℕ) where
   pub joined_swap : (pre old new : List Chunk) → (BeginsLive old → BeginsLive new) → AreJoined header (pre ++ old)
       → AreJoined header new → AreJoined header (pre ++ new)
   joined_swap [] old new keep was joined = joined
-  joined_swap (c ∷ pre) old new keep was joined = let later = joined_swap pre old new keep was.2 joined in
-      grind (arith, begins_swap)
+  joined_swap (c ∷ pre) old new keep was joined = grind (arith, begins_swap, joined_swap pre old new keep was.2 joined)
 
   pub joined_behind : (pre new : List Chunk) → AreJoined header (pre ++ new) → AreJoined header new
   joined_behind [] new joined = joined
@@ -254,21 +253,17 @@ module _ (header : ℕ) where
           × (c.at + c.len ≤ y) × (least_len header c ≤ c.len)
       in_told x y c [] t h = absurd h
       in_told x y c (d ∷ l) t h =
-          let at = place_told B b x d t.0 in let later = in_told (x + d.len) y c l t.2 in grind (arith, told_le)
+          grind (arith, told_le, in_told (x + d.len) y c l t.2, place_told B b x d t.0)
 
       pub blocks_between : (x y : ℕ) (l : List Chunk) → Tell header B b x y l → Between x y (blocks_in header B b l)
       blocks_between x y [] t = tt
       blocks_between x y (c ∷ l) t =
-          let enough : least_len header c ≤ c.len = t.1 in let at = place_told B b x c t.0 in let later =
-          blocks_between (x + c.len) y l t.2 in
-          grind (arith, told_le, between_more)
+          grind (arith, told_le, between_more, blocks_between (x + c.len) y l t.2, place_told B b x c t.0, t.1)
 
       pub blocks_ascending : (x y : ℕ) (l : List Chunk) → Tell header B b x y l → Ascending y (blocks_in header B b l)
       blocks_ascending x y [] t = tt
       blocks_ascending x y (c ∷ l) t =
-          let enough : least_len header c ≤ c.len = t.1 in let at = place_told B b x c t.0 in let later =
-          blocks_ascending (x + c.len) y l t.2 in
-          grind (arith, told_le, between_more, blocks_between)
+          grind (arith, told_le, between_more, blocks_between, blocks_ascending (x + c.len) y l t.2, place_told B b x c t.0, t.1)
 
       module _ (end : ℕ) where
         pub inside : (c : Chunk) (l : List Chunk) → Tell header B b 0 end l → LiveIn c l
@@ -333,14 +328,21 @@ module _ {heap : Region} {B : List ℕ} {chunk : Chunk} (a : Around heap B chunk
 module _ (p : Block → Bool) where
   pub filter_between : (x y : ℕ) (xs : List Block) → Between x y xs → Between x y (filter p xs)
   filter_between x y [] h = tt
-  filter_between x y (block ∷ xs) h = let later = filter_between x y xs h.2 in grind arith
+  filter_between x y (block ∷ xs) h = grind (arith, filter_between x y xs h.2)
 
   -- a block that stays is put among those that stay
   pub filter_placed : (top : ℕ) (block : Block) (xs : List Block) → p block ≡ true → Ascending top xs
       → filter p (placed block xs) ≡ placed block (filter p xs)
   filter_placed top block [] stays h = rw stays refl
-  filter_placed top block (x ∷ xs) stays h = let later = filter_placed top block xs stays h.2 in
-      grind (arith, cases_Bool, ltb-true, between_more, placed_front, filter_between)
+  filter_placed top block (x ∷ xs) stays h = grind (
+    arith,
+    cases_Bool,
+    ltb-true,
+    between_more,
+    placed_front,
+    filter_between,
+    filter_placed top block xs stays h.2,
+  )
 
 module _ (o : Option ℕ) where
   pub owner_some : IsSomeAnd o (λ name. name < 272) → (name : ℕ) × (o ≡ Some name)

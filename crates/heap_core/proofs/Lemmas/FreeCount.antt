@@ -7,7 +7,7 @@ free_among chunks = filter (λ (chunk : Chunk). not (is_a_name chunk.owner)) chu
 count : (header : ℕ) (bytes : List ℕ) (base : ℕ) (chunks : List Chunk)
     → length (free_among chunks) ≡ length (unnamed (blocks_in header bytes base chunks)) + length (gaps_among chunks)
 count header bytes base [] = refl
-count header bytes base (chunk ∷ chunks) = let later = count header bytes base chunks in grind arith
+count header bytes base (chunk ∷ chunks) = grind (arith, count header bytes base chunks)
 
 pub all_linked : (heap : Region) (bytes : List ℕ) → IsLaidOut heap bytes → linked_of heap ≡ length (free_chunks heap bytes)
 all_linked heap bytes laid = grind (arith, count)

@@ -1,5 +1,5 @@
 -- Chunks that were freed and are not joined yet.
-use Rattle.heap_core.proofs.Lemmas.Words.{◌≡◌, ◌≢◌, ℕ, ◌+◌, ◌-◌, ◌≤◌, ◌<◌, inl, inr, Bool, not, List, [], ◌∷◌, ◌++◌, length, true, false, refl, sym, ap, ◌∙◌, subst, arith, Option, Some, None, IfSome, filter, map, cases_Bool, ltb-true, lt-ltb, le-ltb, length-append, filter-append, All-nil, ChangesOnly, Chunk, Region, Block, HeapStore, placed, heap_of, FREED, is_a_name, chunk_at, Tell, AreJoined, with_chunk, blocks_in, is_named, chunks_of, store_of, HasChunks, NoneAt, AreFreed, unnamed, GapsLinked, FreedLinked, Stands, LiveIn, Owned, Spliced, Aside, Changed, KeepsToSpan, KeepsFreed, block_in_chunk, block_at, with_block, without_place, place_in_chunk, bytes_in_chunk, Contents, gaps, IsLaidOut, Joins, ◌*◌, ◌⊎◌, sum_by, All, sum_by-cons, length-range, length-map, Gap, end_of, gaps_from, LieInOrder, shortest, least_len, mul-le, footprint, stats_of}
+use Rattle.heap_core.proofs.Lemmas.Words.{◌≡◌, ◌≢◌, ℕ, ◌+◌, ◌-◌, ◌≤◌, ◌<◌, inl, inr, Bool, not, List, [], ◌∷◌, ◌++◌, length, true, false, refl, sym, ap, ◌∙◌, subst, arith, Option, Some, None, IfSome, filter, map, cases_Bool, ltb-true, lt-ltb, le-ltb, length-append, filter-append, All-nil, ChangesOnly, Chunk, Region, Block, HeapStore, placed, heap_of, FREED, is_a_name, chunk_at, Tell, AreJoined, with_chunk, blocks_in, is_named, chunks_of, store_of, HasChunks, NoneAt, AreFreed, unnamed, GapsLinked, FreedLinked, Stands, LiveIn, Owned, Spliced, Aside, Changed, KeepsToSpan, KeepsFreed, block_in_chunk, block_at, with_block, without_place, place_in_chunk, bytes_in_chunk, Contents, gaps, IsLaidOut, Joins, ◌*◌, ◌⊎◌, sum_by, All, sum_by-cons, length-range, length-map, Gap, end_of, gaps_from, LieInOrder, shortest, mul-le, footprint, stats_of}
 use Rattle.heap_core.proofs.Lemmas.ChunkHeaders.{store_with, elsewhere, swapped, Around, around, blocks_append, changes_more, place_told, told_le, Step, step, ended}
 use Rattle.heap_core.proofs.Lemmas.Gaps.{many, gaps_are, last_end}
 use Rattle.heap_core.proofs.Lemmas.Lists.{cut_at, cut_left, edit_kept, edit_put, swapped_list}
@@ -8,7 +8,7 @@ use Rattle.mote_types.specs.declared.reply.HeapStats.{HeapStats}
 -- with none that has no name all have one
 pub all_named : (xs : List Block) → length (unnamed xs) ≡ 0 → filter is_named xs ≡ xs
 all_named [] e = refl
-all_named (x ∷ xs) e = let later = all_named xs in grind arith
+all_named (x ∷ xs) e = grind (arith, all_named xs)
 
 pub owner_named : (o : Option ℕ) → is_a_name o ≡ true → (name : ℕ) × (o ≡ Some name) × (name < 272)
 owner_named o e = grind arith
@@ -22,11 +22,11 @@ freed_moved all new head (c ∷ list) at none kept h = (h.0, kept c h.1 none.0, 
 module _ (p : Block → Bool) where
   pub filter_swap : (q : Block → Bool) (xs : List Block) → filter p (filter q xs) ≡ filter q (filter p xs)
   filter_swap q [] = refl
-  filter_swap q (x ∷ xs) = let later = filter_swap q xs in grind arith
+  filter_swap q (x ∷ xs) = grind (arith, filter_swap q xs)
 
   fewer : (xs : List Block) → length (filter p xs) ≤ length xs
   fewer [] = omega arith
-  fewer (x ∷ xs) = let later = fewer xs in grind (arith, cases_Bool)
+  fewer (x ∷ xs) = grind (arith, cases_Bool, fewer xs)
 
 module _ {heap : Region} {B : List ℕ} (has : HasChunks heap B) where
   abbrev T : List Chunk
@@ -66,26 +66,26 @@ module _ {heap : Region} {B : List ℕ} (has : HasChunks heap B) where
       )
 
   pub newest_is : FreedLinked heap B → {at : ℕ} {chunk : Chunk} → heap.newest ≡ Some at → chunk ≡ chunk_at B heap.span.at at → Newest chunk
-  newest_is f {at} {chunk} e is = let cases = freed_cases f in grind arith
+  newest_is f {at} {chunk} e is = grind (arith, freed_cases f)
 
   pub none_newest : FreedLinked heap B → heap.newest ≡ None → heap.freed ≡ 0
-  none_newest f e = let cases = freed_cases f in grind arith
+  none_newest f e = grind (arith, freed_cases f)
 
   pub newest_none : FreedLinked heap B → heap.freed ≡ 0 → heap.newest ≡ None
-  newest_none f e = let cases = freed_cases f in grind arith
+  newest_none f e = grind (arith, freed_cases f)
 
   pub newest_small : FreedLinked heap B → IfSome heap.newest (λ place. place < 65536)
   newest_small f = elim (freed_cases f) [
     | inl none ↦ subst (λ o. IfSome o (λ place. place < 65536)) (sym none.0) tt
     | inr some ↦
-        let a = around has some.3.live.stands in let at = place_told B heap.span.at some.0 _ refl in
-        subst (λ o. IfSome o (λ place. place < 65536)) (sym some.1) (omega (arith, a.fits, a.enough, at, heap.inside, heap.small))
+        let a = around has some.3.live.stands in subst (λ o. IfSome o (λ place. place < 65536)) (sym some.1)
+        (omega (arith, a.fits, a.enough, place_told B heap.span.at some.0 _ refl, heap.inside, heap.small))
   ]
 
 -- a chunk with or without a name, and the others
 module _ {heap : Region} {B : List ℕ} {chunk : Chunk} (at : Around heap B chunk) {name : ℕ} (owner : chunk.owner ≡ Some name) where
   pub is_live : chunk.owner ≢ None
-  is_live none = absurd (let two : None ≡ Some name = sym none ∙ owner in cc)
+  is_live none = absurd (let two = sym none ∙ owner in cc)
 
   abbrev xs : List Block
   xs = blocks_in heap.header B heap.span.at at.before
@@ -117,8 +117,7 @@ module _ {heap : Region} {B : List ℕ} {chunk : Chunk} (at : Around heap B chun
 
   pub unnamed_without : 272 ≤ name
       → length (unnamed (store_of heap B).blocks) ≡ 1 + length (unnamed (filter (elsewhere chunk.at) (store_of heap B).blocks))
-  unnamed_without big = let none : is_named block ≡ false = le-ltb name 272 big in let all = all_blocks in let others = other_blocks in
-      let one = counted (λ k. not (is_named k)) block in grind arith
+  unnamed_without big = grind (arith, counted (λ k. not (is_named k)) block, other_blocks, all_blocks, le-ltb name 272 big)
 
   -- it is set aside
   module _ (small : name < 272) (new : Region) {B' : List ℕ} (span : new.span ≡ heap.span) (header : new.header ≡ heap.header)
@@ -130,7 +129,7 @@ module _ {heap : Region} {B : List ℕ} {chunk : Chunk} (at : Around heap B chun
     aside = record { at = chunk.at; len = chunk.len; owner = Some FREED; size = chunk.size; link = heap.newest }
 
     freed_live : aside.owner ≢ None
-    freed_live none = absurd (let two : Some FREED ≡ None = none in cc)
+    freed_live none = absurd (let two = none in cc)
 
     set : Spliced heap new B B' at.before (aside ∷ []) at.behind
     set = swapped at aside span header footprint
@@ -146,18 +145,23 @@ module _ {heap : Region} {B : List ℕ} {chunk : Chunk} (at : Around heap B chun
 
     set_named : filter is_named (store_of new B').blocks ≡ filter (elsewhere chunk.at) (filter is_named (store_of heap B).blocks)
     unfolding k
-    set_named = let now = set_blocks in let none = filtered is_named k in let others = other_blocks in grind (arith, filter_swap, elsewhere)
+    set_named = grind (arith, filter_swap, elsewhere, other_blocks, filtered is_named k, set_blocks)
 
     set_unnamed : length (unnamed (store_of new B').blocks) ≡ 1 + length (unnamed (store_of heap B).blocks)
     unfolding k
-    set_unnamed = let named : is_named block ≡ true = lt-ltb name 272 small in let all = all_blocks in let now = set_blocks in
-        let one = counted (λ j. not (is_named j)) k in let none = filtered (λ j. not (is_named j)) block in grind arith
+    set_unnamed = grind (
+      arith,
+      filtered (λ j. not (is_named j)) block,
+      counted (λ j. not (is_named j)) k,
+      set_blocks,
+      all_blocks,
+      lt-ltb name 272 small,
+    )
 
     none_there : (head : Option ℕ) (list : List Chunk) → AreFreed (chunks_of heap B) head list → NoneAt chunk.at list
     none_there head [] h = tt
     none_there head (d ∷ list) h = (
-      (λ e. (let same = same_chunk at.has d chunk h.1.stands (record { before = at.before; behind = at.behind; is = at.is }) e in
-          grind arith)),
+      (λ e. (grind (arith, same_chunk at.has d chunk h.1.stands (record { before = at.before; behind = at.behind; is = at.is }) e))),
       none_there d.link list h.4,
     )
 
@@ -191,7 +195,7 @@ module _ {heap : Region} {B : List ℕ} {chunk : Chunk} (at : Around heap B chun
     again = record { at = chunk.at; len = chunk.len; owner = Some name; size = n; link = None }
 
     again_live : again.owner ≢ None
-    again_live none = absurd (let two : Some name ≡ None = none in cc)
+    again_live none = absurd (let two = none in cc)
 
     anew : Spliced heap heap B after.bytes at.before (again ∷ []) at.behind
     anew = swapped at again refl refl refl changes told refl (omega (arith, at.enough, room))
@@ -206,9 +210,12 @@ module _ {heap : Region} {B : List ℕ} {chunk : Chunk} (at : Around heap B chun
       chunks = anew.has;
       gaps = swapped_list at anew is_live again_live refl refl g;
       block =
-          let put = edit_put (cut_at at) anew (block_at (place_in_chunk heap.header chunk) name ws)
-          (filter (elsewhere chunk.at) (store_of heap B).blocks) refl in
-          let left = cut_left (cut_at at) in grind arith;
+          grind (
+            arith,
+            cut_left (cut_at at),
+            edit_put (cut_at at) anew (block_at (place_in_chunk heap.header chunk) name ws)
+                (filter (elsewhere chunk.at) (store_of heap B).blocks) refl,
+          );
       others = subst (λ (l : List ℕ). (other : Chunk) → LiveIn other (chunks_of heap l) → other.at ≢ chunk.at
           → LiveIn other (chunks_of heap after.bytes)) (sym same) (edit_kept (cut_at at) anew);
       kept = record { places = refl; newest = refl; freed = refl };
@@ -222,7 +229,7 @@ owned_live has o = record { stands = o.stands; live = is_live (around has o.stan
 -- a block with a name is put among the others
 placed_unnamed : (block : Block) (xs : List Block) → is_named block ≡ true → length (unnamed (placed block xs)) ≡ length (unnamed xs)
 placed_unnamed block [] named = rw named refl
-placed_unnamed block (x ∷ xs) named = let later = placed_unnamed block xs named in grind arith
+placed_unnamed block (x ∷ xs) named = grind (arith, placed_unnamed block xs named)
 
 -- with no chunk set aside there is no list of them
 freed_none : (old new : Region) (B B' : List ℕ) → HasChunks old B → FreedLinked old B → old.freed ≡ 0 → KeepsFreed old new
@@ -256,9 +263,8 @@ pub put_named : {old new : Region} {B B' : List ℕ} → HasChunks old B → Fre
     → (block : Block)
     (base : HeapStore) → store_of new B' ≡ with_block block base → length (unnamed base.blocks) ≡ 0 → block.name < 272
     → Named new B' (with_block block base)
-put_named {old} {new} {B} {B'} has f none kept block base is all named = let freed = freed_none old new B B' has f none kept in
-    let more = placed_unnamed block base.blocks (lt-ltb block.name 272 named) in
-    grind (arith, plain)
+put_named {old} {new} {B} {B'} has f none kept block base is all named = grind
+    (arith, plain, placed_unnamed block base.blocks (lt-ltb block.name 272 named), freed_none old new B B' has f none kept)
 
 -- all its chunks that are no gaps are the live blocks from before
 pub joined_is : {old new : Region} {before after : Contents} → Joins old new before after → new.freed ≡ 0
@@ -301,20 +307,32 @@ module _ (header : ℕ) (B : List ℕ) (b : ℕ) where
   pub live_in_order : (size from x z : ℕ) (l : List Chunk) → b + size ≤ length B → z ≤ size → from ≤ x → Tell header B b x z l
       → LieInOrder header from (live_of header B b l) size
   live_in_order size from x z [] fits most le t = omega (arith, t)
-  live_in_order size from x z (c ∷ l) fits most le t = let enough : least_len header c ≤ c.len = t.1 in let at = place_told B b x c t.0 in
-      let later = live_in_order size (c.at + (header + (c.len - header))) (x + c.len) z l fits most in
-      let other = live_in_order size from (x + c.len) z l fits most in
-      grind (arith, told_le, cases_Bool, owner_named, named_here, length-range, named_skip)
+  live_in_order size from x z (c ∷ l) fits most le t = grind (
+    arith,
+    told_le,
+    cases_Bool,
+    owner_named,
+    named_here,
+    length-range,
+    named_skip,
+    live_in_order size from (x + c.len) z l fits most,
+    live_in_order size (c.at + (header + (c.len - header))) (x + c.len) z l fits most,
+    place_told B b x c t.0,
+    t.1,
+  )
 
   -- what is between two of them has whole chunks
   pub live_gaps_long : (from x z : ℕ) (l : List Chunk) → Tell header B b x z l → AreJoined header l → (from ≡ x)
       ⊎ (from + shortest header ≤ x) → All (Long header) (gaps_from header from (live_of header B b l))
   live_gaps_long from x z [] t joined side = All-nil (Long header)
   live_gaps_long from x z (c ∷ l) t joined side =
-      let enough : least_len header c ≤ c.len = t.1 in let at = place_told B b x c t.0 in
-      let later = live_gaps_long (c.at + (header + (c.len - header))) (x + c.len) z l t.2 joined.2 (inl (omega arith)) in
-      let other = live_gaps_long from (x + c.len) z l t.2 joined.2 (inr (grind arith))
-      in grind arith
+      let enough = t.1 in let at = place_told B b x c t.0 in
+      grind (
+        arith,
+        live_gaps_long from (x + c.len) z l t.2 joined.2 (inr (grind arith)),
+        live_gaps_long
+            (c.at + (header + (c.len - header))) (x + c.len) z l t.2 joined.2 (inl (omega arith)),
+      )
 
 -- the blocks with their headers, the gaps and the top gap take all bytes
 pub all_bytes : (header from size : ℕ) (xs : List Block) → LieInOrder header from xs size → (last_end header from xs ≤ size)
@@ -323,7 +341,7 @@ all_bytes header from size [] h = (h, omega arith)
 all_bytes header from size (block ∷ xs) h = let later = all_bytes header (end_of header block) size xs h.2 in
     let sum = sum_by-cons (λ (block : Block). block.room) block xs in
     let gap : Gap = record { at = from; len = block.at - from } in
-    let sums = sum_by-cons (λ (gap : Gap). gap.len) gap (gaps_from header (end_of header block) xs) in grind (arith, ltb-true)
+    grind (arith, ltb-true, sum_by-cons (λ (gap : Gap). gap.len) gap (gaps_from header (end_of header block) xs))
 
 -- What the statistics have counted while they walk over the chunks.
 abbrev stats : ℕ → ℕ → ℕ → ℕ → ℕ → HeapStats
@@ -362,8 +380,7 @@ module _ {heap : Region} {B : List ℕ} (has : HasChunks heap B) where
 
     pub counted_all : heap.footprint ≤ at → stats rooms (heap.header * many) (heap.span.len - rooms - heap.header * many) end many
         ≡ stats_of (heap_of heap B)
-    counted_all far = let none = ended heap.header B b at heap.footprint w.left w.told far in
-        grind (arith, all_bytes, in_order, last_end)
+    counted_all far = grind (arith, all_bytes, in_order, last_end, ended heap.header B b at heap.footprint w.left w.told far)
 
 module _ {heap : Region} {B : List ℕ} {rooms many end at : ℕ} {chunk : Chunk} (w : Counted heap B rooms many end at)
     (is : chunk ≡ chunk_at B heap.span.at at) (more : at < heap.footprint) where
@@ -373,15 +390,15 @@ module _ {heap : Region} {B : List ℕ} {rooms many end at : ℕ} {chunk : Chunk
   pub counted_live : is_a_name chunk.owner ≡ true
       → Counted heap B (rooms + (chunk.len - heap.header)) (many + 1) (at + chunk.len) (at + chunk.len)
   counted_live named =
-      let m = met in let o = owner_named chunk.owner named in let place = place_told B heap.span.at at chunk (sym is) in
-      let k = block_in_chunk heap.header B heap.span.at o.0 chunk in
-      let here = named_here heap.header B heap.span.at chunk m.later o.0 o.1 o.2 in
-      let sum = sum_by-cons (λ (block : Block). block.room) k (live_of heap.header B heap.span.at m.later) in
-      let same : chunk.at + (heap.header + (chunk.len - heap.header)) ≡ at + chunk.len = omega (arith, m.enough, place) in
+      let m = met in let o = owner_named chunk.owner named in let here = named_here heap.header B heap.span.at chunk m.later o.0 o.1 o.2 in
+      let sum = sum_by-cons (λ (block : Block). block.room) (block_in_chunk heap.header B heap.span.at o.0 chunk)
+      (live_of heap.header B heap.span.at m.later) in
+      let same : chunk.at + (heap.header + (chunk.len - heap.header)) ≡ at + chunk.len = omega
+      (arith, m.enough, place_told B heap.span.at at chunk (sym is)) in
       grind arith
 
   pub counted_free : is_a_name chunk.owner ≡ false → Counted heap B rooms many end (at + chunk.len)
-  counted_free free = let m = met in grind (arith, named_skip)
+  counted_free free = grind (arith, named_skip, met)
 
 module _ (p : Block → Bool) where
   pub none_unnamed : (xs : List Block) → length (unnamed xs) ≡ 0 → length (unnamed (filter p xs)) ≡ 0
@@ -391,4 +408,4 @@ module _ (p : Block → Bool) where
   pub filter_map : (f : Block → Block) → ((block : Block) → p (f block) ≡ p block) → (xs : List Block)
       → filter p (map f xs) ≡ map f (filter p xs)
   filter_map f keeps [] = refl
-  filter_map f keeps (x ∷ xs) = let later = filter_map f keeps xs in grind arith
+  filter_map f keeps (x ∷ xs) = grind (arith, filter_map f keeps xs)

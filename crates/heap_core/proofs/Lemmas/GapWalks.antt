@@ -41,8 +41,7 @@ module _ {heap : Region} {B : List ℕ} {p : ℕ} where
 
     pub walk_more : {new : Option ℕ} → new ≡ gap.link → Walked heap B p (place_in_link word) new
     walk_more {new} link =
-        let s = walk_step in let here = word_below word p small less in let place = place_told B heap.span.at word gap refl in
-        grind (arith, lt-ltb)
+        grind (arith, lt-ltb, word_below word p small less, walk_step)
 
   pub stop : {below : Option ℕ} (word : ℕ) → Walked heap B p below (place_in_link word) → p ≤ word
       → (below ≡ option_map (λ (gap : Chunk). gap.at) (gap_below p (gaps_among (chunks_of heap B))))
@@ -60,7 +59,7 @@ module _ (B : List ℕ) where
       → IfSome found (HasHeader b end) → IfSome (below_from p found gaps) (HasHeader b end)
   lower_told b from end p head found [] follow h = h
   lower_told b from end p head found (gap ∷ gaps) follow h =
-      let later = lower_told b (gap.at + 1) end p gap.link (Some gap) gaps follow.5 in grind arith
+      grind (arith, lower_told b (gap.at + 1) end p gap.link (Some gap) gaps follow.5)
 
 -- The search along the links for the shortest gap that is long enough.
 
@@ -73,15 +72,22 @@ module _ (need : ℕ) where
   -- a gap that has no byte too many stays the best one
   exact_kept : (found : Gap) (gaps : List Chunk) → found.len ≤ need → fold (better_chunk need) (Some found) gaps ≡ Some found
   exact_kept found [] exact = refl
-  exact_kept found (gap ∷ gaps) exact = let later = exact_kept found gaps exact in grind arith
+  exact_kept found (gap ∷ gaps) exact = grind (arith, exact_kept found gaps exact)
 
   -- so the search may stop at it
   pub exact_is_best : (best : Option Gap) (gap : Chunk) (later : List Chunk) → gap.len ≡ need
       → fold (better_chunk need) (better_chunk need best gap) later ≡ better_chunk need best gap
   exact_is_best None gap later exact = grind (arith, le-leb, better_chunk, exact_kept)
-  exact_is_best (Some other) gap later exact = let kept = exact_kept (record { at = gap.at; len = gap.len }) later in
-      let kept' = exact_kept other later in
-      grind (arith, le-leb, better_chunk, cases_Bool, ltb-false)
+  exact_is_best (Some other) gap later exact = grind (
+    arith,
+    le-leb,
+    better_chunk,
+    cases_Bool,
+    ltb-false,
+    exact_kept other later,
+    exact_kept
+        (record { at = gap.at; len = gap.len }) later,
+  )
 
   module _ (best : Option Gap) where
     module _ (gap : Chunk) where

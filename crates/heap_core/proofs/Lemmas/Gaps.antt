@@ -26,7 +26,7 @@ module _ (c : Chunk) where
 
 gap_in : (c : Chunk) (l : List Chunk) → In c (gaps_among l) → In c l × (c.owner ≡ None)
 gap_in c [] h = absurd h
-gap_in c (d ∷ l) h = let later = gap_in c l in grind (arith, owner_cases)
+gap_in c (d ∷ l) h = grind (arith, owner_cases, gap_in c l)
 
 abbrev pub last_end : ℕ → ℕ → List Block → ℕ
 last_end header from blocks = fold (λ _ block. end_of header block) from blocks
@@ -44,8 +44,7 @@ module _ (header : ℕ) (B : List ℕ) (b : ℕ) where
       × ((from : ℕ) → from < x → BeginsLive l → gaps_from header from (blocks_in header B b l) ≡ gap_from from x ∷ gaps_in l)
   gaps_both x z [] t j = (refl, λ from less live. absurd live)
   gaps_both x z (c ∷ l) t j =
-      let enough : least_len header c ≤ c.len = t.1 in let at = place_told B b x c t.0 in
-      let later = gaps_both (x + c.len) z l t.2 j.2 in grind arith
+      grind (arith, gaps_both (x + c.len) z l t.2 j.2, place_told B b x c t.0, t.1)
 
   pub gaps_are : (x z : ℕ) (l : List Chunk) → Tell header B b x z l → AreJoined header l
       → gaps_from header x (blocks_in header B b l) ≡ gaps_in l
@@ -55,8 +54,7 @@ module _ (header : ℕ) (B : List ℕ) (b : ℕ) where
       × ((from : ℕ) → BeginsLive l → last_end header from (blocks_in header B b l) ≡ z)
   end_both x z [] t j = (t, λ from live. absurd live)
   end_both x z (c ∷ l) t j =
-      let enough : least_len header c ≤ c.len = t.1 in let at = place_told B b x c t.0 in
-      let later = end_both (x + c.len) z l t.2 j.2 in grind arith
+      grind (arith, end_both (x + c.len) z l t.2 j.2, place_told B b x c t.0, t.1)
 
   pub end_is : (x z : ℕ) (l : List Chunk) → Tell header B b x z l → AreJoined header l → last_end header x (blocks_in header B b l) ≡ z
   end_is x z l t j = grind (arith, end_both)
@@ -64,7 +62,7 @@ module _ (header : ℕ) (B : List ℕ) (b : ℕ) where
   -- each block has room for the words that describe a chunk
   pub many : (x z : ℕ) (l : List Chunk) → Tell header B b x z l → x + 12 * length (blocks_in header B b l) ≤ z
   many x z [] t = omega (arith, t)
-  many x z (c ∷ l) t = let later = many (x + c.len) z l t.2 in grind arith
+  many x z (c ∷ l) t = grind (arith, many (x + c.len) z l t.2)
 
 module _ (need : ℕ) where
   -- the best gap is one of the gaps
@@ -83,7 +81,7 @@ module _ (need : ℕ) where
   best_found : (best : Option Gap) (gap : Gap) (l : List Chunk) → fold better_chunk best l ≡ Some gap
       → (best ≡ Some gap) ⊎ ((c : Chunk) × In c l × (gap_in_chunk c ≡ gap) × (need ≤ gap.len))
   best_found best gap [] e = inl e
-  best_found best gap (c ∷ l) e = let later = best_found (better_chunk best c) gap l e in grind (arith, better_is)
+  best_found best gap (c ∷ l) e = grind (arith, better_is, best_found (better_chunk best c) gap l e)
 
 -- a gap among the chunks
 pub record Found (need : ℕ) (gap : Gap) (l : List Chunk) : Type 0 where
@@ -137,9 +135,7 @@ module _ (header : ℕ) where
         → find (begins p) (gaps_in l) ≡ None
     no_gap b p x y [] t side = refl
     no_gap b p x y (c ∷ l) t side =
-        let enough : least_len header c ≤ c.len = t.1 in let at = place_told B b x c t.0 in let later =
-        no_gap b p (x + c.len) y l t.2 (grind arith) in
-        grind (arith, told_le)
+        grind (arith, told_le, no_gap b p (x + c.len) y l t.2 (grind arith), place_told B b x c t.0, t.1)
 
     front_found : (b at z : ℕ) (l : List Chunk) → Tell header B b at z l
         → len_or_none (find (begins at) (gaps_in l)) ≡ front_gap l
@@ -176,9 +172,12 @@ module _ {heap : Region} {B : List ℕ} {chunk : Chunk} (a : Around heap B chunk
   gap_at_end live =
       let b = heap.span.at in let end = chunk.at + chunk.len in let has = a.has in
       let all : gaps (store_of heap B) ≡ gaps_in a.before ++ gaps_in a.behind = grind (arith, owner_cases, gaps_are, in_append) in
-      let none = no_gap heap.header B b end 0 chunk.at a.before a.front (inr (omega arith)) in
-      let found = front_found heap.header B b end heap.footprint a.behind a.back in
-      grind (arith, find-append)
+      grind (
+        arith,
+        find-append,
+        front_found heap.header B b end heap.footprint a.behind a.back,
+        no_gap heap.header B b end 0 chunk.at a.before a.front (inr (omega arith)),
+      )
 
   pub room_is : (n : ℕ) → chunk.owner ≢ None → room_in_place (place_in_chunk heap.header chunk) n (store_of heap B)
       ≡ choice (least_room heap.header n) (chunk.len - heap.header) (chunk.at + chunk.len) heap.footprint
@@ -234,11 +233,15 @@ module _ {heap : Region} {B : List ℕ} (has : HasChunks heap B) {n : ℕ} (some
   in_gap : (target : Place) (gap : Gap) → best_gap (heap.header + need) (gaps (store_of heap B)) ≡ Some gap
       → place_in heap.header need gap ≡ target → Outcome target
   in_gap target gap found same =
-      let f = best_fits has (sym found) in
-      let a = around has f.stands in
-      let at = ap (λ (p : Place). p.at) same in let room = ap (λ (p : Place). p.room) same in
-      let most = gap.len - heap.header in let r = needed heap n some in let k = lengths heap in
-      grind arith
+      grind (
+        arith,
+        lengths heap,
+        needed heap n some,
+        gap.len - heap.header,
+        ap (λ (p : Place). p.at) same,
+        around has
+            (best_fits has (sym found)).stands,
+      )
 
   chosen : (target : Place) (best : Option Gap) → best_gap (heap.header + need) (gaps (store_of heap B)) ≡ best
       → option_or (option_map (place_in heap.header need) best) (top_place need (store_of heap B)) ≡ Some target → Outcome target

@@ -75,8 +75,7 @@ module _ {heap : Region} {B : List ℕ} {target : Place} {end n taken : ℕ} {ol
     count = omega (arith, l.count, g.count, edit_count r.cut l.spliced, r.count);
     linked = edit_list r.cut l.spliced g.linked l.linked at_link at_last;
     block = λ ws fresh. (
-        let put = edit_put r.cut l.spliced (block_at target name ws) olds refl in let blocks = l.blocks in let left = r.blocks in
-        grind arith);
+        grind (arith, r.blocks, l.blocks, edit_put r.cut l.spliced (block_at target name ws) olds refl));
     kept = edit_kept r.cut l.spliced;
   }
 
@@ -170,10 +169,10 @@ module _ {heap : Region} {B : List ℕ} (has : HasChunks heap B) {chunk : Chunk}
           (sym (room_is own n owns) ∙ chosen)
 
       own_rest : Leaves heap (chunk.at + (heap.header + room)) end
-      own_rest = let a = own in let k = known in grind (arith, own_end, cases_eq, gap_same)
+      own_rest = grind (arith, own_end, cases_eq, gap_same, known, own)
 
       own_inside : chunk.at + (heap.header + room) ≤ heap.span.len
-      own_inside = let a = own in let k = known in grind (arith, own_end, cases_eq, gap_same)
+      own_inside = grind (arith, own_end, cases_eq, gap_same, known, own)
 
       pub own_room : Room heap B (at_place chunk.at room) end n (gap_count gap) (filter (elsewhere chunk.at) (store_of heap B).blocks)
       own_room =
@@ -189,7 +188,7 @@ module _ {heap : Region} {B : List ℕ} (has : HasChunks heap B) {chunk : Chunk}
             back = grind (arith, gap_same);
             only = ((λ _. refl), r.only chunk.at);
             low = omega arith;
-            high = inl (let long = own.enough in omega arith);
+            high = inl (omega (arith, own.enough));
           } in
           record {
             cut = cut;
@@ -199,6 +198,6 @@ module _ {heap : Region} {B : List ℕ} (has : HasChunks heap B) {chunk : Chunk}
             rest = own_rest;
             most = own_end;
             whole = known.whole;
-            enough = omega (arith, known.enough, (needed heap n some).enough);
+            enough = omega (arith, known.enough);
             blocks = cut_left cut;
           }

@@ -1,5 +1,5 @@
 -- The list of the gaps: walks along it, and what stays of it where chunks are exchanged.
-use Rattle.heap_core.proofs.Lemmas.Words.{◌≡◌, ◌≢◌, ℕ, ◌+◌, ◌*◌, ◌≤◌, ◌<◌, ◌⊎◌, inl, List, [], ◌∷◌, ◌++◌, length, refl, sym, ap, ◌∙◌, subst, arith, Option, Some, None, IfSome, fold, append_assoc, length-append, Chunk, Region, least_len, chunk_at, Tell, chunks_of, HasChunks, gaps_among, behind_link, LinkedTo, Stands, gap_count, Follow, below_from, gap_below, gap_from, last_of, place_in_link, Relinked, KeepsFreed, append-nil, front_gap, ChangesOnly, store_of, LinkChanged, OnlyAt, Cut, Spliced, filter, Block, LiveIn, blocks_in, GapsLinked, without_place, with_block, eq-eqb, filter-append, IsLink}
+use Rattle.heap_core.proofs.Lemmas.Words.{◌≡◌, ◌≢◌, ℕ, ◌+◌, ◌*◌, ◌≤◌, ◌<◌, ◌⊎◌, inl, List, [], ◌∷◌, ◌++◌, length, refl, sym, ap, ◌∙◌, subst, arith, Option, Some, None, IfSome, fold, append_assoc, length-append, Chunk, Region, chunk_at, Tell, chunks_of, HasChunks, gaps_among, behind_link, LinkedTo, Stands, gap_count, Follow, below_from, gap_below, gap_from, last_of, place_in_link, Relinked, KeepsFreed, append-nil, front_gap, ChangesOnly, store_of, LinkChanged, OnlyAt, Cut, Spliced, filter, Block, LiveIn, blocks_in, GapsLinked, without_place, with_block, eq-eqb, filter-append, IsLink}
 use Rattle.heap_core.proofs.Lemmas.ChunkHeaders.{store_with, Around, place_told, told_append, told_le, owner_cases, around, blocks_append, changes_more, around_split, live_kept, In, swapped, in_of, in_told, in_without, elsewhere, filter_elsewhere, blocks_between, placed_front, placed_behind}
 use Rattle.heap_core.proofs.Lemmas.Gaps.{none_in_front, gaps_append, gap_first}
 
@@ -19,7 +19,7 @@ pub record Parted (head end : Option ℕ) (l r : List Chunk) : Type 0 where
 
 pub linked_parted : (head end : Option ℕ) (l r : List Chunk) → LinkedTo head (l ++ r) end → Parted head end l r
 linked_parted head end [] r h = record { mid = head; front = refl; back = h }
-linked_parted head end (c ∷ l) r h = let later = linked_parted (behind_link head c c.owner) end l r h.1 in grind arith
+linked_parted head end (c ∷ l) r h = grind (arith, linked_parted (behind_link head c c.owner) end l r h.1)
 
 -- walks along the links
 follow_lower : (B : List ℕ) (b from end lower : ℕ) (head : Option ℕ) (l : List Chunk) → lower ≤ from → Follow B b from end head l
@@ -30,15 +30,21 @@ follow_lower B b from end lower head (c ∷ l) le h = grind arith
 pub followed : (header : ℕ) (B : List ℕ) (b x end : ℕ) (head : Option ℕ) (l : List Chunk) → Tell header B b x end l → LinkedTo head l None
     → Follow B b x end head (gaps_among l) × (x + 12 * length (gaps_among l) ≤ end)
 followed header B b x end head [] t h = (h, omega (arith, t))
-followed header B b x end head (c ∷ l) t h = let gap = followed header B b (x + c.len) end c.link l t.2 in
-    let live = followed header B b (x + c.len) end head l t.2 in
-    let at = place_told B b x c t.0 in grind (arith, told_le, follow_lower)
+followed header B b x end head (c ∷ l) t h = grind (
+  arith,
+  told_le,
+  follow_lower,
+  place_told B b x c t.0,
+  followed header B b
+      (x + c.len) end head l t.2,
+  followed header B b (x + c.len) end c.link l t.2,
+)
 
 module _ (head : Option ℕ) where
   -- without a gap there is nothing to link
   pub linked_none : (l : List Chunk) → gaps_among l ≡ [] → LinkedTo head l head
   linked_none [] e = refl
-  linked_none (c ∷ l) e = let later = linked_none l in grind arith
+  linked_none (c ∷ l) e = grind (arith, linked_none l)
 
   -- what is below a position, and from there on
   pub record Ends (p : ℕ) (all before behind : List Chunk) : Type 0 where
@@ -72,8 +78,7 @@ module _ (header : ℕ) (B : List ℕ) (b : ℕ) where
         → IfSome (gap_from p (gaps_among l)) (λ place. place < most)
     gap_from_small x y most [] t le = tt
     gap_from_small x y most (c ∷ l) t le =
-        let enough : least_len header c ≤ c.len = t.1 in let at = place_told B b x c t.0 in
-        let end = told_le header B b (x + c.len) y l t.2 in let later = gap_from_small (x + c.len) y most l t.2 le in grind arith
+        grind (arith, gap_from_small (x + c.len) y most l t.2 le, told_le header B b (x + c.len) y l t.2, place_told B b x c t.0, t.1)
 
     -- those below it are passed
     passed : (x y : ℕ) (found : Option Chunk) (l : List Chunk) (gaps : List Chunk) → Tell header B b x y l → y ≤ p
@@ -81,24 +86,33 @@ module _ (header : ℕ) (B : List ℕ) (b : ℕ) where
         × (below_from p found (gaps_among l ++ gaps) ≡ below_from p (fold (λ _ gap. Some gap) found (gaps_among l)) gaps)
     passed x y found [] gaps t le = (refl, refl)
     passed x y found (c ∷ l) gaps t le =
-        let enough : least_len header c ≤ c.len = t.1 in let at = place_told B b x c t.0 in
-        let end = told_le header B b (x + c.len) y l t.2 in let live = passed (x + c.len) y found l gaps t.2 le in
-        let gap = passed (x + c.len) y (Some c) l gaps t.2 le in grind arith
+        grind (
+          arith,
+          passed (x + c.len) y (Some c) l gaps t.2 le,
+          passed (x + c.len) y found l gaps t.2 le,
+          told_le header B b
+              (x + c.len) y l t.2,
+          place_told B b x c t.0,
+          t.1,
+        )
 
     -- and no other
     stopped : (x y : ℕ) (head : Option ℕ) (found : Option Chunk) (l : List Chunk) → Tell header B b x y l → p ≤ x → LinkedTo head l None
         → (gap_from p (gaps_among l) ≡ head) × (below_from p found (gaps_among l) ≡ found)
     stopped x y head found [] t le h = (sym h, refl)
     stopped x y head found (c ∷ l) t le h =
-        let at = place_told B b x c t.0 in let later = stopped (x + c.len) y head found l t.2 (omega arith) in grind arith
+        grind (arith, stopped (x + c.len) y head found l t.2 (omega arith), place_told B b x c t.0)
 
   pub list_ends : (head : Option ℕ) (p end : ℕ) (before behind : List Chunk) → LinkedTo head (before ++ behind) None
       → Tell header B b 0 p before → Tell header B b p end behind → Ends head p (before ++ behind) before behind
   list_ends head p end before behind h front back =
       let first = linked_parted head None before behind h in
-      let low = passed p 0 p None before (gaps_among behind) front (omega arith) in
-      let high = stopped p p end first.mid (last_of (gaps_among before)) behind back (omega arith) first.back in
-      grind (arith, gaps_append)
+      grind (
+        arith,
+        gaps_append,
+        stopped p p end first.mid (last_of (gaps_among before)) behind back (omega arith) first.back,
+        passed p 0 p None before (gaps_among behind) front (omega arith),
+      )
 
 some_last : (c : Chunk) (gaps : List Chunk) → fold (λ _ gap. Some gap) (Some c) gaps ≢ None
 some_last c [] e = absurd (cc)
@@ -114,14 +128,14 @@ pub record NextGap (B : List ℕ) (b end at : ℕ) (all : List Chunk) : Type 0 w
 
 module _ (B : List ℕ) (b from end : ℕ) {head : Option ℕ} where
   pub next_gap : (l : List Chunk) {at : ℕ} → head ≡ Some at → Follow B b from end head l → NextGap B b end at l
-  next_gap [] {at} e h = absurd (let two : Some at ≡ None = sym e ∙ h in cc)
+  next_gap [] {at} e h = absurd (let two = sym e ∙ h in cc)
   next_gap (c ∷ l) {at} e h =
       let same : c.at ≡ at = let two : Some c.at ≡ Some at = sym h.0 ∙ e in cc in
-      let here : chunk_at B b at ≡ c = ap (chunk_at B b) (sym same) ∙ h.1 in grind arith
+      grind arith
 
   pub no_gap : (l : List Chunk) → head ≡ None → Follow B b from end head l → l ≡ []
   no_gap [] e h = refl
-  no_gap (c ∷ l) e h = absurd (let two : None ≡ Some c.at = sym e ∙ h.0 in cc)
+  no_gap (c ∷ l) e h = absurd (let two = sym e ∙ h.0 in cc)
 
   -- a word that encodes it is no lower
   pub rises : (l : List Chunk) (word : ℕ) → head ≡ place_in_link word → from ≤ 4294967295 → Follow B b from end head l → from ≤ word
@@ -158,7 +172,7 @@ last_found : (gap : Chunk) (found : Option Chunk) (l : List Chunk) → fold (λ 
     → ((found ≡ Some gap) × (gaps_among l ≡ [])) ⊎ LastGap gap l
 last_found gap found [] e = inl (e, refl)
 last_found gap found (c ∷ l) e =
-    let free = last_found gap (Some c) l in let live = last_found gap found l in grind (arith, owner_cases, last_here, last_later)
+    grind (arith, owner_cases, last_here, last_later, last_found gap found l, last_found gap (Some c) l)
 
 pub last_gap : (gap : Chunk) (l : List Chunk) → last_of (gaps_among l) ≡ Some gap → LastGap gap l
 last_gap gap l e = grind (arith, last_found, l)
@@ -188,7 +202,7 @@ pub link_small : {heap : Region} {B : List ℕ} → HasChunks heap B → {link :
     → link ≡ gap_from at (gaps_among (chunks_of heap B))
     → IsLink link
 link_small {heap} {B} has {link} at e =
-    let small = gap_from_small heap.header B heap.span.at at 0 heap.footprint 65536 (chunks_of heap B) has.told in grind arith
+    grind (arith, gap_from_small heap.header B heap.span.at at 0 heap.footprint 65536 (chunks_of heap B) has.told)
 
 pub lowest_small : {heap : Region} {B : List ℕ} → HasChunks heap B → LinkedTo heap.lowest (chunks_of heap B) None → IsLink heap.lowest
 lowest_small {heap} {B} has linked = link_small has 0
@@ -197,7 +211,7 @@ lowest_small {heap} {B} has linked = link_small has 0
 -- a list that leads to these gaps begins at only one position
 linked_same : (one other end : Option ℕ) (l : List Chunk) → LinkedTo one l end → LinkedTo other l end → one ≡ other
 linked_same one other end [] h k = h ∙ sym k
-linked_same one other end (c ∷ l) h k = let later = linked_same one other end l in grind arith
+linked_same one other end (c ∷ l) h k = grind (arith, linked_same one other end l)
 
 -- it begins with a gap
 record BeginsFree (l : List Chunk) : Type 0 where
@@ -227,14 +241,16 @@ module _ {heap : Region} {B : List ℕ} where
   module _ {p q at : ℕ} (cut : Cut heap B p q at) (linked : LinkedTo heap.lowest (chunks_of heap B) None) where
     pub cut_low : Ends heap.lowest p (chunks_of heap B) cut.before (cut.gone ++ cut.behind)
     cut_low =
-        let rest = told_append heap.header B heap.span.at p q heap.footprint cut.gone cut.behind cut.mid cut.back in
-        grind (arith, list_ends)
+        grind (arith, list_ends, told_append heap.header B heap.span.at p q heap.footprint cut.gone cut.behind cut.mid cut.back)
 
     pub cut_high : Ends heap.lowest q (chunks_of heap B) (cut.before ++ cut.gone) cut.behind
     cut_high =
-        let up = told_append heap.header B heap.span.at 0 p q cut.before cut.gone cut.front cut.mid in
-        let is = cut.is ∙ sym (append_assoc cut.before cut.gone cut.behind) in
-        grind (arith, list_ends)
+        grind (
+          arith,
+          list_ends,
+          cut.is ∙ sym (append_assoc cut.before cut.gone cut.behind),
+          told_append heap.header B heap.span.at 0 p q cut.before cut.gone cut.front cut.mid,
+        )
 
   -- the cut that removes one chunk
   abbrev pub cut_at : {chunk : Chunk} (a : Around heap B chunk) → Cut heap B chunk.at (chunk.at + chunk.len) chunk.at
@@ -301,12 +317,12 @@ pub over_gap : {heap : Region} {B : List ℕ} {chunk : Chunk} (a : Around heap B
     → (chunk_at B heap.span.at (chunk.at + chunk.len)).link ≡ gap_from (chunk.at + chunk.len + front_gap a.behind)
     (gaps_among (chunks_of heap B))
 over_gap a linked live some =
-    let first = first a linked live some in grind (arith, gap_place, around, gap_around, gap_told, behind_gap)
+    grind (arith, gap_place, around, gap_around, gap_told, behind_gap, first a linked live some)
 
 -- Chunks that go, and chunks that replace them.
 only_at : (at : ℕ) (c : Chunk) (l : List Chunk) → OnlyAt at l → c.owner ≢ None → In c l → c.at ≡ at
 only_at at c [] only live k = absurd k
-only_at at c (d ∷ l) only live k = let later = only_at at c l only.1 live in grind arith
+only_at at c (d ∷ l) only live k = grind (arith, only_at at c l only.1 live)
 
 pub only_append : (at : ℕ) (l r : List Chunk) → OnlyAt at l → OnlyAt at r → OnlyAt at (l ++ r)
 only_append at [] r h k = k
@@ -314,7 +330,7 @@ only_append at (c ∷ l) r h k = (h.0, only_append at l r h.1 k)
 
 only_blocks : (header : ℕ) (B : List ℕ) (b at : ℕ) (l : List Chunk) → OnlyAt at l → filter (elsewhere at) (blocks_in header B b l) ≡ []
 only_blocks header B b at [] only = refl
-only_blocks header B b at (c ∷ l) only = let later = only_blocks header B b at l only.1 in grind (arith, owner_cases, eq-eqb)
+only_blocks header B b at (c ∷ l) only = grind (arith, owner_cases, eq-eqb, only_blocks header B b at l only.1)
 
 module _ {heap : Region} {B : List ℕ} {p q at : ℕ} (cut : Cut heap B p q at) where
   abbrev b : ℕ
@@ -340,8 +356,12 @@ module _ {heap : Region} {B : List ℕ} {p q at : ℕ} (cut : Cut heap B p q at)
   pub cut_apart : (c : Chunk) → LiveIn c all → c.at ≢ at
       → (c.at + heap.header + c.size ≤ p) ⊎ ((q ≤ c.at) × (c.at < heap.footprint))
   cut_apart c h far =
-      let beside = in_without c cut.before cut.gone cut.behind (none_of c h.live far) (subst (In c) cut.is (in_of c all h.stands)) in
-      grind (arith, in_told)
+      grind (
+        arith,
+        in_told,
+        in_without c cut.before cut.gone cut.behind (none_of c h.live far)
+            (subst (In c) cut.is (in_of c all h.stands)),
+      )
 
   module _ {new : Region} {B' : List ℕ} {mid : List Chunk} (e : Spliced heap new B B' cut.before mid cut.behind) where
     pub edit_kept : (c : Chunk) → LiveIn c all → c.at ≢ at → LiveIn c (chunks_of new B')
@@ -360,18 +380,17 @@ module _ {heap : Region} {B : List ℕ} {p q at : ℕ} (cut : Cut heap B p q at)
 
     module _ (linked : LinkedTo heap.lowest all None) where
       pub edit_last : {last : Option Chunk} → last ≡ gap_below p (gaps_among all) → IfSome last (IsGapOf (chunks_of new B'))
-      edit_last {last} at_last = let low = cut_low cut linked in grind (arith, last_stands)
+      edit_last {last} at_last = grind (arith, last_stands, cut_low cut linked)
 
     -- the gap before them is linked again, or leads there already
     module _ (linked : LinkedTo heap.lowest all None) {first link : Option ℕ} (laid : LinkedTo first mid link)
         (at_link : link ≡ gap_from q (gaps_among all)) where
       pub edit_list : {last : Option Chunk} → last ≡ gap_below p (gaps_among all) → (after : Region) (B3 : List ℕ)
           → new.lowest ≡ heap.lowest → Relinked new after B' B3 last first → LinkedTo after.lowest (chunks_of after B3) None
-      edit_list {last} at_last after B3 same relinked = let low = cut_low cut linked in let high = cut_high cut linked in
-          grind (arith, linked_append)
+      edit_list {last} at_last after B3 same relinked = grind (arith, linked_append, cut_high cut linked, cut_low cut linked)
 
       pub edit_grown : gap_from p (gaps_among all) ≡ first → new.lowest ≡ heap.lowest → LinkedTo new.lowest (chunks_of new B') None
-      edit_grown there same = let low = cut_low cut linked in let high = cut_high cut linked in grind (arith, linked_append)
+      edit_grown there same = grind (arith, linked_append, cut_high cut linked, cut_low cut linked)
 
 -- where a live chunk becomes another one, the gaps stay
 pub swapped_list : {heap new : Region} {B B' : List ℕ} {chunk other : Chunk} (a : Around heap B chunk)
@@ -417,7 +436,7 @@ module _ {heap : Region} {B : List ℕ} {gap : Chunk} (a : Around heap B gap) (f
     pub link_changed : LinkChanged heap heap B B' (Some gap) first
     link_changed = record {
       chunks = (relinked a).has;
-      block = let s = relinked a in grind (arith, a, none_in_front, blocks_append);
+      block = grind (arith, a, none_in_front, blocks_append, relinked a);
       stands = λ other h. live_kept other a.before (gap ∷ []) (new ∷ []) a.behind a.is (relinked a).is
           (grind arith) h;
       linked = grind (arith, relinked_list);

@@ -11,7 +11,7 @@ module _ (name : ℕ) where
 
   owned_in : (chunk : Chunk) (l : List Chunk) → find (owned_by name) l ≡ Some chunk → In chunk l × (chunk.owner ≡ Some name)
   owned_in chunk [] e = absurd (cc)
-  owned_in chunk (c ∷ l) e = let later = owned_in chunk l in grind (arith, cases_Bool, owner_is)
+  owned_in chunk (c ∷ l) e = grind (arith, cases_Bool, owner_is, owned_in chunk l)
 
   pub owned : (chunk : Chunk) (l : List Chunk) → find (owned_by name) l ≡ Some chunk → Owned name chunk l
   owned chunk l e = let k = owned_in chunk l e in record { stands = stands_of chunk l k.0; owner = k.1 }
@@ -22,42 +22,42 @@ module _ (name : ℕ) where
 
   pub count_absent : (xs : List Block) → find (has_name name) xs ≡ None → count name xs ≡ 0
   count_absent [] e = refl
-  count_absent (x ∷ xs) e = let later = count_absent xs in grind arith
+  count_absent (x ∷ xs) e = grind (arith, count_absent xs)
 
   pub count_filter : (p : Block → Bool) (xs : List Block) → count name (filter p xs) ≤ count name xs
   count_filter p [] = omega arith
-  count_filter p (x ∷ xs) = let later = count_filter p xs in grind arith
+  count_filter p (x ∷ xs) = grind (arith, count_filter p xs)
 
   -- blocks none of which has the name
   pub filter_unnamed : (xs : List Block) → count name xs ≡ 0 → filter (λ block. not (has_name name block)) xs ≡ xs
   filter_unnamed [] e = refl
-  filter_unnamed (x ∷ xs) e = let later = filter_unnamed xs in grind arith
+  filter_unnamed (x ∷ xs) e = grind (arith, filter_unnamed xs)
 
   -- blocks without those of a name
   pub count_unnamed : (xs : List Block) → count name (filter (λ block. not (has_name name block)) xs) ≡ 0
   count_unnamed [] = refl
-  count_unnamed (x ∷ xs) = let later = count_unnamed xs in grind arith
+  count_unnamed (x ∷ xs) = grind (arith, count_unnamed xs)
 
   -- a name's blocks are among those that have names
   pub find_named : (xs : List Block) → name < 272 → find (has_name name) (filter is_named xs) ≡ find (has_name name) xs
   find_named [] small = refl
-  find_named (x ∷ xs) small = let later = find_named xs small in grind arith
+  find_named (x ∷ xs) small = grind (arith, find_named xs small)
 
   pub count_named : (xs : List Block) → name < 272 → filter (has_name name) (filter is_named xs) ≡ filter (has_name name) xs
   count_named [] small = refl
-  count_named (x ∷ xs) small = let later = count_named xs small in grind arith
+  count_named (x ∷ xs) small = grind (arith, count_named xs small)
 
   module _ (f : Block → Block) where
     pub map_unnamed : (xs : List Block) → count name xs ≡ 0
         → map (λ block. if has_name name block then f block else block) xs ≡ xs
     map_unnamed [] e = refl
-    map_unnamed (x ∷ xs) e = let later = map_unnamed xs in grind arith
+    map_unnamed (x ∷ xs) e = grind (arith, map_unnamed xs)
 
     -- blocks that change but keep their names
     pub count_map : ((block : Block) → (f block).name ≡ block.name) → (xs : List Block)
         → count name (map f xs) ≡ count name xs
     count_map keeps [] = refl
-    count_map keeps (x ∷ xs) = let later = count_map keeps xs in grind arith
+    count_map keeps (x ∷ xs) = grind (arith, count_map keeps xs)
 
     pub keeps_name : ((block : Block) → (f block).name ≡ block.name) → (block : Block)
         → (if has_name name block then f block else block).name ≡ block.name
@@ -70,7 +70,7 @@ module _ (name : ℕ) where
   module _ (block : Block) where
     count_placed : (xs : List Block) → count name (placed block xs) ≡ count name (block ∷ xs)
     count_placed [] = refl
-    count_placed (other ∷ xs) = let later = count_placed xs in grind arith
+    count_placed (other ∷ xs) = grind (arith, count_placed xs)
 
     module _ (xs : List Block) where
       pub count_first : block.name ≡ name → count name (block ∷ xs) ≡ 1 + count name xs
@@ -100,11 +100,11 @@ module _ (name : ℕ) where
   find_without : (gone : ℕ) (blocks : List Block) → name ≢ gone
       → find (has_name name) (filter (λ block. not (has_name gone block)) blocks) ≡ find (has_name name) blocks
   find_without gone [] ne = refl
-  find_without gone (block ∷ blocks) ne = let later = find_without gone blocks ne in grind arith
+  find_without gone (block ∷ blocks) ne = grind (arith, find_without gone blocks ne)
 
   find_gone : (blocks : List Block) → find (has_name name) (filter (λ block. not (has_name name block)) blocks) ≡ None
   find_gone [] = refl
-  find_gone (block ∷ blocks) = let later = find_gone blocks in grind arith
+  find_gone (block ∷ blocks) = grind (arith, find_gone blocks)
 
   -- blocks that change but keep their names and their positions
   pub find_map : (f : Block → Block) → ((block : Block) → (f block).name ≡ block.name)
@@ -112,7 +112,7 @@ module _ (name : ℕ) where
       → option_map (λ (block : Block). block.at) (find (has_name name) (map f blocks)) ≡ option_map (λ (block : Block). block.at)
       (find (has_name name) blocks)
   find_map f keeps stays [] = refl
-  find_map f keeps stays (block ∷ blocks) = let later = find_map f keeps stays blocks in grind arith
+  find_map f keeps stays (block ∷ blocks) = grind (arith, find_map f keeps stays blocks)
 
   module _ (block : Block) where
     -- The table of positions: what is found of a name after a change of one block.
@@ -124,12 +124,12 @@ module _ (name : ℕ) where
     find_placed : (blocks : List Block) → has_name name block ≡ false
         → find (has_name name) (placed block blocks) ≡ find (has_name name) blocks
     find_placed [] other = rw other refl
-    find_placed (first ∷ blocks) other = let later = find_placed blocks other in grind arith
+    find_placed (first ∷ blocks) other = grind (arith, find_placed blocks other)
 
     find_put : (blocks : List Block) → has_name name block ≡ true → find (has_name name) blocks ≡ None
         → find (has_name name) (placed block blocks) ≡ Some block
     find_put [] mine none = rw mine refl
-    find_put (first ∷ blocks) mine none = let later = find_put blocks mine in grind arith
+    find_put (first ∷ blocks) mine none = grind (arith, find_put blocks mine)
 
 -- a name's block is moved
 abbrev put_again : ℕ → Place → List ℕ → HeapStore → HeapStore
@@ -140,7 +140,7 @@ module _ (header : ℕ) where
     pub find_is : (b name : ℕ) (l : List Chunk)
         → find (has_name name) (blocks_in header B b l) ≡ option_map (block_in_chunk header B b name) (find (owned_by name) l)
     find_is b name [] = refl
-    find_is b name (c ∷ l) = let later = find_is b name l in grind arith
+    find_is b name (c ∷ l) = grind (arith, find_is b name l)
 
     -- a name that has a block has a chunk
     pub some_owned : (b name : ℕ) (l : List Chunk) (o : Option Chunk) → o ≡ find (owned_by name) l
@@ -224,4 +224,4 @@ module _ (places : List (Option ℕ)) where
           → ArePlaced (slice_set places name (Some at)) new
       placed_moved None at name bytes small there is were = absurd (cc)
       placed_moved (Some target) at name bytes small there is were = let made : put_again name target bytes store ≡ new = cc in
-          let set = placed_again target name bytes small (sym made) were in grind arith
+          grind (arith, placed_again target name bytes small (sym made) were)

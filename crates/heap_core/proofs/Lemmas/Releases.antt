@@ -1,5 +1,5 @@
 -- A chunk that goes with the gaps beside it.
-use Rattle.heap_core.proofs.Lemmas.Words.{◌≡◌, ◌≢◌, ℕ, ◌+◌, ◌-◌, ◌%◌, ◌≤◌, ◌<◌, inl, inr, List, [], ◌∷◌, ◌++◌, length, true, false, eqb, refl, sym, ap, ◌∙◌, subst, arith, Option, Some, None, cases_eq, eq-eqb, ne_eqb, append-nil, append_assoc, length-append, Chunk, Region, chunk_at, Tell, BeginsLive, AreJoined, chunks_of, chunks_behind, gaps_among, last_of, LinkedTo, Left, OnlyAt, EndsHole, gap_count, gap_below, gap_from, Cleared, free_from, front_gap, ReachesWithGaps}
+use Rattle.heap_core.proofs.Lemmas.Words.{◌≡◌, ◌≢◌, ℕ, ◌+◌, ◌-◌, ◌%◌, ◌≤◌, ◌<◌, inl, inr, List, [], ◌∷◌, ◌++◌, length, refl, sym, ap, ◌∙◌, subst, arith, Option, Some, None, cases_eq, eq-eqb, ne_eqb, append-nil, append_assoc, length-append, Chunk, Region, chunk_at, Tell, BeginsLive, AreJoined, chunks_of, chunks_behind, gaps_among, last_of, LinkedTo, Left, OnlyAt, EndsHole, gap_count, gap_below, gap_from, Cleared, free_from, front_gap, ReachesWithGaps}
 use Rattle.heap_core.proofs.Lemmas.Lists.{count_some, count_none, LastGap, last_gap, no_last, below_is, leads_to_gap, only_append, edit_kept, edit_gone, edit_count}
 use Rattle.heap_core.proofs.Lemmas.Gaps.{gaps_append, gap_first, live_first}
 use Rattle.heap_core.proofs.Lemmas.ChunkHeaders.{told_append, told_le, split_at, owner_cases, spliced, joined_swap, Around, around_split, ended, joined_behind}
@@ -8,7 +8,7 @@ use Rattle.heap_core.proofs.Lemmas.ChunkHeaders.{told_append, told_le, split_at,
 joined_live : (header : ℕ) (l old new : List Chunk) → gaps_among l ≡ [] → AreJoined header (l ++ old) → AreJoined header new
     → AreJoined header (l ++ new)
 joined_live header [] old new none was joined = joined
-joined_live header (c ∷ l) old new none was joined = let later = joined_live header l old new in grind (arith, owner_cases)
+joined_live header (c ∷ l) old new none was joined = grind (arith, owner_cases, joined_live header l old new)
 
 begins_live : (l new : List Chunk) → l ≢ [] → gaps_among l ≡ [] → BeginsLive (l ++ new)
 begins_live [] new more none = absurd (more refl)
@@ -112,18 +112,18 @@ module _ {heap : Region} {B : List ℕ} {chunk : Chunk} (a : Around heap B chunk
           gone = gap ∷ [];
           was = grind arith;
           only = grind arith;
-          count = let told = gap_told in grind (arith, gap_first, count_some);
+          count = grind (arith, gap_first, count_some, gap_told);
           told = gap_told.0;
           mid = (around_gap.0.here, around_gap.0.enough, ends);
           low = omega (arith, ends);
-          whole = let g = around_gap.0 in grind arith;
+          whole = grind (arith, around_gap.0);
           joined = grind (arith, joined_swap, joined_all);
           grows = λ less. leads_to_gap around_gap.0 linked k.free;
         }
 
     front_gap_below : gap.at + gap.len ≢ chunk.at → Front chunk.at
     front_gap_below short = front_all (λ chunks joined.
-        let more : k.behind ≢ [] = (let told = gap_told in grind arith) in
+        let more : k.behind ≢ [] = (grind (arith, gap_told)) in
         let rest = joined_behind heap.header k.before (gap ∷ (k.behind ++ (chunk ∷ a.behind))) joined_all in
         subst (AreJoined heap.header) (sym (ap (λ l. l ++ chunks) k.is ∙ append_assoc k.before (gap ∷ k.behind) chunks))
         (joined_swap heap.header k.before (gap ∷ (k.behind ++ (chunk ∷ a.behind))) (gap ∷ (k.behind ++ chunks)) (λ live. live) joined_all (
@@ -139,9 +139,9 @@ module _ {heap : Region} {B : List ℕ} {chunk : Chunk} (a : Around heap B chunk
   front_of linked (Some gap) e =
       let k = last_gap gap a.before e in
       elim (cases_eq (gap.at + gap.len) chunk.at) [
-        | inl ends ↦ let is : eqb (gap.at + gap.len) chunk.at ≡ true = eq-eqb (gap.at + gap.len) chunk.at ends in
+        | inl ends ↦ let is = eq-eqb (gap.at + gap.len) chunk.at ends in
             rw is (front_gap_there gap k linked ends)
-        | inr short ↦ let is : eqb (gap.at + gap.len) chunk.at ≡ false = ne_eqb (gap.at + gap.len) chunk.at short in
+        | inr short ↦ let is = ne_eqb (gap.at + gap.len) chunk.at short in
             rw is (front_gap_below gap k short)
       ]
 

@@ -21,8 +21,7 @@ first_code (event ∷ later) = event.code
 
 second_given_first : EventsArriveInOrder 2 (posted ++ given 4 (plain_event 141) ∷ []) → ⊥
 second_given_first laws =
-    let same : 141 ≡ 140 = ap first_code (laws.in_order 4 refl (posted ++ given 4 (plain_event 141) ∷ []) [] refl refl).1 in
-    omega (arith, same)
+    omega (arith, ap first_code (laws.in_order 4 refl (posted ++ given 4 (plain_event 141) ∷ []) [] refl refl).1)
 
 -- a post that was refused is delivered nevertheless
 abbrev refused_post : List Entry
@@ -30,16 +29,15 @@ refused_post = started 5 (Call.Post 4 140 Payload.Empty) ∷ told 5 (Reply.Refus
 
 given_though_refused : EventsArriveInOrder 2 (refused_post ++ given 4 (plain_event 140) ∷ []) → ⊥
 given_though_refused laws =
-    let early = laws.in_order 4 refl (refused_post ++ given 4 (plain_event 140) ∷ []) [] refl refl in cc early.1
+    cc (laws.in_order 4 refl (refused_post ++ given 4 (plain_event 140) ∷ []) [] refl refl).1
 
 -- an EXITED event with the origin of a post: process 4 receives one that nobody posted
 told_of_an_exit : EventsArriveInOrder 2 (started 4 Call.Wait ∷ given 4 (number_event EXITED 5) ∷ []) → ⊥
-told_of_an_exit laws = let early = laws.in_order 4 refl (started 4 Call.Wait ∷ given 4 (number_event EXITED 5) ∷ []) [] refl refl
-    in cc early.1
+told_of_an_exit laws = cc (laws.in_order 4 refl (started 4 Call.Wait ∷ given 4 (number_event EXITED 5) ∷ []) [] refl refl).1
 
 -- the last of sixteen applications, process 19, receives one that nobody posted; it doesn't receive one that was posted
 last_told : EventsArriveInOrder 16 (started 19 Call.Wait ∷ given 19 (plain_event 140) ∷ []) → ⊥
-last_told laws = let early = laws.in_order 19 refl (started 19 Call.Wait ∷ given 19 (plain_event 140) ∷ []) [] refl refl in cc early.1
+last_told laws = cc (laws.in_order 19 refl (started 19 Call.Wait ∷ given 19 (plain_event 140) ∷ []) [] refl refl).1
 
 abbrev posted_to_the_last : List Entry
 posted_to_the_last = started 19 (Call.Post 19 140 Payload.Empty) ∷ told 19 Reply.Done Call.Wait ∷ []

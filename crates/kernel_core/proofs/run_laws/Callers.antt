@@ -58,8 +58,7 @@ module _ (known : Known) (m : Machine) (X : List Entry) (q : ℕ) (origin : Orig
   sent-front h (Some refusal) e = grind (decide, s.front)
   sent-front h None e =
       let sound = (s.told 4 (omega arith)).now.rel.sound in
-      let past = get_or_past m.memory.managed.blocks (number_of q h) None in
-      let few : nat_le q 19 ≡ true = grind (decide, e, sound.size, past) in
+      let few : nat_le q 19 ≡ true = grind (decide, e, sound.size, get_or_past m.memory.managed.blocks (number_of q h) None) in
       let holds = s.told q (grind (decide, few)) in (
         record {
           earlier = X;

@@ -52,7 +52,7 @@ module _ (R : Machine → Machine → Type 0) (q : ℕ) (event : Event) (changes
   noticed : (notice : Queued Bool) (serial : SerialLine) (is_waiting : Bool) (packets : PacketQueue) (m : Machine) → is_notice notice ≡ true
       → packets.frames ≡ m.packets.frames → R m (with_event notice (with_devices serial is_waiting packets m))
   noticed notice serial is_waiting packets m n e =
-      let a : Machine = with_devices serial is_waiting packets m in
+      let a = with_devices serial is_waiting packets m in
       changes.chained m a (with_event notice a) (changes.devices serial is_waiting packets m e) (changes.posted notice a n)
 
   next-changes : (m : Machine) → R m (announce_next m)
@@ -60,7 +60,7 @@ module _ (R : Machine → Machine → Type 0) (q : ℕ) (event : Event) (changes
 
   etimer-changes : (m : Machine) → (q == 0) ≡ true → R m (etimer event m)
   etimer-changes m z =
-      let after : Machine = times (free_places m) post_first_due m in
+      let after = times (free_places m) post_first_due m in
       either m (event.code == POLL) (post_due m) _
       (grind (decide, (repeated post_first_due (grind decide) (free_places m) m))) (told (event.code == EXITED) refl)
     where
@@ -73,7 +73,7 @@ module _ (R : Machine → Machine → Type 0) (q : ℕ) (event : Event) (changes
 
   serial_line-changes : (m : Machine) → R m (serial_line event m)
   serial_line-changes m =
-      let a : Machine = record m { is_serial_waiting = false } in
+      let a = record m { is_serial_waiting = false } in
       either m (event.code == POLL) (serial_line_polled m) _ (either m m.is_serial_waiting m (empty_ring m) (changes.same m) (emptied m))
       (either m (event.code == CONTINUE) (empty_ring a) m
       (changes.chained m a (empty_ring a) (changes.devices m.serial false m.packets m refl) (emptied a)) (changes.same m))

@@ -46,8 +46,7 @@ module _ (bytes p : ℕ) (s : Memory) (few : p ≤ 19) (mortal : is_kernel_proce
   shaped-alone : sum_by size_of (ask call p s).0.managed.blocks ≡ taken_by p (ask call p s).0.managed
       → IsAlone bytes p (ask call p s).0
   shaped-alone total =
-      let shape = ask-shape call p s in
-      grind decide
+      grind (decide, ask-shape call p s)
 
   stays-alone : StaysAlone bytes p call s
   stays-alone = go (alters (managed_touch (deed call))) refl
@@ -55,10 +54,13 @@ module _ (bytes p : ℕ) (s : Memory) (few : p ≤ 19) (mortal : is_kernel_proce
       go : (b : Bool) → alters (managed_touch (deed call)) ≡ b → StaysAlone bytes p call s
       go true e =
           let change = managed-change call p s e in
-          let sums = change.total few mortal alone.size in
-          record { alone = shaped-alone (omega (arith, sums, alone.total)); own = change.blocks.own few mortal alone.size }
+          record {
+            alone = shaped-alone (omega (arith, change.total few mortal alone.size, alone.total));
+            own =
+                change.blocks.own few mortal alone.size;
+          }
       go false e =
-          let same : (ask call p s).0.managed ≡ s.managed = ask-rest call p s e in
+          let same = ask-rest call p s e in
           record { alone = shaped-alone (rw same alone.total); own = same_blocks _ _ (λ h. grind (arith, e, same)) }
 
 -- Under a quota a process gets the replies of a memory of its own.
@@ -74,9 +76,7 @@ module _ (bytes : ℕ) (p : ℕ) where
 
   alone-at-first : IsAlone bytes p (private_memory bytes)
   alone-at-first =
-      let taken : taken_by p (private_memory bytes).managed ≡ 0 =
-      ap (λ (blocks : Blocks). sum_by (λ h. size_of (blocks h)) handles) no-own in
-      grind decide
+      grind (decide, ap (λ (blocks : Blocks). sum_by (λ h. size_of (blocks h)) handles) no-own)
 
 module _ (quota p : ℕ) where
   -- a memory of p's own, after a call
@@ -182,6 +182,10 @@ module _ (run : Ran) where
 
 pub alone-alike : (run : Ran) → is_bootable run.config ≡ true → IsAnsweredAlike run.config.quota run.config.apps run.after.entries
 alone-alike run boots other tells others last quota p limited named also_runs also_boots also_limited also_named n same =
-    let one = all-alone run boots quota p limited named in
-    let two = all-alone (ran other tells others last also_runs) also_boots quota p also_limited also_named in
-    grind (decide, replies-take, one, two, same)
+    grind (
+      decide,
+      replies-take,
+      same,
+      all-alone (ran other tells others last also_runs) also_boots quota p also_limited also_named,
+      all-alone run boots quota p limited named,
+    )

@@ -294,10 +294,10 @@ module _ (store : Store) where
   are-own keeps run before turn reply few has =
       let X = run.after.entries in
       let view = own_view store turn.p in
-      let well = run-told view (own-laws store keeps turn.p few) run (boot-has keeps turn.p run.config) X [] (append-nil X) in
       subst (λ (blocks : Blocks). KindLaw store.touch blocks turn.call reply)
       (sym (blocks-told store.touch turn.p (up_to_call before turn)))
-      (call-law view X before turn reply refl well has)
+      (call-law view X before turn reply refl (run-told view (own-laws store keeps turn.p few) run (boot-has keeps turn.p run.config) X []
+      (append-nil X)) has)
 
 -- Managed memory: the replies to its calls, and that a process's blocks are its own.
 

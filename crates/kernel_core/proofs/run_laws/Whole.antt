@@ -177,8 +177,7 @@ module _ {S : Type 0} (view : View S) where
   carried-now : (item : Item) (t : Knowledge S) (m : Machine) → is_turn_item item ≡ false
       → Now t (facing item m) → Now t (carried item m)
   carried-now item t m n h =
-      let kept = after_item-kept view.p item m.scheduler n h.is_fit in
-      grind decide
+      grind (decide, after_item-kept view.p item m.scheduler n h.is_fit)
 
   -- what a turn delivers, and leaves
   pub record Turned (t : Knowledge S) (entry : Entry) (m : Machine) : Type 0 where
@@ -253,8 +252,8 @@ module _ {S : Type 0} (view : View S) where
     told_cases = record {
       carried = λ known m X item n s h. carried-holds known item m X (grind (arith, n)) h;
       served = λ known m X q origin event k h.
-          let given = carried-holds known (Item.Give q origin (Stimulus.Event event)) m X refl h in
-          let there : Holds known m X = subst (λ n. Holds known n X) (kernel_carried q origin (Stimulus.Event event) m k) given in
+          let there : Holds known m X = subst (λ n. Holds known n X) (kernel_carried q origin (Stimulus.Event event) m k)
+          (carried-holds known (Item.Give q origin (Stimulus.Event event)) m X refl h) in
           grind (decide, there, serve-untouched q event m);
       called_back = grind decide;
       round = grind decide;
@@ -301,9 +300,8 @@ module _ {S : Type 0} (view : View S) where
       let t = told_so_far view (up_to_call before turn) in
       let last : t.last ≡ Some turn.call = grind (decide, fold-append, same) in
       let later = well-after (told_so_far view []) (up_to_call before turn) has.later (rw has.is_split well) in
-      let law = law-at has.later t later in
       let answered : reply_in view.p has.later ≡ Some reply = rw same at has.is_answered in
-      rw (last, answered) at law
+      rw (last, answered) at (law-at has.later t later)
 
   -- so are the replies to p's calls, each by what p knows before it
   abbrev pub OwnTold : S → List OwnTurn → Type 0

@@ -195,8 +195,7 @@ module _ (K : Invariant) (R : List Entry → Entry → Type 0) (cases : Cases K 
         round_kept true e h =
             limit_kept (scheduled (in_front (Item.Polls ∷ Item.Deliver ∷ [])) m) _
             (silent_kept _ live (λ known u.
-            let round = cases.round known m X (at_agenda [] e h known tt) in
-            grind decide))
+            grind (decide, cases.round known m X (at_agenda [] e h known tt))))
         round_kept false e h = silent_kept m live h
 
         delivered_kept : (event : Option (Queued Bool)) → ((known : Known) → K known (facing Item.Deliver m) X)

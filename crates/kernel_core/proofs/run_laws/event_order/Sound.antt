@@ -40,9 +40,16 @@ module _ (p : ℕ) where
   module _ (X : List Entry) where
     module _ (e : Entry) where
       order-other : is_turn e ≡ false → Keeps IsInOrder X e
-      order-other n i = λ alive.
-          let old = i (grind (arith, alive, ended-more p X e)) in
-          (old.0, grind (decide, given-more, append-nil, accepted_with-none, accepted-more nothing_known p X e))
+      order-other n i = λ alive. (
+        (i (grind (arith, alive, ended-more p X e))).0,
+        grind (
+          decide,
+          given-more,
+          append-nil,
+          accepted_with-none,
+          accepted-more nothing_known p X e,
+        ),
+      )
 
       still_alive : has_ended p (X ++ e ∷ []) ≡ false → has_ended p X ≡ false
       still_alive = grind (decide, ended-more)

@@ -2,7 +2,7 @@
 use Rattle.std.proofs.Common.{◌≡◌, ℕ, true, false, ◌||◌, List, [], ◌∷◌, ◌++◌, ◌+◌, refl, arith, None, nat_le, ◌≤◌, subst, nat_lt, Bool, ◌&&◌, ◌==◌, append_assoc, map, slice_get}
 use Rattle.kernel_core.specs.Laws.TimerLaws.{is_ripe, ripe_by, is_number}
 use Rattle.kernel_core.proofs.Totals.{total-none}
-use Rattle.kernel_core.proofs.Common.{TimersAreKept, with_more_work, decide, list_any, Stimulus, Event, Item, Timer, Timers, is_due, Machine, serve, Entry, list_all, has_ended, clock_after, ticks_in, fold-append, all_timers, standing, is_timer, Config, is_bootable, is_at_rest, at_start, is_application, range_with_len, Origin, Scheduler, list_any-append, Call, after_call, EXITED, number_event, Queued, numbers, after_item, delivery}
+use Rattle.kernel_core.proofs.Common.{TimersAreKept, with_more_work, decide, list_any, Stimulus, Event, Item, Timer, Timers, is_due, Machine, Entry, list_all, has_ended, clock_after, ticks_in, fold-append, all_timers, standing, is_timer, Config, is_bootable, is_at_rest, at_start, is_application, range_with_len, Origin, Scheduler, list_any-append, Call, after_call, EXITED, number_event, Queued, numbers, after_item, delivery}
 use Rattle.kernel_core.proofs.run_laws.Changes.{is_regular, carried-regular, KeptByCalls, kept_by_call, all-more, all-append, all-mapped, none-mapped, serve-untouched, is_turn, carried-any, after-any}
 use Rattle.kernel_core.proofs.run_laws.timer_deadlines.Balanced.{is_lawful, plain-cancelled, turn-follows, Balanced, less-balanced, in_wait, carried-count, carried-same, serve-fair, after-count}
 use Rattle.kernel_core.proofs.run_laws.timer_deadlines.MovedTimers.{after-timers, after-clock, OwnTimer, own_timer, cell_names, armed-names, zero-names, zero-cells, after-moves, still_moves}
@@ -139,8 +139,11 @@ module _ (o : OwnTimer) where
 
       spared-before : Spared (taken t).scheduler.agenda (with_turn t) → Spared (taking t).scheduler.agenda t.X
       spared-before s =
-          let rest = after-doomed o.p t.call t.q on s.safe in
-          record { alive = grind (arith, alive-before s.alive); safe = grind (decide, rest, alive-before s.alive) }
+          record {
+            alive = grind (arith, alive-before s.alive);
+            safe = grind
+                (decide, after-doomed o.p t.call t.q on s.safe, alive-before s.alive);
+          }
 
       heeded-turn : (known : Known) → FrontAgrees known (taken t).scheduler.agenda → Heeded (told (entry_of t) known) (taking t) t.X
           → Heeded known (taken t) (with_turn t)
@@ -156,11 +159,16 @@ module _ (o : OwnTimer) where
 
       timely-turn : Heeded (told (entry_of t) nothing_known) (taking t) t.X → Keeps IsTimely t.X (entry_of t)
       timely-turn h timely =
-          let ledger = timer_ledger o (told (entry_of t) nothing_known) t.X in
-          let b = turn-follows o (Spared (taking t).scheduler.agenda t.X) ⊥ t None t.m.timers ledger
-          (still_moves o t.q t.m.clock t.call None t.m.timers t.m.timers (grind arith) refl (λ n. refl))
-          (in_wait o t.m) (λ none. absurd none) (grind (decide, h.balanced)) in
-          grind (decide, clock-more, ledger-turn, h.steady, b)
+          grind (
+            decide,
+            clock-more,
+            ledger-turn,
+            h.steady,
+            turn-follows o (Spared (taking t).scheduler.agenda t.X) ⊥ t None t.m.timers
+                (timer_ledger o (told (entry_of t) nothing_known) t.X)
+                (still_moves o t.q t.m.clock t.call None t.m.timers t.m.timers (grind arith) refl (λ n. refl))
+                (in_wait o t.m) (λ none. absurd none) (grind (decide, h.balanced)),
+          )
 
     sound : Cases (Sound o.p) (Keeps (IsInOrder o.p))
     sound = sound_cases o.p low
@@ -192,16 +200,20 @@ module _ (o : OwnTimer) where
             heeded = heeded-carried known m X item n h.sound h.heeded;
           };
       served = λ known m X q origin event k h.
-          let gone : Heeded known m X =
+          let gone =
           subst (λ n. Heeded known n X) (kernel_carried q origin (Stimulus.Event event) m k)
           (heeded-carried known m X (Item.Give q origin (Stimulus.Event event)) refl h.sound h.heeded) in
           let fair = serve-fair o (Spared m.scheduler.agenda X) q event (λ s. grind (decide, h.heeded.farewell)) m in
-          let same : (serve q event m).scheduler.agenda ≡ m.scheduler.agenda = (serve-untouched q event m).agenda in
-          let b = fair.balanced (timer_ledger o known X) gone.balanced in
+          let same = (serve-untouched q event m).agenda in
           record {
             sound = sound.served known m X q origin event k h.sound;
             watched = watched-serve q origin event m h.watched;
-            heeded = record { steady = grind (decide, gone.steady); farewell = rw same gone.farewell; balanced = rw same (rw same at b) };
+            heeded = record {
+              steady = grind (decide, gone.steady);
+              farewell = rw same gone.farewell;
+              balanced = rw same
+                  (rw same at (fair.balanced (timer_ledger o known X) gone.balanced));
+            };
           };
       called_back = λ known m X q c h d.
           record {
@@ -276,7 +288,7 @@ module _ (run : Ran) (boots : is_bootable run.config ≡ true) where
   pub timers-kept : TimersAreKept run.config.apps run.after.entries
   timers-kept = record {
     not_early = λ p a before later t e.
-        let h : IsTimely (mine p t) before = at_prefixes (cases p a t) run (boot p a t) (omega arith) before later e in
-        rw (timer_events-ledger (mine p t) before, standing-ledger (mine p t) before) h;
+        rw (timer_events-ledger (mine p t) before, standing-ledger (mine p t) before)
+        (at_prefixes (cases p a t) run (boot p a t) (omega arith) before later e);
     not_lost = λ p a before t. at_rest _ _ (cases p a t) (IsGivenAtRest (mine p t)) (rest-given (mine p t)) run (boot p a t) before;
   }

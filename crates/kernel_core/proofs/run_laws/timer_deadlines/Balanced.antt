@@ -133,7 +133,7 @@ module _ (o : OwnTimer) where
                     let other : Spared → (n == o.p) ≡ false = λ s. grind (decide, spares s) in
                     grind (decide, any-filter, kept-filter);
                 callbacks_gone = λ n m.
-                    let a : Machine = with_timers (without_callback_timers n m.timers) m in
+                    let a = with_timers (without_callback_timers n m.timers) m in
                     fair-then m a (expiries_cancelled (λ r c. r == n) a)
                     (grind (decide, kept-filter))
                     (grind (

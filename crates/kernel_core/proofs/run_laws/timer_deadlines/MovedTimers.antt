@@ -164,7 +164,7 @@ module _ (o : OwnTimer) where
         (λ e told. stopped_moves q u m.clock (known o.p) m.timers told)
     after-moves (Call.CallbackSet c interval) front = grind (decide, by_refusal, still_moves, armed-other, cell-armed_other)
     after-moves (Call.CallbackStop c) front =
-        let timer : Timer = callback_timer q c in
+        let timer = callback_timer q c in
         by_refusal (Call.CallbackStop c) q known m (expiries_cancelled (is_callback_timer q c) (with_timers (stop_timer timer m.timers) m))
         (callback_refusal c) front
         (λ e told.

@@ -6,13 +6,17 @@ use Rattle.heap_core.proofs.heap.Heap.alloc.Goals.{After-join}
 chosen : (c : After-join) (o : Option Place) → place c.args.n (store_of c.join.new.self c.join.new.arena.bytes) ≡ o
     → place c.args.n (heap_of c.args.self.now c.args.arena.now.bytes) ≡ o
 chosen c o is =
-    let same = joined_is c.join.ensures.joins c.join.ensures.none in
-    subst (λ (r : Region). place c.args.n (heap_of r c.args.arena.now.bytes) ≡ o) c.self.view_is (ap (place c.args.n) (sym same) ∙ is)
+    subst (λ (r : Region). place c.args.n (heap_of r c.args.arena.now.bytes) ≡ o) c.self.view_is
+    (ap (place c.args.n) (sym (joined_is c.join.ensures.joins c.join.ensures.none)) ∙ is)
 
 pub returns-in_err-place-clause-refused : goal.returns-in_err-place-clause-refused
 returns-in_err-place-clause-refused c =
-    let none = chosen (goal.at.returns-in_err-place-clause-refused c).After-join None (sym c.in_err-place.ensures) in
-    let e = c.from_residual.ensures in grind arith
+    grind (
+      arith,
+      c.from_residual.ensures,
+      chosen (goal.at.returns-in_err-place-clause-refused c).After-join None
+          (sym c.in_err-place.ensures),
+    )
 
 pub returns-in_err-place-clause-linked : goal.returns-in_err-place-clause-linked
 returns-in_err-place-clause-linked c = let j = c.join.ensures in
@@ -28,11 +32,10 @@ returns c = let some = chosen (goal.at.returns c).After-join (Some c.in_ok-place
     let target = c.in_ok-place.place in let bytes = resized c.args.n [] in let mid =
     heap_of c.put_block.new.self c.put_block.new.arena.bytes in
     let block : Block = block_at target name bytes in
-    let same = joined_is j.joins j.none in
     let put = put_named j.joins.chunks j.joins.freed j.none c.put_block.ensures.kept block
     (store_of c.join.new.self c.join.new.arena.bytes) c.put_block.ensures.block (j.joins.freed.all ∙ j.none)
     c.number_of-name.ensures.within in
-    let is : mid ≡ with_block block old = put.is ∙ ap (with_block block) same in let f = put.freed in
+    let is : mid ≡ with_block block old = put.is ∙ ap (with_block block) (joined_is j.joins j.none) in let f = put.freed in
     let named : (other : ℕ) → count other mid.blocks ≤ 1 =
     grind (arith, named_with, count_absent) in
     let places = placed_more was.places old mid target name bytes c.number_of-name.ensures.within absent is laid.places in

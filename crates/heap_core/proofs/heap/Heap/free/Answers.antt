@@ -9,11 +9,9 @@ unfolding chunks_of
 returns c = let heap = c.self.inside.region in let B = c.args.arena.now.bytes in
     let laid : IsLaidOut heap B = grind arith in
     let counts = c.set_aside.ensures.counts in let number = c.number_of-name.result in
-    let mid = heap_of c.set_aside.new.self c.set_aside.new.arena.bytes in let s = c.set_aside.ensures in
-    let named : (name : ℕ) → count name mid.blocks ≤ 1 =
+    let mid = heap_of c.set_aside.new.self c.set_aside.new.arena.bytes in let named : (name : ℕ) → count name mid.blocks ≤ 1 =
     grind (arith, count_filter, elsewhere) in
     let is : mid ≡ without_block number (heap_of heap B) =
-    s.aside.block ∙ live_without_place
+    c.set_aside.ensures.aside.block ∙ live_without_place
     (stored laid) c.number_of-name.ensures.within c.live_chunk-chunk.ensures.owned in
-    let places = placed_less heap.places (heap_of heap B) mid number c.number_of-name.ensures.within is laid.places in
-    grind arith
+    grind (arith, placed_less heap.places (heap_of heap B) mid number c.number_of-name.ensures.within is laid.places)

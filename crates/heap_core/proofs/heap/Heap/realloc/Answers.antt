@@ -41,8 +41,8 @@ module _ (c : After-live_chunk-chunk) where
   -- the result for the joined heap is that for the one before
   told : (o : Option HeapStore) → after store ≡ o → after (heap_of c.args.self.now c.args.arena.now.bytes) ≡ o
   told o is =
-      let A = c.args.arena.now.bytes in
-      subst (λ (r : Region). after (heap_of r A) ≡ o) c.self.view_is (ap after (sym c.join.ensures.joins.blocks ∙ all) ∙ is)
+      subst (λ (r : Region). after (heap_of r c.args.arena.now.bytes) ≡ o) c.self.view_is
+      (ap after (sym c.join.ensures.joins.blocks ∙ all) ∙ is)
 
 pub returns-in_default : goal.returns-in_default
 unfolding chunks_of
@@ -52,7 +52,7 @@ returns-in_default c = let k = (goal.at.returns-in_default c).After-live_chunk-c
     let bytes = resized c.args.n (bytes_in_chunk heap.header B heap.span.at c.live_chunk-chunk.result) in let name =
     c.number_of-name.result in
     let is = moved_elsewhere (resizing k) new (sym c.room_in_place.ensures ∙ c.in_default.is) m.block in let some = told k (Some new) is in
-    let named' : (other : ℕ) → count other new.blocks ≤ 1 = named k new is in
+    let named' = named k new is in
     let places = (placed_moved heap.places store new (place c.args.n store) c.in_ok-at.at name bytes c.number_of-name.ensures.within
     (sym m.at) (ap (λ rest. option_map (λ (target : Place). with_block (block_at target name bytes) rest) (place c.args.n store))
     (sym (left k)) ∙ m.block)
@@ -97,8 +97,10 @@ returns c =
 
 pub returns-in_err-at-clause-refused : goal.returns-in_err-at-clause-refused
 returns-in_err-at-clause-refused c = let k = (goal.at.returns-in_err-at-clause-refused c).After-live_chunk-chunk in
-    let heap = c.join.new.self in let B =
-    c.join.new.arena.bytes in let store = store_of heap B in
-    let is = told k None (moved_nowhere (resizing k) (sym c.room_in_place.ensures ∙ c.in_default.is) c.in_err-at.ensures.refused) in
-    let e = c.from_residual.ensures in
-    grind arith
+    grind (
+      arith,
+      c.from_residual.ensures,
+      told k None (moved_nowhere (resizing k)
+          (sym c.room_in_place.ensures ∙ c.in_default.is) c.in_err-at.ensures.refused),
+      store_of c.join.new.self c.join.new.arena.bytes,
+    )

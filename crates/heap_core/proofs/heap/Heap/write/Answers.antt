@@ -4,23 +4,21 @@ use Rattle.heap_core.proofs.heap.Heap.write.Goals.{After-body-body}
 
 ready : (c : After-body-body) → IsLaidOut c.self.inside.region c.args.arena.now.bytes
     × (c.args.at + length c.args.bytes.now ≤ c.live_chunk-chunk.result.size)
-ready c = let heap = c.self.inside.region in let B = c.args.arena.now.bytes in let p = c.args.key.0.0 in let h = c.args.key.1 in let len =
-    length c.args.bytes.now in
-    let laid : IsLaidOut heap B = grind arith in (
-      laid,
-      range_fits (stored laid)
-          c.number_of.ensures.within c.live_chunk-chunk.ensures.owned
-          (heap_of heap B) p h c.args.at len c.number_of.ensures.number c.live_chunk-chunk.ensures.block
-          (grind arith),
-    )
+ready c = let heap = c.self.inside.region in let B = c.args.arena.now.bytes in let laid : IsLaidOut heap B = grind arith in (
+  laid,
+  range_fits (stored laid)
+      c.number_of.ensures.within c.live_chunk-chunk.ensures.owned
+      (heap_of heap B) c.args.key.0.0 c.args.key.1 c.args.at
+      (length c.args.bytes.now) c.number_of.ensures.number c.live_chunk-chunk.ensures.block
+      (grind arith),
+)
 
 abbrev start : Region → Chunk → ℕ → ℕ
 start heap chunk at = heap.span.at + chunk.at + heap.header + at
 
 pub bytes_mut-target-requires : goal.bytes_mut-target-requires
 bytes_mut-target-requires c =
-    let k = ready (goal.at.bytes_mut-target-requires c).After-body-body in
-    grind arith
+    grind (arith, ready (goal.at.bytes_mut-target-requires c).After-body-body)
 
 pub returns : goal.returns
 returns c = let k = (goal.at.returns c).After-body-body in let heap = c.self.inside.region in let B = c.args.arena.now.bytes in let at =
@@ -30,7 +28,6 @@ returns c = let k = (goal.at.returns c).After-body-body in let heap = c.self.ins
     let small = c.number_of.ensures.within in let laid = (ready k).0 in let room = (ready k).1 in
     let live = live_blocks (stored laid) small o at ws room in let same = same_chunks (stored laid) small o at ws room in
     let over = λ (block : Block). (let new : Block = record block { bytes = overwritten at ws block.bytes } in new) in
-    let change = λ (block : Block). if has_name name block then over block else block in
     let new : IsLaidOut heap (written B (heap.span.at + chunk.at + heap.header + at) ws) = record {
       chunks = (body_spliced (stored laid) small o at ws room).has;
       named = grind (arith, count_map, keeps_name);
@@ -38,19 +35,21 @@ returns c = let k = (goal.at.returns c).After-body-body in let heap = c.self.ins
         entries = laid.places.entries;
         told = λ other less.
             laid.places.told other less
-            ∙ sym (find_map other change
+            ∙ sym (find_map other (λ (block : Block). if has_name name block then over block else block)
             (keeps_name name over (λ block. refl)) (keeps_place name over (λ block. refl)) (heap_of heap B).blocks)
             ∙ ap (λ blocks. option_map (λ (block : Block). block.at) (find (has_name other) blocks))
             (sym live);
       };
       gaps = grind arith;
-      freed = let all = same_unnamed (stored laid) small o at ws room in grind arith;
+      freed = grind (arith, same_unnamed (stored laid) small o at ws room);
     } in
-    let A = c.args.arena.now in
     record {
       block = grind arith;
       laid_out = grind arith;
-      rest = let changes = changes_only A.bytes (start heap chunk at) ws
-          (omega (arith, c.live_chunk-chunk.ensures.inside, laid.chunks.within, room))
-          heap.span.at heap.span.len (omega arith) (omega (arith, c.live_chunk-chunk.ensures.inside, room)) in grind arith;
+      rest = grind (
+        arith,
+        changes_only c.args.arena.now.bytes (start heap chunk at) ws
+            (omega (arith, c.live_chunk-chunk.ensures.inside, laid.chunks.within, room))
+            heap.span.at heap.span.len (omega arith) (omega (arith, c.live_chunk-chunk.ensures.inside, room)),
+      );
     }

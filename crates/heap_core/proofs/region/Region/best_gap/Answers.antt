@@ -11,8 +11,7 @@ loop-next-init c = grind (arith, search_begun)
 
 pub len_told-len-requires-clause-inside : goal.len_told-len-requires-clause-inside
 len_told-len-requires-clause-inside c =
-    let heap = c.args.self.now in
-    omega (arith, (next_met c.loop-next.invariant c.loop-next-test.true refl).fits, heap.inside)
+    omega (arith, (next_met c.loop-next.invariant c.loop-next-test.true refl).fits, c.args.self.now.inside)
 
 pub overflow_cast-next-then-len-need : goal.overflow_cast-next-then-len-need
 overflow_cast-next-then-len-need c =
@@ -21,8 +20,7 @@ overflow_cast-next-then-len-need c =
 
 pub next_word-next-requires-clause-inside : goal.next_word-next-requires-clause-inside
 next_word-next-requires-clause-inside c =
-    let heap = c.args.self.now in
-    omega (arith, (next_met c.loop-next.invariant c.loop-next-test.true refl).fits, heap.inside)
+    omega (arith, (next_met c.loop-next.invariant c.loop-next-test.true refl).fits, c.args.self.now.inside)
 
 pub next_word-next-requires-clause-free : goal.next_word-next-requires-clause-free
 next_word-next-requires-clause-free c =
@@ -30,8 +28,7 @@ next_word-next-requires-clause-free c =
 
 pub loop-next-smaller : goal.loop-next-smaller
 loop-next-smaller c =
-    let heap = c.args.self.now in let m = next_met c.loop-next.invariant c.loop-next-test.true c.len_told-len.ensures in
-    grind (arith, rises)
+    grind (arith, rises, next_met c.loop-next.invariant c.loop-next-test.true c.len_told-len.ensures, c.args.self.now)
 
 pub loop-next-preserved : goal.loop-next-preserved
 loop-next-preserved c = let heap = c.args.self.now in let B = c.args.arena.now.bytes in let next = place_in_link c.next_word-next.result in
@@ -50,5 +47,8 @@ returns-then-len-need-2 c =
     c.shorter.ensures (omega (arith, c.if-len-need.true)) c.if-len-need-2.true
 
 pub returns : goal.returns
-returns c = let end = search_ended {best = c.loop-next.best} {next = place_in_link c.loop-next.next} (grind arith) c.loop-next.invariant
-    in grind arith
+returns c = grind (
+  arith,
+  search_ended {best = c.loop-next.best} {next = place_in_link c.loop-next.next}
+      (grind arith) c.loop-next.invariant,
+)

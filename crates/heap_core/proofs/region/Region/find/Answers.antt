@@ -3,10 +3,12 @@ use Rattle.heap_core.proofs.region.Region.find.Goals as goal
 
 pub chunk_at-requires-clause-inside : goal.chunk_at-requires-clause-inside
 chunk_at-requires-clause-inside c =
-    let heap = c.args.self.now in
-    let found = some_found
-    (stored c.requires.laid_out) c.requires.name c.in_ok-at.was in
-    omega (arith, found.1, heap.inside)
+    omega (
+      arith,
+      (some_found
+          (stored c.requires.laid_out) c.requires.name c.in_ok-at.was).1,
+      c.args.self.now.inside,
+    )
 
 pub returns-in_err-at : goal.returns-in_err-at
 returns-in_err-at c =
@@ -16,6 +18,8 @@ returns-in_err-at c =
 
 pub returns : goal.returns
 returns c =
-    let found = some_found
-    (stored c.requires.laid_out) c.requires.name c.in_ok-at.was in
-    grind arith
+    grind (
+      arith,
+      some_found
+          (stored c.requires.laid_out) c.requires.name c.in_ok-at.was,
+    )

@@ -4,8 +4,14 @@ use Rattle.heap_core.proofs.region.Region.free_before.Goals as goal
 pub overflow_add-gap : goal.overflow_add-gap
 overflow_add-gap c =
     let heap = c.args.self.now in let a = around c.requires.gaps.chunks c.requires.stands in
-    let k = last_gap c.in-Some.gap a.before (sym (below_is a c.requires.gaps.linked) ∙ sym c.requires.below ∙ c.in-Some.is) in
-    omega (arith, gap_ends_below a c.in-Some.gap k, a.fits, heap.inside, heap.small)
+    omega (
+      arith,
+      gap_ends_below a c.in-Some.gap (last_gap c.in-Some.gap a.before
+          (sym (below_is a c.requires.gaps.linked) ∙ sym c.requires.below ∙ c.in-Some.is)),
+      a.fits,
+      heap.inside,
+      heap.small,
+    )
 
 pub returns-in-Some : goal.returns-in-Some
 returns-in-Some c = grind (arith, eq-eqb)

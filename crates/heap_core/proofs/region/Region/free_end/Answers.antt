@@ -23,22 +23,22 @@ found c = elim (place_cases c.requires.gaps.chunks c.requires.some c.requires.pl
 
 pub len_at-requires-clause-inside : goal.len_at-requires-clause-inside
 len_at-requires-clause-inside c =
-    let f = found (goal.at.len_at-requires-clause-inside c).Else-target-self in let g = f.0.gap in let a = f.1 in grind arith
+    let f = found (goal.at.len_at-requires-clause-inside c).Else-target-self in grind (arith, f.1, f.0.gap)
 
 pub overflow_add-result : goal.overflow_add-result
-overflow_add-result c = let f = found (goal.at.overflow_add-result c).Else-target-self in let g = f.0.gap in let a = f.1 in grind arith
+overflow_add-result c = let f = found (goal.at.overflow_add-result c).Else-target-self in grind (arith, f.1, f.0.gap)
 
 pub link_at-requires-clause-inside : goal.link_at-requires-clause-inside
 link_at-requires-clause-inside c =
-    let f = found (goal.at.link_at-requires-clause-inside c).Else-target-self in let g = f.0.gap in let a = f.1 in grind arith
+    let f = found (goal.at.link_at-requires-clause-inside c).Else-target-self in grind (arith, f.1, f.0.gap)
 
 pub link_at-requires-clause-free : goal.link_at-requires-clause-free
 link_at-requires-clause-free c =
-    let f = found (goal.at.link_at-requires-clause-free c).Else-target-self in let g = f.0.gap in let a = f.1 in grind arith
+    let f = found (goal.at.link_at-requires-clause-free c).Else-target-self in grind (arith, f.1, f.0.gap)
 
 pub returns : goal.returns
 returns c =
     let heap = c.args.self.now in let B = c.args.arena.now.bytes in let target = c.args.target in
-    let f = found (goal.at.returns c).Else-target-self in let low = f.0 in let g = low.gap in let a = f.1 in
-    let len : c.len_at.result ≡ g.gap.len = grind arith in
+    let f = found (goal.at.returns c).Else-target-self in let a = f.1 in
+    let len : c.len_at.result ≡ f.0.gap.gap.len = grind arith in
     record { free = grind (arith, free_gap); along = search rules; link = grind (arith, behind_gap) }

@@ -2,27 +2,24 @@ use Rattle.heap_core.proofs.Lemmas.{◌+◌, sym, ap, ◌∙◌, arith, front_ga
 use Rattle.heap_core.proofs.region.Region.gap_behind.Goals as goal
 
 pub overflow_add-end : goal.overflow_add-end
-overflow_add-end c = let heap = c.args.self.now in let a = around c.requires.chunks c.requires.stands in grind arith
+overflow_add-end c = grind (arith, around c.requires.chunks c.requires.stands, c.args.self.now)
 
 pub returns-then-end-self : goal.returns-then-end-self
 returns-then-end-self c =
-    let heap = c.args.self.now in let B = c.args.arena.now.bytes in let chunk = c.args.chunk in
+    let heap = c.args.self.now in let chunk = c.args.chunk in
     let a = around c.requires.chunks c.requires.stands in
     sym (ap front_gap (a.behind_is
-    ∙ ended heap.header B heap.span.at (chunk.at + chunk.len) heap.footprint a.behind a.back (omega (arith, c.if-end-self.true))))
+    ∙ ended heap.header c.args.arena.now.bytes heap.span.at (chunk.at + chunk.len) heap.footprint a.behind a.back
+    (omega (arith, c.if-end-self.true))))
 
 pub chunk_at-behind-requires-clause-inside : goal.chunk_at-behind-requires-clause-inside
 chunk_at-behind-requires-clause-inside c =
-    let heap = c.args.self.now in let a = around c.requires.chunks c.requires.stands in grind (arith, room_for_header)
+    grind (arith, room_for_header, around c.requires.chunks c.requires.stands, c.args.self.now)
 
 pub returns-then-is_gap : goal.returns-then-is_gap
 returns-then-is_gap c =
-    let heap = c.args.self.now in let B = c.args.arena.now.bytes in let chunk = c.args.chunk in
-    let a = around c.requires.chunks c.requires.stands in
-    grind arith
+    grind (arith, around c.requires.chunks c.requires.stands, c.args.chunk, c.args.arena.now.bytes, c.args.self.now)
 
 pub returns-else-is_gap : goal.returns-else-is_gap
 returns-else-is_gap c =
-    let heap = c.args.self.now in let B = c.args.arena.now.bytes in let chunk = c.args.chunk in
-    let a = around c.requires.chunks c.requires.stands in
-    grind arith
+    grind (arith, around c.requires.chunks c.requires.stands, c.args.chunk, c.args.arena.now.bytes, c.args.self.now)

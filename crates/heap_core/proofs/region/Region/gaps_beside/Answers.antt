@@ -1,18 +1,23 @@
-use Rattle.heap_core.proofs.Lemmas.{sym, ◌∙◌, arith, Option, Chunk, chunks_of, gaps_among, gap_below, below_told, gap_kept}
+use Rattle.heap_core.proofs.Lemmas.{sym, ◌∙◌, arith, chunks_of, gaps_among, gap_below, below_told, gap_kept}
 use Rattle.heap_core.proofs.region.Region.gaps_beside.Goals as goal
 
 pub chunk_at-requires-clause-inside : goal.chunk_at-requires-clause-inside
 chunk_at-requires-clause-inside c =
     let heap = c.args.self.now in let B = c.args.arena.now.bytes in
-    let found : Option Chunk = gap_below c.args.at (gaps_among (chunks_of heap B)) in
-    let kept = gap_kept B heap.span.at heap.footprint c.in-Some.place found (sym c.in-Some.is ∙ c.places_beside-below.ensures.below)
-    (below_told heap B c.args.at c.requires.gaps.chunks c.requires.gaps.linked) in
-    omega (arith, kept.1, heap.inside)
+    let found = gap_below c.args.at (gaps_among (chunks_of heap B)) in
+    omega (
+      arith,
+      (gap_kept B heap.span.at heap.footprint c.in-Some.place found (sym c.in-Some.is ∙ c.places_beside-below.ensures.below)
+          (below_told heap B c.args.at c.requires.gaps.chunks c.requires.gaps.linked)).1,
+      heap.inside,
+    )
 
 pub returns-in-Some-clause-below : goal.returns-in-Some-clause-below
 returns-in-Some-clause-below c =
     let heap = c.args.self.now in let B = c.args.arena.now.bytes in
-    let found : Option Chunk = gap_below c.args.at (gaps_among (chunks_of heap B)) in
-    let kept = gap_kept B heap.span.at heap.footprint c.in-Some.place found (sym c.in-Some.is ∙ c.places_beside-below.ensures.below)
-    (below_told heap B c.args.at c.requires.gaps.chunks c.requires.gaps.linked) in
-    grind arith
+    let found = gap_below c.args.at (gaps_among (chunks_of heap B)) in
+    grind (
+      arith,
+      gap_kept B heap.span.at heap.footprint c.in-Some.place found (sym c.in-Some.is ∙ c.places_beside-below.ensures.below)
+          (below_told heap B c.args.at c.requires.gaps.chunks c.requires.gaps.linked),
+    )

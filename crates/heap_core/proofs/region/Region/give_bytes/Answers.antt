@@ -4,13 +4,13 @@ use Rattle.heap_core.proofs.region.Region.give_bytes.Goals as goal
 pub returns : goal.returns
 returns c =
     let heap = c.args.self.now in let b = heap.span.at in let live = c.args.live in let n = live.size in let source = c.in-Some.source in
-    let P = b + live.at + heap.header in let Q = b + source.at + heap.header in let A = c.args.arena.now.bytes in let B =
+    let P = b + live.at + heap.header in let Q = b + source.at + heap.header in let B =
     c.clear.new.arena.bytes in
     let m = c.min.result in let W = slice_range B Q (Q + m) in let least = c.min.ensures in let size = c.clear.ensures.others.size in
     let fits : source.at + heap.header + source.size ≤ heap.span.len = grind arith in
     let apart : (source.at + heap.header + source.size ≤ live.at) ⊎ (live.at + heap.header + n ≤ source.at) = grind arith in
     let count : length W ≡ m = grind (arith, length-range) in
-    let read : W ≡ slice_range A Q (Q + m) =
+    let read : W ≡ slice_range c.args.arena.now.bytes Q (Q + m) =
     grind arith in
     let none : P + 0 - P ≡ 0 = omega arith in
     let fresh : slice_range B P (P + n) ≡ zeros n = grind (arith, resized_none) in

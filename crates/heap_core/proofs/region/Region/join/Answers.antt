@@ -3,10 +3,9 @@ use Rattle.heap_core.proofs.region.Region.join.Goals as goal
 
 pub chunk_at-chunk-requires-clause-inside : goal.chunk_at-chunk-requires-clause-inside
 chunk_at-chunk-requires-clause-inside c =
-    let heap = c.loop-self.self in let B = c.loop-self.arena.bytes in let i = c.loop-self.invariant in
-    let n = newest_is i.chunks i.freed c.in-Some.is refl in
-    let a = around i.chunks n.live.stands in
-    omega (arith, a.fits, a.enough, heap.inside, place_told B heap.span.at c.in-Some.at _ refl)
+    let heap = c.loop-self.self in let i = c.loop-self.invariant in
+    let a = around i.chunks (newest_is i.chunks i.freed c.in-Some.is refl).live.stands in
+    omega (arith, a.fits, a.enough, heap.inside, place_told c.loop-self.arena.bytes heap.span.at c.in-Some.at _ refl)
 
 pub release-requires : goal.release-requires
 unfolding chunks_of
@@ -38,8 +37,7 @@ loop-self-preserved c = let heap = c.loop-self.self in let i = c.loop-self.invar
           c.release.ensures.kept.freed,
         );
       };
-      blocks = let block = c.release.ensures.block in
-          let named = named_without (around i.chunks n.live.stands) n.owner (omega arith) in let were = i.blocks in grind arith;
+      blocks = grind (arith, i.blocks, named_without (around i.chunks n.live.stands) n.owner (omega arith), c.release.ensures.block);
       places = c.release.ensures.kept.places ∙ i.places;
       rest = grind arith;
     }
@@ -49,4 +47,4 @@ unfolding chunks_of
 returns-clause-joins c = grind arith
 
 pub returns-clause-none : goal.returns-clause-none
-returns-clause-none c = let none = none_newest c.loop-self.invariant.chunks c.loop-self.invariant.freed in grind arith
+returns-clause-none c = grind (arith, none_newest c.loop-self.invariant.chunks c.loop-self.invariant.freed)

@@ -6,13 +6,12 @@ leave-first-requires c = grind arith
 
 pub put_chunk-requires : goal.put_chunk-requires
 put_chunk-requires c =
-    let heap = c.args.self.now in let fits = c.requires.fits in let room = fits_least fits in grind arith
+    grind (arith, fits_least c.requires.fits, c.args.self.now)
 
 pub returns : goal.returns
 returns c =
     let heap = c.args.self.now in let fits = c.requires.fits in let room = fits_least fits in let same = c.leave-first.ensures.rest in
-    let live = c.args.live in let named = owner_live live.owner fits.owner in
-    let wrote = c.put_chunk.ensures.live named in
+    let wrote = c.put_chunk.ensures.live (owner_live c.args.live.owner fits.owner) in
     record {
       laid = λ bytes cut ends changed.
           laid_before cut ends fits c.leave-first.ensures.left same.span same.header changed (grind arith) (grind arith);

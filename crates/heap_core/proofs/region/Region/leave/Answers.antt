@@ -4,18 +4,16 @@ use Rattle.heap_core.proofs.region.Region.leave.Goals.{Else-from-end}
 
 pub returns-then-end-self-clause-left : goal.returns-then-end-self-clause-left
 returns-then-end-self-clause-left c =
-    let heap = c.args.self.now in let from = c.args.from in
-    record {
+    let heap = c.args.self.now in record {
       mid = [];
-      to = from;
+      to = c.args.from;
       told = refl;
       changes = grind arith;
       linked = refl;
       count = omega arith;
       free = λ other. refl;
       behind = λ other behind told ends joined. (
-          let none = ended heap.header other heap.span.at c.args.end heap.footprint behind told (omega (arith, c.if-end-self.true)) in
-          grind arith);
+          grind (arith, ended heap.header other heap.span.at c.args.end heap.footprint behind told (omega (arith, c.if-end-self.true))));
     }
 
 pub returns-then-from-end-clause-left : goal.returns-then-from-end-clause-left
@@ -23,14 +21,17 @@ returns-then-from-end-clause-left c = grind arith
 
 -- they are as long as a gap
 long : (c : Else-from-end) → LeavesGap c.args.self.now.header c.args.from c.args.end × (16 ≤ c.args.end - c.args.from)
-long c = let k = lengths c.args.self.now in grind arith
+long c = grind (arith, lengths c.args.self.now)
 
 pub overflow_sub-end : goal.overflow_sub-end
 overflow_sub-end c = grind arith
 
 pub put_chunk-requires-clause-inside : goal.put_chunk-requires-clause-inside
-put_chunk-requires-clause-inside c = let heap = c.args.self.now in
-    omega (arith, (long (goal.at.put_chunk-requires-clause-inside c).Else-from-end).1, heap.inside)
+put_chunk-requires-clause-inside c = omega (
+  arith,
+  (long (goal.at.put_chunk-requires-clause-inside c).Else-from-end).1,
+  c.args.self.now.inside,
+)
 
 pub returns-clause-left : goal.returns-clause-left
 returns-clause-left c =
@@ -52,5 +53,4 @@ returns-clause-first c = grind arith
 
 pub returns-clause-rest : goal.returns-clause-rest
 returns-clause-rest c =
-    let heap = c.args.self.now in let l = long (goal.at.returns-clause-rest c).Else-from-end in
-    grind arith
+    grind (arith, long (goal.at.returns-clause-rest c).Else-from-end, c.args.self.now)

@@ -9,10 +9,10 @@ returns-then-behind-end c = grind (arith, over_live, around)
 
 pub chunk_at-requires-clause-inside : goal.chunk_at-requires-clause-inside
 chunk_at-requires-clause-inside c =
-    let heap = c.args.self.now in let a = around c.requires.gaps.chunks c.requires.live.stands in let is = ap front_gap a.behind_is in
+    let a = around c.requires.gaps.chunks c.requires.live.stands in let is = ap front_gap a.behind_is in
     let some : front_gap a.behind ≢ 0 = grind arith in
-    omega (arith, gap_fits a c.requires.gaps.linked c.requires.live.live some, heap.inside)
+    omega (arith, gap_fits a c.requires.gaps.linked c.requires.live.live some, c.args.self.now.inside)
 
 pub returns : goal.returns
 returns c =
-    let a = around c.requires.gaps.chunks c.requires.live.stands in grind (arith, over_gap)
+    grind (arith, over_gap, around c.requires.gaps.chunks c.requires.live.stands)

@@ -7,8 +7,7 @@ gap_stands c = grind arith
 
 pub put_link-requires : goal.put_link-requires
 put_link-requires c =
-    let heap = c.args.self.now in let s = gap_stands (goal.at.put_link-requires c).In-Some in let a = around c.requires.chunks s.0 in
-    grind arith
+    grind (arith, around c.requires.chunks (gap_stands (goal.at.put_link-requires c).In-Some).0, c.args.self.now)
 
 pub returns-in-Some-clause-relinked : goal.returns-in-Some-clause-relinked
 returns-in-Some-clause-relinked c =
@@ -18,8 +17,7 @@ returns-in-Some-clause-relinked c =
 
 pub returns-in-Some-clause-rest : goal.returns-in-Some-clause-rest
 returns-in-Some-clause-rest c =
-    let heap = c.args.self.now in let s = gap_stands (goal.at.returns-in-Some-clause-rest c).In-Some in
-    let a = around c.requires.chunks s.0 in grind arith
+    grind (arith, around c.requires.chunks (gap_stands (goal.at.returns-in-Some-clause-rest c).In-Some).0, c.args.self.now)
 
 pub returns-in-None-clause-relinked : goal.returns-in-None-clause-relinked
 unfolding chunks_of
@@ -28,9 +26,9 @@ returns-in-None-clause-relinked c = record {
   block = refl;
   stands = λ other h. h;
   linked = λ before behind end is last linked later. (
-      let none = no_last before (sym last ∙ c.in-None.is) in
       subst (λ k. LinkedTo c.args.first k None) (sym is)
-      (linked_append c.args.first c.args.first None before behind (linked_none c.args.first before none) later));
+      (linked_append c.args.first c.args.first None before behind (linked_none c.args.first before
+      (no_last before (sym last ∙ c.in-None.is))) later));
   gaps = refl;
   count = refl;
 }

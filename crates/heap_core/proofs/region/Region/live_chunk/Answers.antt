@@ -6,7 +6,13 @@ unwrap-requires c = grind (arith, some_owned, find_named)
 
 pub returns : goal.returns
 returns c =
-    let heap = c.args.self.now in let B = c.args.arena.now.bytes in let chunk = c.unwrap.result in
-    let o = owned c.args.name chunk (chunks_of heap B) (sym c.find.ensures ∙ c.unwrap.ensures) in
-    let a = around c.requires.laid_out.chunks o.stands in
-    grind (arith, owned, find_named, find_is, option_map)
+    grind (
+      arith,
+      owned,
+      find_named,
+      find_is,
+      option_map,
+      around c.requires.laid_out.chunks
+          (owned c.args.name c.unwrap.result (chunks_of c.args.self.now c.args.arena.now.bytes)
+          (sym c.find.ensures ∙ c.unwrap.ensures)).stands,
+    )

@@ -10,8 +10,7 @@ loop-next-init c = grind (arith, walk_begun)
 
 pub next_word-below-requires-clause-inside : goal.next_word-below-requires-clause-inside
 next_word-below-requires-clause-inside c =
-    let heap = c.args.self.now in
-    omega (arith, (walk_step c.loop-next.invariant.0 c.loop-next-test.true c.ranges.at.fits).fits, heap.inside)
+    omega (arith, (walk_step c.loop-next.invariant.0 c.loop-next-test.true c.ranges.at.fits).fits, c.args.self.now.inside)
 
 pub next_word-below-requires-clause-free : goal.next_word-below-requires-clause-free
 next_word-below-requires-clause-free c = ap is_a_name (walk_step c.loop-next.invariant.0 c.loop-next-test.true c.ranges.at.fits).free
@@ -23,32 +22,39 @@ walked c = walk_more c.loop-next.invariant.0 c.loop-next-test.true c.ranges.at.f
 
 pub next_word-next-requires-clause-inside : goal.next_word-next-requires-clause-inside
 next_word-next-requires-clause-inside c =
-    let heap = c.args.self.now in
-    let w = walked (goal.at.next_word-next-requires-clause-inside c).After-next_word-below in
-    omega (arith, (walk_step w c.if-below-end.false c.ranges.at.fits).fits, heap.inside)
+    omega (
+      arith,
+      (walk_step (walked
+          (goal.at.next_word-next-requires-clause-inside c).After-next_word-below) c.if-below-end.false c.ranges.at.fits).fits,
+      c.args.self.now.inside,
+    )
 
 pub next_word-next-requires-clause-free : goal.next_word-next-requires-clause-free
 next_word-next-requires-clause-free c =
-    let w = walked (goal.at.next_word-next-requires-clause-free c).After-next_word-below in
-    ap is_a_name (walk_step w c.if-below-end.false c.ranges.at.fits).free
+    ap is_a_name
+    (walk_step (walked (goal.at.next_word-next-requires-clause-free c).After-next_word-below) c.if-below-end.false c.ranges.at.fits).free
 
 pub loop-next-smaller : goal.loop-next-smaller
 loop-next-smaller c =
-    let heap = c.args.self.now in
-    let s = walk_step c.loop-next.invariant.0 c.loop-next-test.true c.ranges.at.fits in
-    let t = walk_step (walked (goal.at.loop-next-smaller c).After-next_word-below) c.if-below-end.false c.ranges.at.fits in
-    grind (arith, rises)
+    grind (
+      arith,
+      rises,
+      walk_step (walked (goal.at.loop-next-smaller c).After-next_word-below) c.if-below-end.false c.ranges.at.fits,
+      walk_step c.loop-next.invariant.0 c.loop-next-test.true c.ranges.at.fits,
+      c.args.self.now,
+    )
 
 pub loop-next-preserved : goal.loop-next-preserved
 loop-next-preserved c =
-    let w = walk_more (walked (goal.at.loop-next-preserved c).After-next_word-below) c.if-below-end.false c.ranges.at.fits
-    c.next_word-next.ensures.link in
-    grind arith
+    grind (
+      arith,
+      walk_more (walked (goal.at.loop-next-preserved c).After-next_word-below) c.if-below-end.false c.ranges.at.fits
+          c.next_word-next.ensures.link,
+    )
 
 pub returns-then-below-end : goal.returns-then-below-end
 returns-then-below-end c =
-    let s = stop c.next_word-below.result (walked (goal.at.returns-then-below-end c).After-next_word-below) c.if-below-end.true in
-    grind arith
+    grind (arith, stop c.next_word-below.result (walked (goal.at.returns-then-below-end c).After-next_word-below) c.if-below-end.true)
 
 pub returns : goal.returns
-returns c = let s = stop c.loop-next.next c.loop-next.invariant.0 c.loop-next-test.false in grind arith
+returns c = grind (arith, stop c.loop-next.next c.loop-next.invariant.0 c.loop-next-test.false)

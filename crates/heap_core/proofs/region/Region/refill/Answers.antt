@@ -3,15 +3,15 @@ use Rattle.heap_core.proofs.region.Region.refill.Goals as goal
 
 pub clear-requires-clause-inside : goal.clear-requires-clause-inside
 clear-requires-clause-inside c =
-    let heap = c.args.self.now in let a = around c.requires.divided.chunks c.requires.owned.stands in grind arith
+    grind (arith, around c.requires.divided.chunks c.requires.owned.stands, c.args.self.now)
 
 pub clear-requires-clause-before : goal.clear-requires-clause-before
 clear-requires-clause-before c =
-    let heap = c.args.self.now in let a = around c.requires.divided.chunks c.requires.owned.stands in grind arith
+    grind (arith, around c.requires.divided.chunks c.requires.owned.stands, c.args.self.now)
 
 pub put_chunk-requires : goal.put_chunk-requires
 put_chunk-requires c =
-    let heap = c.args.self.now in let a = around c.requires.divided.chunks c.requires.owned.stands in grind arith
+    grind (arith, around c.requires.divided.chunks c.requires.owned.stands, c.args.self.now)
 
 pub returns : goal.returns
 returns c = let heap = c.args.self.now in let chunk = c.args.chunk in let a = around c.requires.divided.chunks c.requires.owned.stands in

@@ -9,7 +9,7 @@ reaches c = reach (around c.requires.divided.chunks c.requires.live.stands) c.re
     (ap (λ k. c.args.chunk.at + c.args.chunk.len + k) c.gap_behind-gap.ensures)
 
 pub overflow_add-end : goal.overflow_add-end
-overflow_add-end c = let heap = c.args.self.now in let a = around c.requires.divided.chunks c.requires.live.stands in grind arith
+overflow_add-end c = grind (arith, around c.requires.divided.chunks c.requires.live.stands, c.args.self.now)
 
 pub overflow_add-end-2 : goal.overflow_add-end-2
 overflow_add-end-2 c =

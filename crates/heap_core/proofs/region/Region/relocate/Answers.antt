@@ -1,4 +1,4 @@
-use Rattle.heap_core.proofs.Lemmas.{arith, rules, ◌≡◌, true, not, sym, ap, ◌∙◌, ne_eqb, lt-ltb, resized, Block, block_at, is_a_name, chunks_of, store_of, bytes_in_chunk, filter_placed, blocks_ascending, elsewhere, elsewhere_placed, KeepsToSpan-then, put_named, owned_live}
+use Rattle.heap_core.proofs.Lemmas.{arith, rules, ◌≡◌, not, sym, ap, ◌∙◌, ne_eqb, lt-ltb, resized, block_at, is_a_name, chunks_of, store_of, bytes_in_chunk, filter_placed, blocks_ascending, elsewhere, elsewhere_placed, KeepsToSpan-then, put_named, owned_live}
 use Rattle.heap_core.proofs.region.Region.relocate.Goals as goal
 
 pub put_block-requires-clause-source : goal.put_block-requires-clause-source
@@ -18,16 +18,19 @@ set_aside-requires c = record {
 
 pub returns-clause-block : goal.returns-clause-block
 returns-clause-block c = let heap = c.args.self.now in let B = c.args.arena.now.bytes in let chunk = c.args.chunk in
-    let bytes = resized c.args.n (bytes_in_chunk heap.header B heap.span.at chunk) in
-    let target = c.in_ok-target.target in let block : Block = block_at target c.args.name bytes in
-    let far = elsewhere_placed c.requires.divided.chunks c.requires.some (owned_live c.requires.divided.chunks c.requires.owned)
-    (sym c.in_ok-target.ensures) in
-    let stays : elsewhere chunk.at block ≡ true = ap not (ne_eqb target.at chunk.at (λ e. far (sym e))) in
-    let named = put_named c.requires.divided.chunks c.requires.freed c.requires.joined c.put_block.ensures.kept block
-    (store_of heap B) c.put_block.ensures.block (c.requires.freed.all ∙ c.requires.joined) c.requires.name in
-    let placed = filter_placed (elsewhere chunk.at) heap.footprint block (store_of heap B).blocks stays
-    (blocks_ascending heap.header B heap.span.at 0 heap.footprint (chunks_of heap B) c.requires.divided.chunks.told) in
-    let is = named.is in grind arith
+    let target = c.in_ok-target.target in let block = block_at target c.args.name
+    (resized c.args.n (bytes_in_chunk heap.header B heap.span.at chunk)) in
+    let stays = ap not (ne_eqb target.at chunk.at (λ e. (elsewhere_placed c.requires.divided.chunks c.requires.some
+    (owned_live c.requires.divided.chunks c.requires.owned)
+    (sym c.in_ok-target.ensures)) (sym e))) in
+    grind (
+      arith,
+      (put_named c.requires.divided.chunks c.requires.freed c.requires.joined c.put_block.ensures.kept block
+          (store_of heap B) c.put_block.ensures.block (c.requires.freed.all ∙ c.requires.joined) c.requires.name).is,
+      filter_placed
+          (elsewhere chunk.at) heap.footprint block (store_of heap B).blocks stays
+          (blocks_ascending heap.header B heap.span.at 0 heap.footprint (chunks_of heap B) c.requires.divided.chunks.told),
+    )
 
 pub returns-clause-places : goal.returns-clause-places
 returns-clause-places c = grind arith

@@ -23,14 +23,12 @@ laid c =
 
 pub overflow_add-self : goal.overflow_add-self
 overflow_add-self c =
-    let heap = c.args.self.now in let r = own_room c.requires.divided.chunks c.requires.owned refl c.requires.some c.requires.room in
-    omega (arith, r.inside, heap.small)
+    omega (arith, (own_room c.requires.divided.chunks c.requires.owned refl c.requires.some c.requires.room).inside, c.args.self.now.small)
 
 -- the room stays
 pub refill-requires-clause-fits : goal.refill-requires-clause-fits
 refill-requires-clause-fits c =
-    let r = own_room c.requires.divided.chunks c.requires.owned refl c.requires.some c.requires.room in
-    omega (arith, r.enough, c.if-self-room.true)
+    omega (arith, (own_room c.requires.divided.chunks c.requires.owned refl c.requires.some c.requires.room).enough, c.if-self-room.true)
 
 pub returns-then-self-room : goal.returns-then-self-room
 unfolding chunks_of
@@ -45,8 +43,7 @@ overflow_add-end-2 c = let heap = c.args.self.now in
     omega (arith, own_end c.requires.divided.chunks c.requires.owned c.gap_behind-gap.ensures, heap.inside, heap.small)
 
 pub overflow_add-live : goal.overflow_add-live
-overflow_add-live c = let heap = c.args.self.now in
-    omega (arith, (room (goal.at.overflow_add-live c).After-gap_behind-gap).inside, heap.small)
+overflow_add-live c = omega (arith, (room (goal.at.overflow_add-live c).After-gap_behind-gap).inside, c.args.self.now.small)
 
 pub clear-requires-clause-inside : goal.clear-requires-clause-inside
 clear-requires-clause-inside c = let r = room (goal.at.clear-requires-clause-inside c).After-gap_behind-gap in
@@ -54,9 +51,7 @@ clear-requires-clause-inside c = let r = room (goal.at.clear-requires-clause-ins
 
 pub clear-requires-clause-before : goal.clear-requires-clause-before
 clear-requires-clause-before c =
-    let heap = c.args.self.now in let a =
-    own c.requires.divided.chunks c.requires.owned in
-    grind arith
+    grind (arith, own c.requires.divided.chunks c.requires.owned, c.args.self.now)
 
 pub lay-first-requires-clause-fits : goal.lay-first-requires-clause-fits
 lay-first-requires-clause-fits c =
@@ -87,14 +82,13 @@ pub returns : goal.returns
 unfolding chunks_of
 returns c = let heap = c.args.self.now in let A = c.args.arena.now in let mid = c.lay-first.new.self in let new = c.link_below.new.self in
     let last = c.link_below.new.arena in
-    let r = room (goal.at.returns c).After-gap_behind-gap in let l = laid (goal.at.returns c).After-lay-first in let linked =
-    c.link_below.ensures.relinked in
-    let f = kept_then c.lay-first.ensures.kept c.link_below.ensures.kept in
+    let r = room (goal.at.returns c).After-gap_behind-gap in let l = laid (goal.at.returns c).After-lay-first in let f =
+    kept_then c.lay-first.ensures.kept c.link_below.ensures.kept in
     record {
       chunks = grind arith;
       gaps = grind arith;
       block = grind arith;
-      others = λ other h far. linked.stands other (l.kept other h far);
+      others = λ other h far. c.link_below.ensures.relinked.stands other (l.kept other h far);
       kept = grind arith;
       rest = grind (arith, KeepsToSpan-then, changes_more);
     }

@@ -7,7 +7,7 @@ chosen : (c : After-least_room-least)
     ≡ choice (least_room c.args.self.now.header c.args.n) (c.args.chunk.len - c.args.self.now.header)
     (c.args.chunk.at + c.args.chunk.len) c.args.self.now.footprint (c.args.self.now.span.len - c.args.self.now.footprint)
     (front_gap (chunks_behind c.args.self.now c.args.arena.now.bytes (c.args.chunk.at + c.args.chunk.len)))
-chosen c = let a = around c.requires.chunks c.requires.live.stands in grind (arith, room_is)
+chosen c = grind (arith, room_is, around c.requires.chunks c.requires.live.stands)
 
 high : (c : After-least_room-least)
     → c.args.chunk.at + c.args.chunk.len + front_gap
@@ -22,10 +22,10 @@ overflow_add-chunk c = let heap = c.args.self.now in
     omega (arith, (around c.requires.chunks c.requires.live.stands).fits, heap.inside, heap.small)
 
 pub returns-then-least-most : goal.returns-then-least-most
-returns-then-least-most c = let is = chosen (goal.at.returns-then-least-most c).After-least_room-least in grind arith
+returns-then-least-most c = grind (arith, chosen (goal.at.returns-then-least-most c).After-least_room-least)
 
 pub returns-else-least-most : goal.returns-else-least-most
-returns-else-least-most c = let is = chosen (goal.at.returns-else-least-most c).After-least_room-least in grind arith
+returns-else-least-most c = grind (arith, chosen (goal.at.returns-else-least-most c).After-least_room-least)
 
 pub overflow_add-most-2 : goal.overflow_add-most-2
 overflow_add-most-2 c = grind (arith, high)
@@ -34,7 +34,7 @@ pub overflow_cast-least-then-least-most-2 : goal.overflow_cast-least-then-least-
 overflow_cast-least-then-least-most-2 c = grind arith
 
 pub returns-then-least-most-2 : goal.returns-then-least-most-2
-returns-then-least-most-2 c = let is = chosen (goal.at.returns-then-least-most-2 c).After-least_room-least in grind arith
+returns-then-least-most-2 c = grind (arith, chosen (goal.at.returns-then-least-most-2 c).After-least_room-least)
 
 pub returns-else-least-most-2 : goal.returns-else-least-most-2
-returns-else-least-most-2 c = let is = chosen (goal.at.returns-else-least-most-2 c).After-least_room-least in grind (arith, choice_no_gap)
+returns-else-least-most-2 c = grind (arith, choice_no_gap, chosen (goal.at.returns-else-least-most-2 c).After-least_room-least)

@@ -3,8 +3,7 @@ use Rattle.heap_core.proofs.region.Region.set_aside.Goals as goal
 
 pub put_chunk-requires : goal.put_chunk-requires
 put_chunk-requires c =
-    let heap = c.args.self.now in let a = around c.requires.divided.chunks c.requires.stands in
-    grind (arith, newest_small)
+    grind (arith, newest_small, around c.requires.divided.chunks c.requires.stands, c.args.self.now)
 
 pub overflow_add-self : goal.overflow_add-self
 overflow_add-self c = omega (arith, freed_small c.requires.divided.chunks c.requires.freed)
@@ -17,5 +16,4 @@ returns-clause-aside c =
 
 pub returns-clause-rest : goal.returns-clause-rest
 returns-clause-rest c =
-    let heap = c.args.self.now in let a = around c.requires.divided.chunks c.requires.stands in
-    grind arith
+    grind (arith, around c.requires.divided.chunks c.requires.stands, c.args.self.now)

@@ -6,7 +6,7 @@ loop-at-init c = counted_first c.requires
 
 pub chunk_at-chunk-requires-clause-inside : goal.chunk_at-chunk-requires-clause-inside
 chunk_at-chunk-requires-clause-inside c =
-    let heap = c.args.self.now in let m = met c.loop-at.invariant refl c.loop-at-test.true in omega (arith, m.enough, m.fits, heap.inside)
+    let m = met c.loop-at.invariant refl c.loop-at-test.true in omega (arith, m.enough, m.fits, c.args.self.now.inside)
 
 pub overflow_add-at : goal.overflow_add-at
 overflow_add-at c =
@@ -18,15 +18,21 @@ overflow_sub-allocated c = omega (arith, (met c.loop-at.invariant c.chunk_at-chu
 
 pub overflow_add-allocated : goal.overflow_add-allocated
 overflow_add-allocated c =
-    let heap = c.args.self.now in
-    let w = counted_live c.loop-at.invariant c.chunk_at-chunk.ensures c.loop-at-test.true (sym c.is_live.ensures ∙ c.if-is_live.true) in
-    omega (arith, heap.small, counted_fits c.requires w)
+    omega (
+      arith,
+      c.args.self.now.small,
+      counted_fits c.requires
+          (counted_live c.loop-at.invariant c.chunk_at-chunk.ensures c.loop-at-test.true (sym c.is_live.ensures ∙ c.if-is_live.true)),
+    )
 
 pub overflow_add-chunks : goal.overflow_add-chunks
 overflow_add-chunks c =
-    let heap = c.args.self.now in
-    let w = counted_live c.loop-at.invariant c.chunk_at-chunk.ensures c.loop-at-test.true (sym c.is_live.ensures ∙ c.if-is_live.true) in
-    omega (arith, heap.small, counted_fits c.requires w)
+    omega (
+      arith,
+      c.args.self.now.small,
+      counted_fits c.requires
+          (counted_live c.loop-at.invariant c.chunk_at-chunk.ensures c.loop-at-test.true (sym c.is_live.ensures ∙ c.if-is_live.true)),
+    )
 
 pub loop-at-preserved-then-is_live : goal.loop-at-preserved-then-is_live
 loop-at-preserved-then-is_live c =
@@ -45,7 +51,7 @@ loop-at-smaller-then-is_live c =
     let m = met c.loop-at.invariant c.chunk_at-chunk.ensures c.loop-at-test.true in omega (arith, m.enough, m.fits)
 
 pub overflow_mul-overhead : goal.overflow_mul-overhead
-overflow_mul-overhead c = let heap = c.args.self.now in omega (arith, heap.small, counted_fits c.requires c.loop-at.invariant)
+overflow_mul-overhead c = omega (arith, c.args.self.now.small, counted_fits c.requires c.loop-at.invariant)
 
 pub overflow_sub-result : goal.overflow_sub-result
 overflow_sub-result c = omega (arith, counted_fits c.requires c.loop-at.invariant)

@@ -14,12 +14,12 @@ returns-then-not-is_empty c = record {
 
 pub returns : goal.returns
 returns c =
-    let running : c.pass_idle_poll.new.self.halted ≡ false =
-    ap (λ (k : KernelFields). k.halted) c.pass_idle_poll.ensures.kept ∙ c.if-self.false in record {
+    record {
       awaits = λ is answers. makes_after (c.pass_idle_poll.ensures.steps.passed answers) (c.work_to_entry.ensures.awaits is answers);
       opens = c.work_to_entry.ensures.opens;
       goes = λ is answers. goes_after _ _ (machine_of c.work_to_entry.new.self)
-          (stepped c.work_to_entry.result c.work_to_entry.new.turn c.work_to_entry.new.other) running
+          (stepped c.work_to_entry.result c.work_to_entry.new.turn c.work_to_entry.new.other)
+          (ap (λ (k : KernelFields). k.halted) c.pass_idle_poll.ensures.kept ∙ c.if-self.false)
           (c.pass_idle_poll.ensures.steps.passed answers) (c.work_to_entry.ensures.goes is answers);
       worked =
           worked_after c.args.self.now c.pass_idle_poll.new.self c.work_to_entry.new.self c.pass_idle_poll.ensures.kept

@@ -21,7 +21,5 @@ returns-clause-fit c =
 
 pub returns-clause-served : goal.returns-clause-served
 returns-clause-served c = λ pid is bound few.
-    let told = (c.next_to.ensures.served pid is).2 in
-    let paid = job_is_paid bound c.args.self.now.scheduler.state c.next_to.new.self.state
-    (job_of c.next_to.result c.next_to.new.told) few c.next_to.ensures.job in
-    (rw (is, told) at paid).0
+    (rw (is, (c.next_to.ensures.served pid is).2) at (job_is_paid bound c.args.self.now.scheduler.state c.next_to.new.self.state
+    (job_of c.next_to.result c.next_to.new.told) few c.next_to.ensures.job)).0

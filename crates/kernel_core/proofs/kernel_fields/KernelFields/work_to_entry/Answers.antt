@@ -28,19 +28,16 @@ job-preserved-in-Serve c = record {
   so_far = λ answers. job_silently (then_job (c.job.invariant.so_far answers) (c.in-Serve.ensures.reached answers))
       (c.serve.ensures.machine answers _);
   present =
-      let paid = c.in-Serve.ensures.paid _ c.job.invariant.present in
-      omega (arith, paid.1, c.serve.ensures.kept.present, c.job.invariant.present);
+      omega (arith, (c.in-Serve.ensures.paid _ c.job.invariant.present).1, c.serve.ensures.kept.present, c.job.invariant.present);
 }
 
 pub job-preserved-in-CallBack : goal.job-preserved-in-CallBack
 job-preserved-in-CallBack c = record {
   found = search rules;
-  so_far = λ answers. (let same = ap (λ (k : KernelFields). k.timers) c.in-CallBack.ensures.taken.kept in
-      job_silently (then_job (c.job.invariant.so_far answers) (c.in-CallBack.ensures.reached answers))
-      (rw (← same) (c.expire.ensures.machine answers)));
+  so_far = λ answers. (job_silently (then_job (c.job.invariant.so_far answers) (c.in-CallBack.ensures.reached answers))
+      (rw (← (ap (λ (k : KernelFields). k.timers) c.in-CallBack.ensures.taken.kept)) (c.expire.ensures.machine answers)));
   present =
-      let paid = c.in-CallBack.ensures.paid _ c.job.invariant.present in
-      omega (arith, paid.1, c.expire.ensures.kept.present, c.job.invariant.present);
+      omega (arith, (c.in-CallBack.ensures.paid _ c.job.invariant.present).1, c.expire.ensures.kept.present, c.job.invariant.present);
 }
 
 pub returns-in-Rest : goal.returns-in-Rest
@@ -69,21 +66,23 @@ job-preserved c = record {
   so_far = λ answers. job_silently (then_job (c.job.invariant.so_far answers) (c.in-Round.ensures.reached answers))
       (c.begin_round.ensures.begins (search rules));
   present =
-      let paid = c.in-Round.ensures.paid _ c.job.invariant.present in
-      let same = ap (λ (k : KernelFields). present k.scheduler.state) c.begin_round.ensures.kept in
-      omega (arith, same, paid.1, c.job.invariant.present);
+      omega (
+        arith,
+        (c.in-Round.ensures.paid _ c.job.invariant.present).1,
+        c.job.invariant.present,
+        ap
+            (λ (k : KernelFields). present k.scheduler.state) c.begin_round.ensures.kept,
+      );
 }
 
 pub job-smaller-in-CallBack : goal.job-smaller-in-CallBack
 job-smaller-in-CallBack c =
     let bound = present c.args.self.now.scheduler.state in
-    let paid = c.in-CallBack.ensures.paid bound c.job.invariant.present in
     let same : c.expire.new.self.work ≡ c.job.self.work = search rules in
-    rw same (omega (arith, paid.0, c.expire.ensures.kept.costs bound))
+    rw same (omega (arith, (c.in-CallBack.ensures.paid bound c.job.invariant.present).0, c.expire.ensures.kept.costs bound))
 
 pub job-smaller-in-Serve : goal.job-smaller-in-Serve
 job-smaller-in-Serve c =
     let bound = present c.args.self.now.scheduler.state in
-    let paid = c.in-Serve.ensures.served _ refl bound c.job.invariant.present in
     let same : c.serve.new.self.work ≡ c.job.self.work = search rules in
-    rw (c.serve.ensures.kept.agenda, same) (omega (arith, paid))
+    rw (c.serve.ensures.kept.agenda, same) (omega (arith, c.in-Serve.ensures.served _ refl bound c.job.invariant.present))

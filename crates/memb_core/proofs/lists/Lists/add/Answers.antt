@@ -16,8 +16,11 @@ put_in_front-requires-clause-not_linked c =
 
 pub returns-in-Some-clause-list : goal.returns-in-Some-clause-list
 returns-in-Some-clause-list c =
-    let is = at_tail c.in-Some.tail c.args.b (list_of c.args.name c.take_out.new.self c.args.pool.now c.take_out.new.arena.bytes)
-    (c.take_out.ensures.others.linked.each c.args.name).distinct (sym c.in-Some.ensures) in grind arith
+    grind (
+      arith,
+      at_tail c.in-Some.tail c.args.b (list_of c.args.name c.take_out.new.self c.args.pool.now c.take_out.new.arena.bytes)
+          (c.take_out.ensures.others.linked.each c.args.name).distinct (sym c.in-Some.ensures),
+    )
 
 pub returns-in-None-clause-list : goal.returns-in-None-clause-list
 returns-in-None-clause-list c = grind (arith, no_tail)

@@ -7,4 +7,4 @@ put_behind-requires-clause-not_linked c =
 
 pub put_behind-requires-clause-listed : goal.put_behind-requires-clause-listed
 put_behind-requires-clause-listed c =
-    let left = has_left c.args.b c.args.prev (list_of c.args.name c.args.self.now c.args.pool.now c.args.arena.now.bytes) in grind arith
+    grind (arith, has_left c.args.b c.args.prev (list_of c.args.name c.args.self.now c.args.pool.now c.args.arena.now.bytes))

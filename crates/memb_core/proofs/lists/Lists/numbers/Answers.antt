@@ -9,22 +9,29 @@ at : (c : In-Some)
 at c = grind arith
 
 pub push-requires : goal.push-requires
-push-requires c = let here = at (goal.at.push-requires c).In-Some in grind (arith, slice_get_within, length-all_along)
+push-requires c = grind (arith, slice_get_within, length-all_along)
 
 pub link-link-requires : goal.link-link-requires
 link-link-requires c =
-    let had = has_at (length c.loop-link.numbers.items) c.in-Some.b
-    (list_of c.args.name c.args.self.now c.args.pool.now c.args.arena.now.bytes) (at (goal.at.link-link-requires c).In-Some) in
-    grind (arith, listed_below, link_small)
+    grind (
+      arith,
+      listed_below,
+      link_small,
+      has_at (length c.loop-link.numbers.items) c.in-Some.b
+          (list_of c.args.name c.args.self.now c.args.pool.now c.args.arena.now.bytes) (at (goal.at.link-link-requires c).In-Some),
+    )
 
 pub loop-link-smaller : goal.loop-link-smaller
-loop-link-smaller c = let here = at (goal.at.loop-link-smaller c).In-Some in grind (arith, slice_get_within, length-all_along)
+loop-link-smaller c = grind (arith, slice_get_within, length-all_along)
 
 pub loop-link-preserved : goal.loop-link-preserved
 loop-link-preserved c =
     let lists = c.args.self.now in let pool = c.args.pool.now in let bytes = c.args.arena.now.bytes in
-    let more = walk_more (link_of pool bytes) (start_of c.args.name lists) c.in-Some.b c.loop-link.numbers.items
-    (list_of c.args.name lists pool bytes) (c.requires.each c.args.name).ends in grind arith
+    grind (
+      arith,
+      walk_more (link_of pool bytes) (start_of c.args.name lists) c.in-Some.b c.loop-link.numbers.items
+          (list_of c.args.name lists pool bytes) (c.requires.each c.args.name).ends,
+    )
 
 pub returns : goal.returns
 returns c = walk_ended c.loop-link.numbers.items (list_of c.args.name c.args.self.now c.args.pool.now c.args.arena.now.bytes)

@@ -2,8 +2,13 @@ use Rattle.memb_core.proofs.Lemmas.{rules, arith, refl, sym, listed_below, link_
 use Rattle.memb_core.proofs.lists.Lists.pop.Goals as goal
 
 pub link-next-requires : goal.link-next-requires
-link-next-requires c = let had = start_listed c.args.name c.in_ok-head.head c.requires (sym c.in_ok-head.ensures.start) in
-    grind (arith, listed_below, link_small)
+link-next-requires c = grind (
+  arith,
+  listed_below,
+  link_small,
+  start_listed c.args.name c.in_ok-head.head c.requires
+      (sym c.in_ok-head.ensures.start),
+)
 
 pub returns : goal.returns
 returns c =

@@ -1,4 +1,4 @@
-use Rattle.memb_core.proofs.Lemmas.{rules, ◌≡◌, ◌+◌, true, false, not, sym, ap, ◌∙◌, arith, position-Some, length, length-set, length-replicate, zeros, Contents, contents, written, with_used, PoolTable, pool_of, place_of, link_of, KeepsLists, first_unused_is, still_used, pool_allocated, write_inside, links_kept, still_within, kept, keeps_lists}
+use Rattle.memb_core.proofs.Lemmas.{rules, ◌≡◌, ◌+◌, true, false, not, sym, ap, ◌∙◌, arith, position-Some, length, length-set, length-replicate, zeros, Contents, contents, written, with_used, PoolTable, pool_of, place_of, link_of, KeepsLists, first_unused_is, still_used, pool_allocated, write_inside, links_kept, still_within, kept}
 use Rattle.memb_core.proofs.pool.Pool.alloc.Goals as goal
 
 pub usable_span-requires : goal.usable_span-requires
@@ -18,9 +18,8 @@ returns c =
     let place = place_of pool b + 4 + 0 in let count : length (zeros pool.usable) ≡ pool.usable = length-replicate pool.usable 0 in
     let arena : c.fill.new.self ≡ contents (written bytes (pool.span.at + place) (zeros pool.usable)) c.args.arena.now.carved =
     grind arith in
-    let inside = write_inside pool fills bytes c.requires b 0 (zeros pool.usable) found.0 (omega arith) in
     let lists : KeepsLists pool c.put_used.new.self bytes c.fill.new.self.bytes =
-    grind (arith, keeps_lists, still_within, length-set, links_kept, still_used) in
+    grind (arith, still_within, length-set, links_kept, still_used) in
     record {
       number = grind (arith, first_unused_is);
       unchanged = search rules;
@@ -29,6 +28,11 @@ returns c =
           ∙ pool_allocated pool fills bytes c.requires b found.0;
       lists = lists;
       in_no_list = grind arith;
-      rest = let k = kept pool fills bytes c.requires place (zeros pool.usable) inside c.put_used.new.self c.args.arena.now.carved
-          (ap (λ (p : PoolTable). p.span) c.put_used.ensures) in grind arith;
+      rest = grind (
+        arith,
+        kept pool fills bytes c.requires place (zeros pool.usable)
+            (write_inside pool fills bytes c.requires b 0 (zeros pool.usable) found.0
+            (omega arith)) c.put_used.new.self c.args.arena.now.carved
+            (ap (λ (p : PoolTable). p.span) c.put_used.ensures),
+      );
     }

@@ -1,4 +1,4 @@
-use Rattle.memb_core.proofs.Lemmas.{rules, arith, length-set, get_or-set_other, pool_of, link_of, live_below, pool_freed, still_linked, differ}
+use Rattle.memb_core.proofs.Lemmas.{rules, arith, length-set, get_or-set_other, pool_of, link_of, live_below, pool_freed, differ}
 use Rattle.memb_core.proofs.pool.Pool.free.Goals as goal
 
 pub put_used-requires : goal.put_used-requires
@@ -11,7 +11,7 @@ returns c =
     (live_below c.args.self.now c.args.arena.now.bytes c.args.b c.requires.live) in
     record {
       block = cc;
-      linked = grind (arith, still_linked, length-set, get_or-set_other, differ);
+      linked = grind (arith, length-set, get_or-set_other, differ);
       lists = grind arith;
       rest = search rules;
     }

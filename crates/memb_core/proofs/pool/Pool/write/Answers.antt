@@ -13,20 +13,20 @@ fit c = room_of c.args.self.now c.usable_span-block.ensures.fills c.args.arena.n
     (c.args.at + length c.args.bytes.now) c.requires.range
 
 pub overflow_add-block : goal.overflow_add-block
-overflow_add-block c = let room = fit (goal.at.overflow_add-block c).After-usable_span-block in grind arith
+overflow_add-block c = grind (arith, fit (goal.at.overflow_add-block c).After-usable_span-block)
 
 pub overflow_cast-bytes : goal.overflow_cast-bytes
-overflow_cast-bytes c = let room = fit (goal.at.overflow_cast-bytes c).After-usable_span-block in grind arith
+overflow_cast-bytes c = grind (arith, fit (goal.at.overflow_cast-bytes c).After-usable_span-block)
 
 pub invariant_of-bytes_mut : goal.invariant_of-bytes_mut
-invariant_of-bytes_mut c = let room = fit (goal.at.invariant_of-bytes_mut c).After-usable_span-block in grind arith
+invariant_of-bytes_mut c = grind (arith, fit (goal.at.invariant_of-bytes_mut c).After-usable_span-block)
 
 pub bytes_mut-target-requires : goal.bytes_mut-target-requires
-bytes_mut-target-requires c = let room = fit (goal.at.bytes_mut-target-requires c).After-usable_span-block in grind arith
+bytes_mut-target-requires c = grind (arith, fit (goal.at.bytes_mut-target-requires c).After-usable_span-block)
 
 pub copy_from_slice-requires : goal.copy_from_slice-requires
 copy_from_slice-requires c =
-    let room = fit (goal.at.copy_from_slice-requires c).After-usable_span-block in grind (arith, length-range)
+    grind (arith, length-range, fit (goal.at.copy_from_slice-requires c).After-usable_span-block)
 
 pub returns : goal.returns
 returns c =
@@ -35,9 +35,13 @@ returns c =
     let place = place_of pool c.args.b + 4 + c.args.at in
     let after : written bytes (c.usable_span-block.result.at + c.args.at) c.copy_from_slice.new.self
     ≡ written bytes (pool.span.at + place) ws = grind arith in
-    let inside = write_inside pool fills bytes c.requires.within c.args.b c.args.at ws (used_below pool.used c.args.b room.0) room.1 in
     record {
       block = grind (arith, pool_written, used_below);
       lists = grind (arith, used_below, keeps_lists, still_within, links_kept);
-      rest = let k = kept pool fills bytes c.requires.within place ws inside pool c.args.arena.now.carved refl in grind arith;
+      rest = grind (
+        arith,
+        kept pool fills bytes c.requires.within place ws
+            (write_inside pool fills bytes c.requires.within c.args.b c.args.at ws
+            (used_below pool.used c.args.b room.0) room.1) pool c.args.arena.now.carved refl,
+      );
     }

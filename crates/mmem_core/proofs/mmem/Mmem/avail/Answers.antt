@@ -10,20 +10,21 @@ returns-in-Some-clause-free c bytes within = let lie =
     let m = c.self.inside in grind (arith, free_under, taken_is m.quotas m.places m.taken m.used m.span.len c.self.invariant.3)
 
 pub returns-in-Some-clause-there : goal.returns-in-Some-clause-there
-returns-in-Some-clause-there c bytes within owner = let lie =
-    seen_apart c.self.view_is c.self.invariant.1 in
-    let m = c.self.inside in let owner' : c.args.pid.0 ≤ 2 + m.quotas.owners = grind arith in
+returns-in-Some-clause-there c bytes within owner = let m = c.self.inside in let owner' : c.args.pid.0 ≤ 2 + m.quotas.owners = grind arith
+    in
     let there = share_is_there m.quotas m.places m.taken m.used m.span.len c.self.invariant.3 c.in-Some.quota c.args.pid.0 c.in-Some.is
     c.requires.least c.requires.most owner' in
-    let rest = unused_is c.args.self.now lie bytes within m.used (grind arith) in
-    let entry = ap (λ i. get_or m.taken i 0) c.place_of_process.ensures.place in grind arith
+    grind (
+      arith,
+      ap (λ i. get_or m.taken i 0) c.place_of_process.ensures.place,
+      unused_is c.args.self.now
+          (seen_apart c.self.view_is c.self.invariant.1) bytes within m.used (grind arith),
+    )
 
 pub returns-in-None-clause-free : goal.returns-in-None-clause-free
-returns-in-None-clause-free c bytes within = let lie =
-    seen_apart c.self.view_is c.self.invariant.1 in
-    sym (free_of_all c.args.self.now lie bytes within c.args.pid.0 c.self.inside.used (grind arith) (grind arith)
+returns-in-None-clause-free c bytes within = sym (free_of_all c.args.self.now
+    (seen_apart c.self.view_is c.self.invariant.1) bytes within c.args.pid.0 c.self.inside.used (grind arith) (grind arith)
     ∙ (grind arith))
 
 pub returns-in-None-clause-there : goal.returns-in-None-clause-there
-returns-in-None-clause-there c bytes within owner = let lie =
-    seen_apart c.self.view_is c.self.invariant.1 in grind (arith, unused_is)
+returns-in-None-clause-there c bytes within owner = grind (arith, unused_is, seen_apart c.self.view_is c.self.invariant.1)

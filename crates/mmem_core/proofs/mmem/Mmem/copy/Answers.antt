@@ -19,5 +19,5 @@ returns-then-source-target c =
     let moved : c.copy.new.self ≡ contents (written bytes (t.span.at + to.at + 0) ws) c.args.arena.now.carved = grind arith in
     record {
       block = grind arith;
-      rest = let rest = is.rest c.args.arena.now.carved in grind arith;
+      rest = grind (arith, is.rest c.args.arena.now.carved);
     }

@@ -5,17 +5,22 @@ pub last-requires : goal.last-requires
 last-requires c = last_below (shown c.self.invariant.0)
 
 pub unwrap-place-requires : goal.unwrap-place-requires
-unwrap-place-requires c = let entry = (shown c.self.invariant.0).last 272 (inl refl) in grind (arith, live_from_room)
+unwrap-place-requires c = grind (arith, live_from_room, (shown c.self.invariant.0).last 272 (inl refl))
 
 pub overflow_add-result : goal.overflow_add-result
-overflow_add-result c = let m = c.self.inside in let lie = c.self.invariant.1 in grind (arith, lie.inside)
+overflow_add-result c = grind (arith, c.self.invariant.1.inside, c.self.inside)
 
 pub returns-in-Some : goal.returns-in-Some
-returns-in-Some c = let m = c.self.inside in let lie = c.self.invariant.1 in
-    let end = last_is (shown c.self.invariant.0) m.span.len lie in grind (arith, last_le, lie.inside)
+returns-in-Some c = let lie = c.self.invariant.1 in
+    grind (arith, last_le, lie.inside, last_is (shown c.self.invariant.0) c.self.inside.span.len lie)
 
 pub returns-in-None-clause-end : goal.returns-in-None-clause-end
 returns-in-None-clause-end c = let m = c.self.inside in let lie = c.self.invariant.1 in
-    let end = last_is (shown c.self.invariant.0) m.span.len lie in let none = (shown c.self.invariant.0).names in let link =
-    c.in-None.ensures.number in
-    let ends = ends (shown c.self.invariant.0) in grind arith
+    grind (
+      arith,
+      ends (shown c.self.invariant.0),
+      c.in-None.ensures.number,
+      (shown c.self.invariant.0).names,
+      last_is
+          (shown c.self.invariant.0) m.span.len lie,
+    )

@@ -4,11 +4,10 @@ use Rattle.mmem_core.proofs.mmem.Mmem.free.Goals as goal
 pub invariant_of-self : goal.invariant_of-self
 invariant_of-self c =
     let m = c.self.inside in let number = c.number_of-number.result in let place = c.unwrap-place.result in
-    let left = slice_set m.places number None in
-    let some = c.self.invariant.1.no_empty number (λ none. absurd (let live = c.unwrap-place.ensures in cc)) in
     let named : number < length m.places = omega (arith, c.number_of-number.ensures.within) in
-    let laid_out : IsLaidOut left c.remove.new.self (m.used - c.rounded.result) m.span.len = record {
-      linked = rw c.remove.ensures (hidden (linked_removed (shown c.self.invariant.0) c.self.invariant.1 number some));
+    let laid_out : IsLaidOut (slice_set m.places number None) c.remove.new.self (m.used - c.rounded.result) m.span.len = record {
+      linked = rw c.remove.ensures (hidden (linked_removed (shown c.self.invariant.0) c.self.invariant.1 number
+          (c.self.invariant.1.no_empty number (λ none. absurd (let live = c.unwrap-place.ensures in cc)))));
       total = grind (arith, sum_by-set);
       fits = omega (arith, c.self.invariant.0.fits);
     } in
@@ -24,10 +23,13 @@ invariant_of-self c =
 
 pub returns : goal.returns
 returns c =
-    let lie = seen_apart c.self.view_is c.self.invariant.1 in
     record {
-      block = let is = taken_away c.args.self.now lie c.args.arena.now.bytes c.requires.within c.args.self.now.slid
-          (number_of c.args.key.0.0 c.args.key.1) in grind arith;
+      block = grind (
+        arith,
+        taken_away c.args.self.now
+            (seen_apart c.self.view_is c.self.invariant.1) c.args.arena.now.bytes c.requires.within c.args.self.now.slid
+            (number_of c.args.key.0.0 c.args.key.1),
+      );
       rest = search rules;
       slid = grind (arith, min, slice_set, bytes_moved-freed);
       still = grind (arith, slice_set, bytes_moved-freed);

@@ -1,13 +1,11 @@
 use Rattle.mmem_core.proofs.Lemmas.{◌≡◌, ◌≤◌, ◌*◌, List, ℕ, Option, None, Some, replicate, sym, subst, arith, Place, LieApart-none, hidden, no_links, none_shared, room_of, sum_by-replicate}
 use Rattle.mmem_core.proofs.Words.{AreLinked}
 use Rattle.mmem_core.proofs.mmem.Mmem.new.Goals as goal
-use Rattle.mmem_core.proofs.mmem.Mmem.new.Goals.{in-Some, in-None}
 
 pub invariant_of-result : goal.invariant_of-result
 invariant_of-result c =
     let none : List (Option Place) = replicate 272 None in
-    let fit : (bytes : ℕ) → c.args.quota ≡ Some bytes → bytes * c.match-quota.owners ≤ c.args.span.len = grind arith in
-    let shared = none_shared (record { each = c.args.quota; owners = c.match-quota.owners }) c.args.span.len fit in (
+    let fit : (bytes : ℕ) → c.args.quota ≡ Some bytes → bytes * c.match-quota.owners ≤ c.args.span.len = grind arith in (
       record {
         linked = subst (AreLinked none) (sym c.new.ensures) (hidden no_links);
         total = sum_by-replicate room_of 272 None;
@@ -15,5 +13,5 @@ invariant_of-result c =
       },
       LieApart-none 272 c.args.span.len,
       omega arith,
-      shared,
+      none_shared (record { each = c.args.quota; owners = c.match-quota.owners }) c.args.span.len fit,
     )

@@ -32,24 +32,30 @@ invariant_of-self c =
           (block_shared m.quotas m.places m.taken m.used m.span.len c.self.invariant.3 p h c.requires.named
           (omega (arith, below, c.number_of-number.ensures.number)) fresh none' (grind arith) (λ quota each.
           let taken = taken_is m.quotas m.places m.taken m.used m.span.len c.self.invariant.3 p c.requires.named.0 c.requires.named.1 in
-          let left = free_under t lie bytes c.requires.within quota p (get_or m.taken (p - 3) 0) (grind arith) (grind arith) in
-          omega (arith, left, c.requires.share, len_le_room n, c.requires.some_bytes))),
+          omega (
+            arith,
+            c.requires.share,
+            len_le_room n,
+            c.requires.some_bytes,
+            free_under t lie bytes c.requires.within quota p
+                (get_or m.taken (p - 3) 0) (grind arith) (grind arith),
+          ))),
     )
 
 pub returns : goal.returns
 returns c =
     let lie = seen_apart c.self.view_is c.self.invariant.1 in
-    let m = c.self.inside in let t = c.args.self.now in let bytes = c.args.arena.now.bytes in let number = c.number_of-number.result in
+    let m = c.self.inside in let t = c.args.self.now in let number = c.number_of-number.result in
     let n = c.args.n in
     let count : length (zeros n) ≡ n = length-replicate n 0 in let long = len_le_room n in
     let below : number < length m.places = omega (arith, c.number_of-number.ensures.within) in
-    let is = added t lie bytes c.requires.within t.slid number n (omega arith) in
+    let is = added t lie c.args.arena.now.bytes c.requires.within t.slid number n (omega arith) in
     record {
       block = grind arith;
       place = grind arith;
       last = grind (arith, get_or-set_same, last_end-added);
       end = grind (arith, slice_set, last_end-added);
-      rest = let rest = is.rest c.args.arena.now.carved in grind arith;
+      rest = grind (arith, is.rest c.args.arena.now.carved);
       slid = search rules;
     }
 

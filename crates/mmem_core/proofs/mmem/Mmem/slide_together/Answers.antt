@@ -13,30 +13,35 @@ unwrap-place-requires c = is_live c.in-Some.is c.loop-next.invariant
 pub slide_down-moved-requires : goal.slide_down-moved-requires
 slide_down-moved-requires c = record {
   within = search rules;
-  inside = let i = inside c.in-Some.is c.loop-next.invariant c.unwrap-place.ensures in grind arith;
+  inside = grind (arith, inside c.in-Some.is c.loop-next.invariant c.unwrap-place.ensures);
   down = down c.in-Some.is c.loop-next.invariant c.unwrap-place.ensures;
 }
 
 pub overflow_add-end : goal.overflow_add-end
 overflow_add-end c =
-    let i = inside c.in-Some.is c.loop-next.invariant c.unwrap-place.ensures in
-    let d = down c.in-Some.is c.loop-next.invariant c.unwrap-place.ensures in grind arith
+    grind (
+      arith,
+      down c.in-Some.is c.loop-next.invariant c.unwrap-place.ensures,
+      inside c.in-Some.is c.loop-next.invariant c.unwrap-place.ensures,
+    )
 
 pub next-next-requires-clause-link : goal.next-next-requires-clause-link
 next-next-requires-clause-link c = link_below c.in-Some.is c.loop-next.invariant
 
 pub loop-next-smaller : goal.loop-next-smaller
 loop-next-smaller c =
-    let i = inside c.in-Some.is c.loop-next.invariant c.unwrap-place.ensures in
-    let d = down c.in-Some.is c.loop-next.invariant c.unwrap-place.ensures in
-    let s = some_room c.in-Some.is c.loop-next.invariant c.unwrap-place.ensures in grind arith
+    grind (
+      arith,
+      some_room c.in-Some.is c.loop-next.invariant c.unwrap-place.ensures,
+      down c.in-Some.is c.loop-next.invariant c.unwrap-place.ensures,
+      inside c.in-Some.is c.loop-next.invariant c.unwrap-place.ensures,
+    )
 
 pub loop-next-preserved : goal.loop-next-preserved
 loop-next-preserved c =
-    let slid = c.saturating_add-self-inside.result in let counted : slid ≡ _ = c.saturating_add-self-inside.ensures in
     rw (c.moved_to.ensures, c.rounded.ensures)
-    (midway_more c.in-Some.is c.loop-next.invariant c.unwrap-place.ensures slid c.slide_down-moved.new.arena c.next-next.result
-    (counted ∙ ap (λ k. min (c.loop-next.self-inside.slid + k) (2 ^ 64 - 1)) c.slide_down-moved.ensures.moved)
+    (midway_more c.in-Some.is c.loop-next.invariant c.unwrap-place.ensures c.saturating_add-self-inside.result c.slide_down-moved.new.arena c.next-next.result
+    (c.saturating_add-self-inside.ensures ∙ ap (λ k. min (c.loop-next.self-inside.slid + k) (2 ^ 64 - 1)) c.slide_down-moved.ensures.moved)
     c.slide_down-moved.ensures.bytes c.next-next.ensures.number c.next-next.ensures.within)
 
 pub invariant_of-self : goal.invariant_of-self

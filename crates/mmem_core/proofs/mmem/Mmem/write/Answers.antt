@@ -11,4 +11,4 @@ returns c =
     let long = place_length t lie bytes c.requires.within i place live in
     let room : c.args.at + length c.args.bytes.now ≤ place.len = grind arith in
     let is = rewritten t lie bytes c.requires.within i place live c.args.at c.args.bytes.now room in
-    record { block = grind arith; rest = let rest = is.rest c.args.arena.now.carved in grind arith }
+    record { block = grind arith; rest = grind (arith, is.rest c.args.arena.now.carved) }

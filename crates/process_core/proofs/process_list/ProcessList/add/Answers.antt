@@ -5,23 +5,20 @@ pub behind-self-inside-requires : goal.behind-self-inside-requires
 behind-self-inside-requires c =
     let none = off_list c.args.pid.0 c.self.view_is c.self.invariant.kept
     c.requires.absent in
-    let room = room_for c.args.pid.0 c.requires.known none c.self.invariant.kept in
-    rw c.as_slice.ensures.value room
+    rw c.as_slice.ensures.value (room_for c.args.pid.0 c.requires.known none c.self.invariant.kept)
 
 pub invariant_of-self : goal.invariant_of-self
 invariant_of-self c =
-    let list = c.self.inside in
     let none = off_list c.args.pid.0 c.self.view_is c.self.invariant.kept
     c.requires.absent in
     rw (c.behind-self-inside.ensures, c.as_slice.ensures.value) record {
       kept = kept_added c.args.pid.0 c.requires.known none c.self.invariant.kept;
-      ends = ends_added c.args.pid.0 list.on_list.items none c.self.invariant.ends;
+      ends = ends_added c.args.pid.0 c.self.inside.on_list.items none c.self.invariant.ends;
     }
 
 pub returns : goal.returns
 returns c =
-    let none = off_list c.args.pid.0 c.self.view_is c.self.invariant.kept
-    c.requires.absent in
     rw (c.behind-self-inside.ensures, c.as_slice.ensures.value)
-    (added_listed c.args.pid.0 c.requires.known none c.self.invariant.kept)
+    (added_listed c.args.pid.0 c.requires.known (off_list c.args.pid.0 c.self.view_is c.self.invariant.kept
+    c.requires.absent) c.self.invariant.kept)
     ∙ ap (λ (l : List Process). record { number = c.args.pid.0; state = State.Running; marked = false } ∷ l) c.self.view_is

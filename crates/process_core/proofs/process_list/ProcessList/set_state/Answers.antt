@@ -13,15 +13,17 @@ invariant_of-self c =
 pub returns-in-Absent : goal.returns-in-Absent
 returns-in-Absent c =
     let list = c.self.inside in
-    let none =
-    off_list c.args.pid.0 c.self.view_is c.self.invariant.kept
-    (sym c.in-Absent.ensures.value) in
-    rw (← c.self.view_is) (sym (changed_none c.args.pid.0 _ list.states list.marks list.on_list.items none))
+    rw (← c.self.view_is) (sym (changed_none c.args.pid.0 _ list.states list.marks list.on_list.items
+    (off_list c.args.pid.0 c.self.view_is c.self.invariant.kept
+    (sym c.in-Absent.ensures.value))))
 
 pub returns-in_default : goal.returns-in_default
 returns-in_default c =
     let list = c.self.inside in
-    let known = c.state_of.ensures.known (λ e. c.in_default.not-Absent (c.state_of.ensures.value ∙ e)) in
     sym (state_set c.args.pid.0 list.states list.marks list.on_list.items c.args.state
-    (omega (arith, known, c.self.invariant.kept.state_places)))
+    (omega (
+      arith,
+      c.state_of.ensures.known (λ e. c.in_default.not-Absent (c.state_of.ensures.value ∙ e)),
+      c.self.invariant.kept.state_places,
+    )))
     ∙ ap (with_state c.args.pid.0 c.args.state) c.self.view_is

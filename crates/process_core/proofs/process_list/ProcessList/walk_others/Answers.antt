@@ -4,7 +4,7 @@ use Rattle.process_core.proofs.process_list.ProcessList.walk_others.Goals as goa
 pub returns : goal.returns
 returns c =
     let list = c.self.inside in let p = c.args.pid.0 in
-    let same : numbers (without p c.args.self.now) ≡ others p list.on_list.items =
+    let same =
     sym (ap (λ (l : List Process). numbers (without p l)) c.self.view_is)
     ∙ (ap numbers (without_listed p list.states list.marks list.on_list.items)
     ∙ numbers_listed list.states list.marks (others p list.on_list.items)) in

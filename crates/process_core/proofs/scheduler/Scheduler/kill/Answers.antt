@@ -1,4 +1,4 @@
-use Rattle.process_core.proofs.Lemmas.{◌≡◌, ◌∷◌, Continuation, State, true, answering, reverse, sym, ◌∙◌, ap, arith, has_ended, in_order, is_in_activation, none_in, pushed, room_on_stack, sound-answered, sound-left, state_of, turn_sound}
+use Rattle.process_core.proofs.Lemmas.{◌≡◌, ◌∷◌, Continuation, true, answering, reverse, sym, ◌∙◌, ap, arith, has_ended, in_order, is_in_activation, none_in, pushed, room_on_stack, sound-answered, sound-left, turn_sound}
 use Rattle.process_core.proofs.scheduler.Scheduler.kill.Goals as goal
 
 pub push-requires : goal.push-requires
@@ -11,7 +11,7 @@ pub invariant_of-self : goal.invariant_of-self
 invariant_of-self c =
     let d = c.self.inside.fields in
     let s = sound-answered (turn_sound d c.args.caller c.self.invariant (rw (← c.self.view_is) at c.requires)) in
-    let runs : state_of c.args.pid.0 d.processes ≡ State.Running = sym c.in-Running.ensures.value in
+    let runs = sym c.in-Running.ensures.value in
     in_order d c.self.invariant
     (rw (c.set_state.ensures, c.push-in-Running.ensures.items, pushed, c.push.ensures.items, pushed)
     (sound-left c.args.pid _ true s (sym (sym c.if-not-is_application.false ∙ (rw (← c.self.view_is) at c.is_application.ensures)))

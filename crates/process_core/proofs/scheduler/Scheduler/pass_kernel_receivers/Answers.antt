@@ -4,12 +4,12 @@ use Rattle.process_core.proofs.scheduler.Scheduler.pass_kernel_receivers.Goals a
 pub returns-then-passes_receiver : goal.returns-then-passes_receiver
 returns-then-passes_receiver c =
     let fields = c.self.inside.fields in
-    let holds : passes_receiver c.args.codes.now fields ≡ true = sym c.passes_receiver.ensures ∙ c.if-passes_receiver.true in
+    let holds = sym c.passes_receiver.ensures ∙ c.if-passes_receiver.true in
     let all = passed c.args.codes.now fields holds in
     rw (← c.self.view_is, all.0, c.pass_kernel_processes.ensures, all.1) refl
 
 pub returns-else-passes_receiver : goal.returns-else-passes_receiver
 returns-else-passes_receiver c =
     let fields = c.self.inside.fields in
-    let fails : passes_receiver c.args.codes.now fields ≡ false = sym c.passes_receiver.ensures ∙ c.if-passes_receiver.false in
+    let fails = sym c.passes_receiver.ensures ∙ c.if-passes_receiver.false in
     rw (← c.self.view_is, none_passed c.args.codes.now fields fails) refl

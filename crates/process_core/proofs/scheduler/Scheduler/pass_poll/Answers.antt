@@ -1,4 +1,4 @@
-use Rattle.process_core.proofs.Lemmas.{◌≡◌, true, false, refl, agenda_of, delivers_only, is_empty, is_only_marked, order_marked, polls_alone, scheduler_of}
+use Rattle.process_core.proofs.Lemmas.{◌≡◌, false, refl, agenda_of, delivers_only, is_empty, is_only_marked, order_marked}
 use Rattle.std.proofs.lemmas.Bool.{and_parts}
 use Rattle.process_core.proofs.scheduler.Scheduler.pass_poll.Goals as goal
 
@@ -10,7 +10,11 @@ invariant_of-self c =
 pub returns : goal.returns
 returns c =
     let fields = c.self.inside.fields in
-    let alone : polls_alone c.args.pid.0 (scheduler_of fields) ≡ true =
+    let alone =
     rw (← c.self.view_is) at c.requires.alone in
-    let over = (and_parts (is_empty (agenda_of fields)) (is_only_marked c.args.pid.0 fields.processes) alone).0 in
-    rw (← c.self.view_is, c.set_mark.ensures, delivers_only fields over) refl
+    rw (
+      ← c.self.view_is,
+      c.set_mark.ensures,
+      delivers_only fields ((and_parts (is_empty (agenda_of fields))
+          (is_only_marked c.args.pid.0 fields.processes) alone).0),
+    ) refl

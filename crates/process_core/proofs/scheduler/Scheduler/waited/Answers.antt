@@ -1,9 +1,9 @@
-use Rattle.process_core.proofs.Lemmas.{◌≡◌, false, ◌∙◌, refl, is_ending, state_of, in_order, no_front, not_ending, sound-waited, stays_here, turn_sound}
+use Rattle.process_core.proofs.Lemmas.{◌≡◌, ◌∙◌, refl, state_of, in_order, no_front, not_ending, sound-waited, stays_here, turn_sound}
 use Rattle.process_core.proofs.scheduler.Scheduler.waited.Goals as goal
 
 pub returns-in_default : goal.returns-in_default
 returns-in_default c =
-    let stays : is_ending (state_of c.args.caller.0 c.self.inside.fields.processes) ≡ false =
+    let stays =
     not_ending (state_of c.args.caller.0 c.self.inside.fields.processes) (λ e. c.in_default.not-Ending (c.state_of.ensures.value ∙ e)) in
     rw (
       ← c.self.view_is,

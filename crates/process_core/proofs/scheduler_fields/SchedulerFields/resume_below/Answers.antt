@@ -12,9 +12,13 @@ returns-in-Some-clause-finds c =
 pub returns-in-Some-clause-falls : goal.returns-in-Some-clause-falls
 returns-in-Some-clause-falls c =
     let left = from_marked c.args.self.now.processes c.args.self.now.polls in
-    let shorter = ap length (first_and_rest left c.in-Some.pid.0 (sym c.in-Some.ensures.next)) in
     rw (c.poll_one.ensures.kept, c.in-Some.ensures.behind)
-    (if_none c.poll_one.result (omega (arith, length-from_marked c.args.self.now.processes c.args.self.now.polls, shorter)))
+    (if_none c.poll_one.result (omega (
+      arith,
+      length-from_marked c.args.self.now.processes c.args.self.now.polls,
+      ap length
+          (first_and_rest left c.in-Some.pid.0 (sym c.in-Some.ensures.next)),
+    )))
 
 pub returns-in-Nothing-clause-finds : goal.returns-in-Nothing-clause-finds
 returns-in-Nothing-clause-finds c =

@@ -1,8 +1,8 @@
-use Rattle.timer_core.proofs.Lemmas.{◌∙◌, sym, arith, listed_shorter, listed_from_none, next_at, passes_at, behind_walked, walked_more, none_of_more, at_below, other_at, timer_at_place, list_any-append}
+use Rattle.timer_core.proofs.Lemmas.{◌∙◌, sym, arith, listed_shorter, listed_from_none, next_at, passes_at, behind_walked, walked_more, none_of_more, at_below, other_at, list_any-append}
 use Rattle.timer_core.proofs.table.TimerTable.before.Goals as goal
 
 pub returns-then-other-place : goal.returns-then-other-place
-returns-then-other-place c = grind (arith, timer_at_place, behind_walked)
+returns-then-other-place c = grind (arith, behind_walked)
 
 pub bounds-self-inside-other : goal.bounds-self-inside-other
 bounds-self-inside-other c =
@@ -10,14 +10,13 @@ bounds-self-inside-other c =
 
 pub loop-link-smaller : goal.loop-link-smaller
 loop-link-smaller c =
-    let step = passes_at c.in-Some.is c.loop-link.invariant.walked.list in
-    grind (arith, next_at, listed_shorter)
+    grind (arith, next_at, listed_shorter, passes_at c.in-Some.is c.loop-link.invariant.walked.list)
 
 pub loop-link-preserved : goal.loop-link-preserved
 loop-link-preserved c =
     let h = c.loop-link.invariant in
-    let step = passes_at c.in-Some.is h.walked.list in
-    let differs = other_at c.args.timer c.in-Some.other step.named (λ e. c.if-other-place.false (e ∙ sym c.place-place.ensures.value)) in
+    let differs = other_at c.args.timer c.in-Some.other (passes_at c.in-Some.is h.walked.list).named
+    (λ e. c.if-other-place.false (e ∙ sym c.place-place.ensures.value)) in
     record {
       earlier = _;
       walked = walked_more c.in-Some.is h.walked;

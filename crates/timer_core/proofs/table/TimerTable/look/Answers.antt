@@ -1,27 +1,15 @@
-use Rattle.timer_core.proofs.Lemmas.{◌≡◌, refl, true, false, subst, arith, le-leb, lt-leb, Timers, is_due, timer_at, timers_of, link_behind, named_last, passes_at, walked_behind, walked_more, none_of_more, due_here, none_here, nothing_passed, listed_shorter, at_below, deadline_at, next_at}
-use Rattle.timer_core.specs.Code.Outlooks.{IsOutlook, IsPassedAt}
+use Rattle.timer_core.proofs.Lemmas.{◌≡◌, true, false, subst, arith, le-leb, lt-leb, Timers, is_due, timer_at, timers_of, link_behind, named_last, passes_at, walked_behind, walked_more, none_of_more, due_here, none_here, nothing_passed, listed_shorter, at_below, deadline_at, next_at}
+use Rattle.timer_core.specs.Code.Outlooks.{IsOutlook}
 use Rattle.timer_core.specs.declared.table.Outlook.{Outlook}
-use Rattle.timer_core.proofs.table.TimerTable.look.Goals.{in-Some, in-None, then-clock-passed, else-clock-passed}
+use Rattle.timer_core.proofs.table.TimerTable.look.Goals.{then-clock-passed, else-clock-passed}
 use Rattle.timer_core.proofs.table.TimerTable.look.Goals as goal
 
 pub bounds-self-inside-last : goal.bounds-self-inside-last
-bounds-self-inside-last c = grind (arith, then-clock-passed, else-clock-passed, nothing_passed, at_below, named_last)
+bounds-self-inside-last c = grind (arith, else-clock-passed, nothing_passed, at_below, named_last)
 
 pub loop-link-init : goal.loop-link-init
 loop-link-init c =
-    let h : IsPassedAt c.args.clock c.if-clock-passed.passed (timers_of c.self.inside) = rw c.self.view_is (elim c.if-clock-passed.branch [
-      | then-clock-passed w ↦ rw w.passed-is (record { passed = c.requires; now = c.requires.undue c.args.clock w.if-clock-passed.true })
-      | else-clock-passed w ↦ rw w.passed-is (record { passed = nothing_passed c.args.self.now _; now = refl })
-    ]) in
-    let link : c.match-passed.link ≡ link_behind c.self.inside.cells c.self.inside.first c.if-clock-passed.passed.last =
-    grind arith in
-    record {
-      earlier = h.passed.earlier;
-      walked = rw link (walked_behind _ _ c.if-clock-passed.passed.last h.passed.earlier h.passed.later c.self.invariant.listed
-          h.passed.listed h.passed.ends);
-      now = h.now;
-      undue = h.passed.undue;
-    }
+    grind (arith, then-clock-passed, else-clock-passed, nothing_passed, link_behind, walked_behind)
 
 pub bounds-self-inside-place : goal.bounds-self-inside-place
 bounds-self-inside-place c =
@@ -29,8 +17,7 @@ bounds-self-inside-place c =
 
 pub deadline-deadline-requires : goal.deadline-deadline-requires
 deadline-deadline-requires c =
-    let step = passes_at c.in-Some-link.is c.loop-link.invariant.walked.list in
-    grind arith
+    grind (arith, passes_at c.in-Some-link.is c.loop-link.invariant.walked.list)
 
 pub returns-then-deadline-clock : goal.returns-then-deadline-clock
 returns-then-deadline-clock c =
@@ -44,8 +31,7 @@ returns-then-deadline-clock c =
 
 pub loop-link-smaller : goal.loop-link-smaller
 loop-link-smaller c =
-    let step = passes_at c.in-Some-link.is c.loop-link.invariant.walked.list in
-    grind (arith, next_at, listed_shorter)
+    grind (arith, next_at, listed_shorter, passes_at c.in-Some-link.is c.loop-link.invariant.walked.list)
 
 pub loop-link-preserved : goal.loop-link-preserved
 loop-link-preserved c =

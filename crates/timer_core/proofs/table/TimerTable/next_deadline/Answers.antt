@@ -1,16 +1,17 @@
-use Rattle.timer_core.proofs.Lemmas.{◌≡◌, ◌∙◌, ap, sym, refl, arith, Timers, ℕ, Some, None, deadline_at, listed_from_none, listed_shorter, next_at, passes_at, at_below, timer_at, timers_of}
+use Rattle.timer_core.proofs.Lemmas.{◌≡◌, ◌∙◌, ap, sym, refl, arith, ℕ, Some, None, deadline_at, listed_from_none, listed_shorter, next_at, passes_at, at_below, timer_at, timers_of}
 use Rattle.std.proofs.Common.{Option}
-use Rattle.timer_core.specs.Code.Links.{led_to, listed_from, next_of}
+use Rattle.timer_core.specs.Code.Links.{listed_from, next_of}
 use Rattle.timer_core.specs.Code.Earliest.{earliest_with}
 use Rattle.timer_core.specs.Deadlines.{earliest_of, earlier_of}
-use Rattle.timer_core.specs.Timers.{deadline, cell_of}
+use Rattle.timer_core.specs.Timers.{deadline}
 use Rattle.timer_core.proofs.table.TimerTable.next_deadline.Goals as goal
 
 all_known : (o : Option ℕ) → earliest_with o None ≡ o
 all_known None = refl
 all_known (Some m) = refl
 
-one_more : (o : Option ℕ) (d : ℕ) (later : Option ℕ) → earliest_with (Some (earlier_of d o)) later ≡ earliest_with o (Some (earlier_of d later))
+one_more : (o : Option ℕ) (d : ℕ) (later : Option ℕ) → earliest_with (Some (earlier_of d o)) later ≡ earliest_with o
+    (Some (earlier_of d later))
 one_more None d later = refl
 one_more (Some m) d None = grind arith
 one_more (Some m) d (Some n) = grind arith
@@ -20,25 +21,23 @@ bounds-self-inside-place c = at_below c.in-Some.place (passes_at c.in-Some.is c.
 
 pub deadline-requires : goal.deadline-requires
 deadline-requires c =
-    let step = passes_at c.in-Some.is c.loop-link.invariant.list in
-    grind arith
+    grind (arith, passes_at c.in-Some.is c.loop-link.invariant.list)
 
 pub loop-link-smaller : goal.loop-link-smaller
 loop-link-smaller c =
-    let step = passes_at c.in-Some.is c.loop-link.invariant.list in
-    grind (arith, next_at, listed_shorter)
+    grind (arith, next_at, listed_shorter, passes_at c.in-Some.is c.loop-link.invariant.list)
 
 pub loop-link-preserved : goal.loop-link-preserved
 loop-link-preserved c =
     let h = c.loop-link.invariant in
     let cells = c.self.inside.cells in
-    let timers : Timers = timers_of c.self.inside in
+    let timers = timers_of c.self.inside in
     let step = passes_at c.in-Some.is h.list in
     let next = next_at cells c.in-Some.place step.named in
-    let d : deadline (cell_of (timer_at c.in-Some.place) timers) ≡ c.deadline.result = deadline_at c.self.inside c.in-Some.place step.named ∙ sym c.deadline.ensures in
-    let rest : Option ℕ = earliest_of timers (listed_from cells (next_of cells (timer_at c.in-Some.place))) in
-    let known : earliest_of timers (listed_from cells (led_to c.loop-link.link)) ≡ Some (earlier_of c.deadline.result rest) =
-    ap (earliest_of timers) step.listed ∙ ap (λ (m : ℕ). Some (earlier_of m rest)) d in
+    let rest = earliest_of timers (listed_from cells (next_of cells (timer_at c.in-Some.place))) in
+    let known =
+    ap (earliest_of timers) step.listed ∙ ap (λ (m : ℕ). Some (earlier_of m rest))
+    (deadline_at c.self.inside c.in-Some.place step.named ∙ sym c.deadline.ensures) in
     record {
       list = rw next at step.later;
       known =

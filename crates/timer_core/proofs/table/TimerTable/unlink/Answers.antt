@@ -3,9 +3,9 @@ use Rattle.timer_core.proofs.table.TimerTable.unlink.Goals as goal
 
 pub bounds-self-inside-before : goal.bounds-self-inside-before
 bounds-self-inside-before c =
-    let behind = subst (λ (v : Timers). StandsBehind (Some c.in-Some.before) (timer_at c.args.place) v.armed)
-    (sym c.self.view_is) (rw c.in-Some.is at c.requires.behind) in
-    at_below c.in-Some.before (named_behind c.self.inside c.args.place c.in-Some.before c.self.invariant behind)
+    at_below c.in-Some.before (named_behind c.self.inside c.args.place c.in-Some.before c.self.invariant
+    (subst (λ (v : Timers). StandsBehind (Some c.in-Some.before) (timer_at c.args.place) v.armed)
+    (sym c.self.view_is) (rw c.in-Some.is at c.requires.behind)))
 
 pub invariant_of-self : goal.invariant_of-self
 invariant_of-self c =
