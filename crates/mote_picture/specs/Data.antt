@@ -2,7 +2,7 @@
 use Rattle.std.specs.Prelude.{◌≡◌, ℕ, Bool, true, not, List, [], ◌∷◌, ◌++◌, flat_map, codes, if◌then◌else◌, ◌==◌, nat_lt}
 use Rattle.std.specs.List.{list_all}
 
--- no `<` (byte 60), with which each tag and comment begins, stands in the text
+-- no `<` (byte 60), with which each tag and comment begins, is in the text
 abbrev pub has_no_opening : List ℕ → Bool
 has_no_opening text = list_all (λ byte. not (byte == 60)) text
 
@@ -23,6 +23,6 @@ string_byte byte =
 abbrev pub string_bytes_of : List ℕ → List ℕ
 string_bytes_of text = flat_map string_byte text
 
--- the string that stands for a text
+-- the string of a text
 abbrev pub json_string : List ℕ → List ℕ
 json_string text = codes "\"" ++ string_bytes_of text ++ codes "\""

@@ -15,7 +15,7 @@ use Rattle.mote_picture.specs.declared.undrawn.Undrawn.{Undrawn}
 abbrev pub shown_sizes : MemorySizes → Sizes
 shown_sizes sizes = record { managed = sizes.mmem; quota = sizes.quota; heap = sizes.heap; header = sizes.header }
 
--- the names, which are at most 16, sizes that a mote with so many applications may have, and clocks that don't go back
+-- the names, which are at most 16, sizes that a mote with this number of applications may have, and clocks that don't go back
 pub record IsNamed (rows : List Row) (named : Named) : Type 0 where
   pub names : texts named.names.items ≡ names_of rows
   pub few : length (names_of rows) ≤ 16
@@ -23,7 +23,7 @@ pub record IsNamed (rows : List Row) (named : Named) : Type 0 where
   pub allowed : are_sizes (sizes_of rows) (length (names_of rows)) ≡ true
   pub order : named.from ≤ named.to
 
--- what so many applications and these sizes may be refused with: each reason only where it holds
+-- what a number of applications and these sizes may be refused with: each reason only where it holds
 abbrev pub MayRefuse : MemorySizes → ℕ → Failure → Type 0
 MayRefuse sizes applications Failure.TooManyApplications = 16 < applications
 MayRefuse sizes applications Failure.BadSizes = are_sizes sizes applications ≡ false
@@ -35,7 +35,7 @@ abbrev pub IsBackwards : Undrawn → Type 0
 IsBackwards (Undrawn.BadRange from to) = to < from
 IsBackwards undrawn = ⊥
 
--- what may be told then
+-- what may be reported then
 abbrev pub MayTell : List Row → Undrawn → Type 0
 MayTell rows (Undrawn.Program failure) = MayRefuse (sizes_of rows) (length (names_of rows)) failure
 MayTell rows undrawn = IsBackwards undrawn

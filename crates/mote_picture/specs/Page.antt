@@ -3,7 +3,7 @@ use Rattle.std.specs.Prelude.{◌≡◌, ℕ, ◌-◌, ◌^◌, ◌≤◌, List,
 use denote.Ref.{Bor}
 use Rattle.mote_picture.specs.Data.{IsHarmless, json_string}
 
--- the lines, a line end behind each
+-- the lines, a line end after each
 abbrev pub ended_lines : List (Bor (List ℕ)) → List ℕ
 ended_lines lines = flat_map (λ line. line.now ++ codes "\n") lines
 

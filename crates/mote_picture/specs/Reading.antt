@@ -7,7 +7,7 @@ use Rattle.transcript_lines.specs.declared.line.Line.{Line}
 use Rattle.mote_picture.specs.Statuses.{out_of_memory}
 use Rattle.mote_picture.specs.declared.undrawn.Undrawn.{Undrawn}
 
--- without the line end behind them
+-- without the line end after them
 abbrev pub without_end : List ℕ → List ℕ
 without_end bytes = if slice_index bytes (length bytes - 1) == 10 then take (length bytes - 1) bytes else bytes
 

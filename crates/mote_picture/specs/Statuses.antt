@@ -7,7 +7,7 @@ use Rattle.mote_picture.specs.declared.undrawn.Undrawn.{Undrawn}
 abbrev pub out_of_memory : Undrawn
 out_of_memory = Undrawn.Program Failure.OutOfMemory
 
--- where the transcript serves for nothing 2, where the words do 64, else as for other programs
+-- 2 if the transcript is invalid, 64 if the arguments are, otherwise as for other programs
 abbrev pub status_of : Undrawn → ℕ
 status_of (Undrawn.Program failure) = status_of_failure failure
 status_of (Undrawn.NoLine number) = 2
@@ -15,7 +15,7 @@ status_of Undrawn.Quiet = 2
 status_of (Undrawn.BadRange from to) = 64
 status_of Undrawn.QuietRange = 64
 
--- what is told, behind the program's name
+-- what is reported, after the program's name
 abbrev pub text_of : Undrawn → Option (List ℕ)
 text_of (Undrawn.Program failure) = failure_text failure
 text_of (Undrawn.BadRange from to) = Some (codes "--from " ++ decimal from ++ codes " is above --to " ++ decimal to)
@@ -23,7 +23,7 @@ text_of (Undrawn.NoLine number) = Some (codes "line " ++ decimal number ++ codes
 text_of Undrawn.Quiet = Some (codes "a quiet transcript tells no clock: --vcd needs the whole one")
 text_of Undrawn.QuietRange = Some (codes "a quiet transcript tells no clock for --from and --to")
 
--- the status with which the program ends that tells this: a text that the words ask for may find no place to be written
+-- the status of the program that reports this; a text that the arguments ask for may fail to be written
 abbrev pub IsToldWith : Undrawn → ℕ → Type 0
 IsToldWith (Undrawn.Program failure) status = IsStatusOf (Err failure) status
 IsToldWith (Undrawn.NoLine number) status = status ≡ 2

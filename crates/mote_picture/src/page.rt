@@ -20,7 +20,7 @@ use template::markup::{BODY, END, FOOT, HEAD};
 use template::script::SCRIPT;
 use template::style::STYLE;
 
-/// The lines, a line end behind each.
+/// The lines, a line end after each.
 fn ended_lines(alloc: Global, lines: &[&str]) -> Result<String, AllocError>
     ensures { IfOk result (λ text. string_bytes text ≡ spec.ended_lines lines.now) }
 {
@@ -83,7 +83,7 @@ fn joined(alloc: Global, first: &str, second: &str, third: &str) -> Result<Strin
     Ok(text)
 }
 
-/// The page of a run, from the lines of its transcript: they stand in it as data, in which there is nothing that could end the element
+/// The page of a run, from the lines of its transcript: they are in it as data, in which there is nothing that could end the element
 /// that holds them.
 ///
 /// # Errors

@@ -23,7 +23,7 @@ fn line_of(bytes: &[u8]) -> Option<&str>
     }
 }
 
-/// The bytes without the line end behind them.
+/// The bytes without the line end after them.
 fn without_end(bytes: &[u8]) -> &[u8]
     ensures { result.now ≡ spec.without_end bytes.now }
 {
@@ -37,7 +37,7 @@ fn split_at_ends(alloc: Global, bytes: &[u8]) -> Result<Vec<&[u8]>, AllocError>
     bytes.split(|byte| *byte == b'\n').collect(alloc)
 }
 
-/// The same without a line end behind the last part; where there are no bytes there are no parts.
+/// The same without a line end after the last part; where there are no bytes there are no parts.
 fn parts_of(alloc: Global, bytes: &[u8]) -> Result<Vec<&[u8]>, AllocError>
     ensures { IfOk result (λ parts. bytes_of parts.items ≡ spec.parts_of bytes.now) }
 {

@@ -23,7 +23,7 @@ pub(crate) struct Layout {
 }
 
 impl Layout {
-    /// A chart of so many motes, at least one, and rows.
+    /// A chart of a number of motes, at least one, and rows.
     pub(crate) fn new(motes: usize, rows: usize) -> Self {
         let lanes = motes.min(MOST_LANES);
         let lane = match lanes {

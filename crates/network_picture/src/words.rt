@@ -16,7 +16,7 @@ pub(crate) struct Words {
     pub(crate) has_cross: bool,
 }
 
-/// What a process is told, and its call.
+/// What a process receives, and its call.
 fn push_turn(alloc: Global, out: &mut String, turn: &Turn<'_>) -> Result<(), AllocError> {
     if turn.origin != Origin::Answer {
         push_told(alloc, out, turn)?;

@@ -12,17 +12,17 @@ use Rattle.picture_svg.specs.Places.{capped, end_of, row_middle}
 abbrev pub at_place : ℕ → ℕ → Place
 at_place left top = record { left = left; top = top }
 
--- a rectangle of a class, which tells that
+-- a rectangle of a class, which shows that
 abbrev pub area_text : List ℕ → Area → List ℕ → List ℕ
 area_text class area title = text_of (titled title (area_element class area))
 
 -- ---- where a box stands
 
--- the place behind a block's last byte
+-- the position after a block's last byte
 abbrev pub block_end : Stay → ℕ
 block_end stay = capped (stay.at + stay.taken)
 
--- a column shows its bytes along its width, and what lies beyond them at its end
+-- a column shows its bytes along its width, and what is beyond them at its end
 abbrev pub reach : Column → ℕ → ℕ
 reach column bytes = capped (column.left + capped (column.width * min bytes column.bytes) / max column.bytes 1)
 
@@ -34,7 +34,7 @@ area_in page column stay = record {
   height = max (end_of page stay.last - row_middle page stay.first) 1;
 }
 
--- so many bytes of a block, from so far behind its front on
+-- a number of bytes of a block, from an offset on
 abbrev pub part_of : Stay → ℕ → ℕ → Stay
 part_of stay from bytes = record stay { at = capped (stay.at + from); taken = bytes }
 
@@ -47,7 +47,7 @@ box_name stay = if stay.pid == 3 then codes "frame" else decimal stay.pid ++ cod
 abbrev pub name_place : Area → Place
 name_place area = at_place (capped (area.place.left + 3)) (capped (area.place.top + 11))
 
--- a name stands in a box of 30 pixels and a row, at least
+-- a name is in a box of 30 pixels and a row, at least
 abbrev pub name_in : Area → Stay → List ℕ
 name_in area stay =
     if nat_lt area.width 30 || nat_lt area.height 17 then [] else text_of (words_element (codes "v") (name_place area) (box_name stay))
@@ -89,7 +89,7 @@ heap_place at end room =
 abbrev pub heap_title : Stay → ℕ → List ℕ
 heap_title stay header = heap_name stay ++ heap_place stay.at (block_end stay) (stay.taken - header)
 
--- what lies behind a block's header and its length
+-- what is after a block's header and its length
 abbrev pub beyond : Stay → ℕ → Stay
 beyond stay header = part_of stay (capped (header + stay.size)) (stay.taken - capped (header + stay.size))
 
@@ -104,7 +104,7 @@ abbrev pub beyond_text : Page → Column → Stay → List ℕ
 beyond_text page column rest =
     if rest.taken == 0 then [] else pale_part page column rest (beyond_title rest)
 
--- the header is paler, and so is what lies beyond the length
+-- the header is paler, and so is what is beyond the length
 abbrev pub pale_parts : Page → Column → Stay → ℕ → List ℕ
 pale_parts page column stay header =
     pale_part page column (part_of stay 0 header) (codes "a header") ++ beyond_text page column (beyond stay header)

@@ -1,4 +1,4 @@
--- The columns of managed memory and of the heap: how many bytes each stands for, and all that is drawn there.
+-- The columns of managed memory and of the heap: how many bytes each shows, and all that is drawn there.
 use Rattle.std.specs.Prelude.{◌≡◌, ◌⊎◌, ℕ, ◌-◌, ◌<◌, min, max, List, [], ◌∷◌, ◌++◌, flat_map, codes, decimal, length}
 use Rattle.std.specs.Int.{IsNextPowerOfTwo}
 use Rattle.picture_svg.specs.Parts.{text_of}
@@ -36,7 +36,7 @@ ground_of page left width name range =
     ++ text_of (words_element (codes "b") (at_place left (page.top - 24)) name)
     ++ text_of (words_element (codes "g") (at_place left (page.top - 12)) range)
 
--- managed memory follows the words, and the heap behind that
+-- managed memory follows the words, and the heap follows that
 abbrev pub managed_column : Page → ℕ → Column
 managed_column page bytes = record { left = managed_left page; width = page.columns.managed; bytes = bytes }
 
@@ -60,7 +60,7 @@ heap_text page stays most sizes bytes =
     ground_of page (heap_left page) page.columns.heap (codes "heap") (heap_range bytes sizes.heap most)
     ++ flat_map (heap_box page (heap_column page bytes) sizes.header) stays
 
--- nothing is added to what was drawn where there are no blocks, else the text for the column's bytes
+-- nothing is added to what was drawn where there are no blocks, otherwise the text for the column's bytes
 abbrev pub AddsColumn : List Stay → ℕ → (ℕ → List ℕ) → List ℕ → List ℕ → Type 0
 AddsColumn stays size text old new =
     ((stays ≡ []) × (new ≡ old)) ⊎ ((0 < length stays) × ((bytes : ℕ) × IsRange stays size bytes × (new ≡ old ++ text bytes)))

@@ -1,4 +1,4 @@
--- The elements that a picture has, and what they tell when they are pointed at.
+-- The elements that a picture has, and what they show when they are pointed at.
 use Rattle.std.specs.Prelude.{List, ℕ, [], decimal, length, if◌then◌else◌, ◌==◌}
 use Rattle.picture_svg.specs.declared.markup.names.Attribute.{Attribute}
 use Rattle.picture_svg.specs.declared.markup.names.Tag.{Tag}
@@ -14,7 +14,7 @@ empty tag = record { tag = tag; named = []; attributes = []; inside = [] }
 abbrev pub title_element : List ℕ → Parts
 title_element title = with_text title (empty Tag.Title)
 
--- an element that tells a title, where that isn't empty
+-- an element that shows a title, where that isn't empty
 abbrev pub titled : List ℕ → Parts → Parts
 titled title element = if length title == 0 then element else with_element (title_element title) element
 
@@ -29,7 +29,7 @@ area_element class area =
 abbrev pub text_element : Place → Parts
 text_element place = with_attribute Attribute.Top (decimal place.top) (with_attribute Attribute.Left (decimal place.left) (empty Tag.Text))
 
--- with words of a class behind what it says, where there are any
+-- with words of a class after what it says, if there are any
 abbrev pub with_span : List ℕ → List ℕ → Parts → Parts
 with_span class words element =
     if length words == 0 then element else with_element (with_text words (with_attribute Attribute.Class class (empty Tag.Span))) element

@@ -5,7 +5,7 @@ use Rattle.picture_svg.specs.declared.markup.names.Tag.{Tag}
 use Rattle.picture_svg.specs.declared.markup.names.Attribute.{Attribute}
 use Rattle.picture_svg.specs.Names.{tag_name, attribute_name}
 
--- a byte as it stands in a text: what markup is made of by its name, and one that no text may have as a question mark
+-- a byte as it is in a text: what markup is made of by its name, and one that no text may have as a question mark
 abbrev pub escaped_byte : ℕ → List ℕ
 escaped_byte byte =
     if byte == 38 then codes "&amp;"
@@ -27,7 +27,7 @@ attribute_text attribute value = codes " " ++ attribute_name attribute ++ codes 
 abbrev pub is_named : Attribute → List Attribute → Bool
 is_named attribute others = list_any (λ other. bytes_eq (attribute_name other) (attribute_name attribute)) others
 
--- the text of these attributes, one behind the other, with these values: no two have the same name
+-- the text of these attributes, one after the other, with these values: no two have the same name
 pub data HaveText : List Attribute → List ℕ → Type 0 where
   none : HaveText [] []
   one_more : {before : List Attribute} {text : List ℕ} → HaveText before text → (attribute : Attribute) (value : List ℕ)
@@ -38,12 +38,12 @@ pub data HaveText : List Attribute → List ℕ → Type 0 where
 abbrev pub AreAttributes : List ℕ → Type 0
 AreAttributes text = (attributes : List Attribute) × HaveText attributes text
 
--- an element of that tag with these attributes, and what stands inside
+-- an element of that tag with these attributes, and this content
 abbrev pub element_text : Tag → List ℕ → List ℕ → List ℕ
 element_text tag attributes inside =
     codes "<" ++ tag_name tag ++ attributes ++ codes ">" ++ inside ++ codes "</" ++ tag_name tag ++ codes ">"
 
--- elements and texts, one behind the other: each element is closed, and what stands inside is such content too
+-- elements and texts, one after the other: each element is closed, and its content is such content too
 pub data IsContent : List ℕ → Type 0 where
   nothing : IsContent []
   words : {before : List ℕ} → IsContent before → (text : List ℕ) → IsContent (before ++ escaped text)

@@ -10,7 +10,7 @@ pub record Parts : Type 0 where
   pub named : List Attribute
   -- the text of its attributes
   pub attributes : List ℕ
-  -- the text of what stands inside
+  -- the text of the content
   pub inside : List ℕ
 
 abbrev pub text_of : Parts → List ℕ
@@ -22,10 +22,10 @@ with_attribute attribute value element =
     if is_named attribute element.named then element
     else record element { named = element.named ++ attribute ∷ []; attributes = element.attributes ++ attribute_text attribute value }
 
--- with a text behind what stands inside
+-- with a text after its content
 abbrev pub with_text : List ℕ → Parts → Parts
 with_text text element = record element { inside = element.inside ++ escaped text }
 
--- with an element behind what stands inside
+-- with an element after its content
 abbrev pub with_element : Parts → Parts → Parts
 with_element inner element = record element { inside = element.inside ++ text_of inner }

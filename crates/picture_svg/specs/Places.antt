@@ -34,29 +34,29 @@ lane_width lanes = if nat_le lanes 5 then 64 else if nat_le lanes 9 then 44 else
 abbrev pub lane_middle : Page → ℕ → ℕ
 lane_middle page pid = capped (126 + (pid - 4) * page.lane + page.lane / 2)
 
--- the words begin 14 pixels behind the lanes, and have 420 pixels
+-- the words begin 14 pixels after the lanes, and have 420 pixels
 abbrev pub words_left : Page → ℕ
 words_left page = capped (140 + page.lanes * page.lane)
 
 abbrev pub words_end : Page → ℕ
 words_end page = capped (560 + page.lanes * page.lane)
 
--- memory begins 10 pixels behind the words
+-- memory begins 10 pixels after the words
 abbrev pub managed_left : Page → ℕ
 managed_left page = capped (570 + page.lanes * page.lane)
 
--- what comes behind a column that begins there: nothing has to be left free for a column that there isn't
+-- what comes after a column that begins there: nothing must be left free for a column that there isn't
 abbrev pub behind : ℕ → ℕ → ℕ
 behind left width = if width == 0 then left else capped (left + width + 24)
 
 abbrev pub heap_left : Page → ℕ
 heap_left page = behind (managed_left page) page.columns.managed
 
--- behind the heap's map come the pools' columns, of 80 pixels each
+-- after the heap's map come the pools' columns, of 80 pixels each
 abbrev pub pool_left : Page → ℕ → ℕ
 pool_left page others = capped (behind (heap_left page) page.columns.heap + 104 * others)
 
--- a page has at least 760 pixels, and 10 behind its last part
+-- a page has at least 760 pixels, and 10 after its last part
 abbrev pub width_of : Page → ℕ
 width_of page = max (capped (pool_left page page.columns.pools + 10)) 760
 

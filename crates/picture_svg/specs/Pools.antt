@@ -47,7 +47,7 @@ pool_ground page pools pool = ground_of page (column_left page pools pool) 80 (p
 abbrev pub column_text : Page → Pools → ℕ → List ℕ
 column_text page pools pool = if slice_index_or pools.are_used pool false then pool_ground page pools pool else []
 
--- a block has 5 pixels of its pool's column, and what is narrower stands in the middle of these
+-- a block has 5 pixels of its pool's column, and what is narrower is in the middle of these
 abbrev pub block_area : Page → Pools → ℕ → Stay → Area
 block_area page pools width stay = record {
   place = at_place (capped (column_left page pools (pool_of stay) + 5 * block_of stay + (5 - width) / 2)) (row_middle page stay.first);

@@ -1,4 +1,4 @@
--- What a picture tells of a transcript's lines: which are shown, the rows that they stand in, and the title of each row.
+-- What a picture shows of a transcript's lines: which are shown, the rows that they are in, and the title of each row.
 use Rattle.std.specs.Prelude.{◌≡◌, ℕ, ◌+◌, ◌-◌, ◌^◌, ◌≤◌, Bool, List, [], ◌∷◌, ◌++◌, flat_map, length, take, All, slice_range, slice_index_or, codes, decimal}
 use Rattle.std.specs.Bool.{OnTrue}
 use Rattle.picture_svg.specs.declared.markup.names.Tag.{Tag}
@@ -11,7 +11,7 @@ use Rattle.picture_facts.specs.declared.rows.Shown.{Shown}
 use Rattle.picture_facts.specs.Clocks.{LieBetween}
 use Rattle.picture_facts.specs.Rows.{Cover, IsTrueRow}
 
--- the lines, a line end behind each
+-- the lines, a line end after each
 abbrev pub ended_lines : List (List ℕ) → List ℕ
 ended_lines lines = flat_map (λ line. line ++ codes "\n") lines
 
@@ -21,7 +21,7 @@ folded_title first count line =
     codes "lines " ++ decimal (first + 1) ++ codes " to " ++ decimal (first + count) ++ codes ", " ++ decimal count
     ++ codes " in all; the first: " ++ line
 
--- what lines tell, so many from one on: all of them, where they aren't folded
+-- what lines say, a number of them from one on: all of them, where they aren't folded
 abbrev pub title_by : Show → List (List ℕ) → ℕ → ℕ → List ℕ
 title_by Show.Lines lines first count = ended_lines (slice_range lines first (first + count))
 title_by Show.Ticks lines first count = folded_title first count (slice_index_or lines first [])
@@ -36,7 +36,7 @@ pub record IsGround (lines : List (List ℕ)) (row : Row) (element : Parts) : Ty
   pub attributes : AreAttributes element.attributes
   pub title : element.inside ≡ text_of (title_element (title_of lines row))
 
--- the grounds of rows, one behind the other
+-- the grounds of rows, one after the other
 pub data AreGrounds (lines : List (List ℕ)) : List Row → List ℕ → Type 0 where
   none : AreGrounds lines [] []
   one_more : {rows : List Row} {before : List ℕ} → AreGrounds lines rows before → (row : Row) (element : Parts) → IsGround lines row element
@@ -58,7 +58,7 @@ pub record ShowsRows (lines : List (List ℕ)) (rows : List Row) (picture : List
   pub are_grounds : AreGrounds lines rows grounds
   pub is_drawn : IsDrawn behind grounds over picture
 
--- the lines that are shown between two clocks: those at which the clock lies between them, with the widest range all lines
+-- the lines that are shown between two clocks: those at which the clock is between them, with the widest range all lines
 pub record AreShown (lines : List (List ℕ)) (from to : ℕ) (shown : Shown) : Type 0 where
   pub order : shown.first ≤ shown.end
   pub there : shown.end ≤ length lines
@@ -66,8 +66,8 @@ pub record AreShown (lines : List (List ℕ)) (from to : ℕ) (shown : Shown) : 
   pub last : to ≡ 2 ^ 64 - 1 → shown.end ≡ length lines
   pub between : LieBetween lines from to shown
 
--- the picture of the lines between two clocks: each line that is shown stands in exactly one row, in order; where nothing is folded,
--- the rows' titles, one behind the other, are these lines; lines that are shown as being there again are there again
+-- the picture of the lines between two clocks: each line that is shown is in exactly one row, in order; where nothing is folded,
+-- the rows' titles, one after the other, are these lines; lines that are shown as being there again are there again
 pub record IsPicture (lines : List (List ℕ)) (from to : ℕ) (unfolded : Bool) (picture : List ℕ) : Type 0 where
   pub shown : Shown
   pub are_shown : AreShown lines from to shown

@@ -12,7 +12,7 @@ use picture_facts::words::{
 use std::alloc::{AllocError, Global};
 use transcript_lines::{Line, Origin, Turn, read_line, read_turn};
 
-/// The clock before a row and at its end, as far as the transcript tells it.
+/// The clock before a row and at its end, as far as the transcript has it.
 #[derive(Clone, Copy, Drop)]
 struct Clocks {
     are_known: bool,
@@ -91,7 +91,7 @@ pub(crate) fn draw_gifts(pen: &mut Pen, page: &Page, gifts: &[Gift]) -> Result<(
     Ok(())
 }
 
-/// Draws a curve for each event, from where it was posted to where it is told.
+/// Draws a curve for each event, from where it was posted to where it is received.
 pub(crate) fn draw_curves(pen: &mut Pen, page: &Page, curves: &[Curve]) -> Result<(), AllocError> {
     for curve in curves {
         let (from, to) = (page.lane_of(curve.from), page.lane_of(curve.to));
@@ -112,14 +112,14 @@ pub(crate) fn draw_curves(pen: &mut Pen, page: &Page, curves: &[Curve]) -> Resul
     Ok(())
 }
 
-/// What the words of a row tell beside its lines.
+/// What the words of a row say beside its lines.
 #[derive(Clone, Copy, Drop)]
 struct Beside<'a> {
     /// The process of the row above, where that is one turn's.
     above: Option<usize>,
     /// The answer to the row's call, or nothing.
     answer: &'a str,
-    /// How late the timers are that it tells: at most by so many ticks.
+    /// How late the timers in it are: the most ticks.
     late: u64,
     clocks: Clocks,
 }
@@ -191,7 +191,7 @@ fn draw_going_on(
     with_span(alloc, element, arrow.as_str(), "\u{a0}↳\u{a0}")
 }
 
-/// Adds whom a turn tells something, what, and how late.
+/// Adds which process receives something in a turn, what, and how late.
 fn draw_told(
     alloc: Global,
     element: Element,
@@ -207,12 +207,12 @@ fn draw_told(
         return with_span(alloc, element, "g", told.as_str());
     }
     let element = with_span(alloc, element, "g", told.as_str())?;
-    // Of several processes the longest delay is told.
+    // Of several processes the longest delay is shown.
     let most = if others.is_empty() { "" } else { "up to " };
     draw_late(alloc, element, most, late)
 }
 
-/// Adds the numbers of the processes that are told something.
+/// Adds the numbers of the processes that receive something.
 fn draw_who(
     alloc: Global,
     element: Element,
@@ -223,7 +223,7 @@ fn draw_who(
     with_span(alloc, element, "b", who.as_str())
 }
 
-/// Adds how late a timer is that is told.
+/// Adds how late the event of a timer is.
 fn draw_late(
     alloc: Global,
     element: Element,
@@ -235,7 +235,7 @@ fn draw_late(
     with_span(alloc, element, "g", "\u{a0}→\u{a0}")
 }
 
-/// The processes of the turns behind the first one of a row, which are told the same.
+/// The processes of the turns after the first one of a row, which receive the same.
 fn others_in(alloc: Global, lines: &[&str], pid: usize) -> Result<String, AllocError> {
     let mut others = String::new(alloc);
     for line in lines {
@@ -310,7 +310,7 @@ fn draw_clock(pen: &mut Pen, page: &Page, place: usize, clocks: Clocks) -> Resul
     pen.text("e b", at, number.as_str())
 }
 
-/// The words of a row of lines that are there again, so many at a time.
+/// The words of a row of lines that are there again, a number of them at a time.
 fn draw_again(
     pen: &mut Pen,
     page: &Page,
@@ -360,7 +360,7 @@ fn process_of(row: &Row, own: &[&str]) -> Option<usize> {
     }
 }
 
-/// What the words of the row at a place tell beside its lines.
+/// What the words of the row at a position say beside its lines.
 fn beside_of<'a>(
     lines: &[&'a str],
     marks: &Marks,

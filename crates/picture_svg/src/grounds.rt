@@ -11,7 +11,7 @@ use crate::page::{Page, ROW};
 use picture_facts::rows::{Row, Show};
 use std::alloc::{AllocError, Global};
 
-/// The lines, a line end behind each.
+/// The lines, a line end after each.
 fn raw_lines(alloc: Global, lines: &[&str]) -> Result<String, AllocError>
     ensures { IfOk result (λ text. string_bytes text ≡ ended_lines (bytes_of lines.now)) }
 {
@@ -30,7 +30,7 @@ pub(crate) fn lines_of<'a, 'b>(lines: &'b [&'a str], row: &Row) -> &'b [&'a str]
     &lines[first..end.max(first)]
 }
 
-/// What so many lines tell that are folded, of which this is the first.
+/// What folded lines say, by their number and the first one.
 fn folded_title(alloc: Global, first: usize, count: usize, line: &str) -> Result<String, AllocError>
     requires some { 0 < count }
     requires end { first + count < 2 ^ 64 }
@@ -41,7 +41,7 @@ fn folded_title(alloc: Global, first: usize, count: usize, line: &str) -> Result
     format!(in alloc; "lines {from} to {to}, {count} in all; the first: {line}")
 }
 
-/// What a row tells of its lines: all of them, or where lines are folded their numbers, how many they are, and the first.
+/// What a row says of its lines: all of them, or where lines are folded their numbers, how many they are, and the first.
 fn title_of(alloc: Global, lines: &[&str], row: &Row) -> Result<String, AllocError>
     requires some { 0 < row.now.count }
     requires there { row.now.first + row.now.count ≤ length lines.now }
@@ -63,7 +63,7 @@ fn class_of(line: Option<&str>) -> &'static str {
     }
 }
 
-/// The ground of the row at a place, counted from above.
+/// The ground of the row at a position, counted from above.
 fn ground_of(
     alloc: Global,
     page: &Page,

@@ -21,13 +21,13 @@ const TALLY: usize = 14;
 /// The room below the last line, for the clock over the overview.
 const BELOW: usize = 6;
 
-/// How many bytes a line of the title has at most: so many take less than 500 units.
+/// The most bytes of a line of the title: they take less than 500 units.
 const TITLE_BYTES: usize = 44;
 
 /// How many bytes a line of the run's numbers has at most, which are smaller.
 const TALLY_BYTES: usize = 72;
 
-/// The style with the colours of so many processes.
+/// The style with the colours of a number of processes.
 pub(crate) fn style_of(alloc: Global, lanes: usize) -> Result<String, AllocError> {
     let mut style = String::from_str(alloc, STYLE)?;
     let mut pid: usize = 4;
@@ -38,7 +38,7 @@ pub(crate) fn style_of(alloc: Global, lanes: usize) -> Result<String, AllocError
     Ok(style)
 }
 
-/// What the head tells of a run beside its numbers.
+/// What the head says of a run beside its numbers.
 #[derive(Clone, Copy, Drop)]
 pub(crate) struct Told<'a> {
     /// The clock before the first line that is shown, where not all lines are.
@@ -119,7 +119,7 @@ pub(crate) fn draw_lanes(pen: &mut Pen, page: &Page, names: &[&str]) -> Result<(
     Ok(())
 }
 
-/// A text with line ends behind some of its separators: a line has at most so many bytes before the last one, or one part alone.
+/// A text with line ends after some of its separators: before the last one a line has at most `most` bytes, or one part alone.
 fn broken(alloc: Global, text: &str, separator: &str, most: usize) -> Result<String, AllocError> {
     let mut lines = String::new(alloc);
     let mut used: usize = 0;
@@ -142,7 +142,7 @@ fn broken(alloc: Global, text: &str, separator: &str, most: usize) -> Result<Str
     Ok(lines)
 }
 
-/// Draws lines, the first one at a place, and answers where the next one would stand.
+/// Draws lines, the first one at a position, and returns where the next one would be.
 fn draw_lines(
     pen: &mut Pen,
     class: &str,
@@ -183,12 +183,12 @@ pub(crate) fn draw_difference(
     Ok(top.saturating_add(TALLY))
 }
 
-/// Where the overview may begin, where the head's next line would stand there.
+/// Where the overview may begin, where the head's next line would be there.
 pub(crate) fn below(top: usize) -> usize {
     top.saturating_add(BELOW)
 }
 
-/// The words right above the rows: a quiet transcript tells neither clocks nor answers.
+/// The words right above the rows: a quiet transcript has neither clocks nor replies.
 pub(crate) fn draw_legend(pen: &mut Pen, page: &Page, is_quiet: bool) -> Result<(), AllocError> {
     let top = page.top.saturating_sub(12);
     let left = page.words();

@@ -12,7 +12,7 @@ pub use names::{Attribute, Tag};
 use std::alloc::{AllocError, Global};
 use std::marker::Model;
 
-/// Appends a byte as it may stand in a text.
+/// Appends a byte as it may be in a text.
 fn push_escaped_byte(out: &mut Vec<u8>, byte: u8) -> Result<(), AllocError>
     ensures { IfOk result (λ _. out.new.items ≡ out.old.items ++ escaped_byte byte) }
 {
@@ -74,7 +74,7 @@ fn push_element(
     out.extend_from_slice(b">")
 }
 
-/// Elements and texts, one behind the other.
+/// Elements and texts, one after the other.
 #[derive(Drop)]
 pub struct Content {
     bytes: Vec<u8>,
@@ -128,11 +128,11 @@ impl Content {
         self.bytes.extend_from_slice(other.bytes.as_slice())
     }
 
-    /// What stands in it is content.
+    /// What is in it is content.
     pub fn is_well_formed(&self)
         ensures { IsContent self.now }
     {
-        // Nothing is done: the clause tells what holds of all content.
+        // Nothing is done: the clause says what holds of all content.
         let _bytes = &self.bytes;
     }
 }
@@ -200,7 +200,7 @@ impl Element {
         self.with(attribute, buffer.format(value))
     }
 
-    /// The element with a text behind what stands inside.
+    /// The element with a text after its content.
     pub fn saying(mut self, text: &str) -> Result<Self, AllocError>
         ensures { IfOk result (λ element. element ≡ with_text text.now self) }
     {
@@ -208,7 +208,7 @@ impl Element {
         Ok(self)
     }
 
-    /// The element with another one behind what stands inside.
+    /// The element with another one after its content.
     pub fn holding(mut self, element: &Element) -> Result<Self, AllocError>
         ensures { IfOk result (λ outer. outer ≡ with_element element.now self) }
     {
@@ -216,7 +216,7 @@ impl Element {
         Ok(self)
     }
 
-    /// The element with more content behind what stands inside.
+    /// The element with more content after its content.
     pub fn around(mut self, content: &Content) -> Result<Self, AllocError>
         ensures { IfOk result (λ outer. outer ≡ record self { inside = self.inside ++ content.now }) }
     {
@@ -224,12 +224,12 @@ impl Element {
         Ok(self)
     }
 
-    /// The text of the attributes is attributes, and what stands inside is content.
+    /// The text of the attributes is attributes, and what is inside is content.
     pub fn is_well_formed(&self)
         ensures attributes { AreAttributes self.now.attributes }
         ensures content { IsContent self.now.inside }
     {
-        // Nothing is done: the clauses tell what holds of each element.
+        // Nothing is done: the clauses say what holds of each element.
         let _attributes = &self.attributes;
         let inside = &self.inside;
         let _bytes = &inside.bytes;

@@ -21,7 +21,7 @@ pub const CLOCK: usize = 84;
 /// Where the lanes begin.
 const LANES: usize = 126;
 
-/// The room for what rows tell in words.
+/// The width for what rows say in words.
 const WORDS: usize = 420;
 
 /// The least width of a picture.
@@ -39,7 +39,7 @@ pub const POOL: usize = 80;
 /// The room between two columns.
 const BETWEEN: usize = 24;
 
-/// The widths of the columns of memory behind the words, each 0 where there is nothing to show.
+/// The widths of the columns of memory after the words, each 0 where there is nothing to show.
 #[derive(Clone, Copy, Drop)]
 pub struct Columns {
     pub managed: usize,
@@ -49,7 +49,7 @@ pub struct Columns {
 }
 
 impl Columns {
-    /// The columns for a run in which managed memory is used, or isn't, the heap, and so many pools.
+    /// The columns for a run: whether managed memory and the heap are used, and the number of pools.
     pub fn new(is_managed: bool, is_heap: bool, pools: usize) -> Self
         ensures managed { result.managed ≡ (if is_managed then 180 else 0) }
         ensures heap { result.heap ≡ (if is_heap then 340 else 0) }
@@ -63,7 +63,7 @@ impl Columns {
     }
 }
 
-/// The end of a column that begins there, with the room behind it.
+/// The end of a column that begins there, with the gap after it.
 fn behind(left: usize, width: usize) -> usize
     ensures { result ≡ spec.behind left width }
 {
@@ -90,7 +90,7 @@ pub struct Page {
 }
 
 impl Page {
-    /// The places for so many lanes and rows, where the overview begins there and has that height.
+    /// The positions for a number of lanes and rows, where the overview begins there and has that height.
     pub fn new(lanes: usize, rows: usize, strip: usize, height: usize, columns: Columns) -> Self
         ensures parts { (result.lanes ≡ lanes) × (result.rows ≡ rows) × (result.strip ≡ strip) × (result.columns ≡ columns) }
         ensures top { result.top ≡ capped (strip + height) }
@@ -185,7 +185,7 @@ impl Page {
         behind(self.managed_left(), self.columns.managed)
     }
 
-    /// Where the column of a pool begins that has so many others before it.
+    /// Where the column of a pool begins, by the number of pools before it.
     pub fn pool_left(&self, others: usize) -> usize
         ensures { result ≡ spec.pool_left self.now others }
     {
@@ -208,7 +208,7 @@ impl Page {
         self.bottom().saturating_add(30)
     }
 
-    /// The place of a row's words, so far from the left of all words.
+    /// The position of a row's words, by their distance from the left of all words.
     pub fn words_of(&self, row: usize, indent: usize) -> Place
         ensures left { result.left ≡ capped (spec.words_left self.now + indent) }
         ensures top { result.top ≡ spec.row_base self.now row }

@@ -29,7 +29,7 @@ use transcript_lines::{Ending, Line, read_line};
 pub struct Settings<'a> {
     /// What stands above the picture.
     pub title: &'a str,
-    /// The names of processes 4, 5, ..; those behind them have none.
+    /// The names of processes 4, 5, ..; those after them have none.
     pub names: &'a [&'a str],
     /// The clock at the first line that is shown, in ticks.
     pub from: u64,
@@ -75,7 +75,7 @@ fn page_of(rows: &[Row], marks: &Marks, names: usize, strip: usize) -> Page {
     )
 }
 
-/// What a picture is drawn from: what its rows tell together, the words above them, and the places of its parts.
+/// What a picture is drawn from: what its rows show together, the words above them, and the positions of its parts.
 #[derive(Drop)]
 struct Layout {
     marks: Marks,
@@ -83,7 +83,7 @@ struct Layout {
     page: Page,
 }
 
-/// What the head tells of the lines that are shown.
+/// What the head says of the lines that are shown.
 fn told_of<'a>(lines: &[&str], shown: Shown, marks: &Marks) -> Told<'a> {
     let is_all = shown.first == 0 && shown.end == lines.len();
     let has_end = is_all || (shown.first < shown.end && shown.end == lines.len());
@@ -264,7 +264,7 @@ pub struct Picture {
 }
 
 /// The picture of a run, from the lines of its transcript: a document in which each element is closed and each text is escaped, and in
-/// which each line that is shown stands in exactly one row, whose title tells of it.
+/// which each line that is shown is in exactly one row, whose title has it.
 pub fn draw(alloc: Global, lines: &[&str], settings: &Settings<'_>) -> Result<Picture, AllocError>
     ensures document { IfOk result (λ picture. IsDocument picture.text.items) }
     ensures titles { IfOk result

@@ -8,13 +8,13 @@ use std::alloc::{AllocError, Global};
 /// The height of a process's lane, with the room below it.
 const LANE: usize = 6;
 
-/// The width of the overview; each unit of it stands for as many rows.
+/// The width of the overview; each unit of it shows as many rows.
 const WIDTH: usize = 600;
 
 /// How far a clock's label is from the next one.
 const LABEL: usize = 75;
 
-/// The height of the overview of so many lanes, with the room for the names of the columns below it.
+/// The height of the overview of a number of lanes, with room for the names of the columns below it.
 pub(crate) fn height_of(lanes: usize) -> usize {
     lanes.saturating_mul(LANE).saturating_add(54)
 }

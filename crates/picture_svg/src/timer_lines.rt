@@ -19,7 +19,7 @@ fn left_of(page: &Page, arming: &Arming) -> usize {
     }
 }
 
-/// Whether it was told after it was due.
+/// Whether its event came after it was due.
 fn is_late(arming: &Arming) -> bool {
     match arming.told {
         Some(clock) => clock > arming.due,
@@ -27,7 +27,7 @@ fn is_late(arming: &Arming) -> bool {
     }
 }
 
-/// What a line tells of its timer.
+/// What a line shows of its timer.
 fn title_of(alloc: Global, arming: &Arming) -> Result<String, AllocError> {
     let kind = if is_callback(arming.timer) {
         "callback timer"
@@ -52,8 +52,8 @@ fn title_of(alloc: Global, arming: &Arming) -> Result<String, AllocError> {
     Ok(title)
 }
 
-/// The commands of a line from where a timer is armed: to its due time, where it is told late, else to where its arming ends, with
-/// a head where it is told.
+/// The commands of a line from where a timer is armed: to its due time if its event came late, otherwise to where its arming ends,
+/// with a head where its event came.
 fn commands_of(
     alloc: Global,
     page: &Page,
@@ -78,7 +78,7 @@ fn commands_of(
     format!(in alloc; "M{from},{top}h6M{left},{top}V{end}{head}")
 }
 
-/// The head of a line where a timer is told.
+/// The head of a line where a timer's event came.
 const HEAD: &str = "m-3,-5l3,5l3,-5";
 
 /// The middle of a row.
@@ -86,7 +86,7 @@ fn middle_of(page: &Page, row: usize) -> usize {
     page.top_of(row).saturating_add(ROW / 2)
 }
 
-/// The row in which a timer became due that was told late, from that of its arming on.
+/// The row in which a timer became due whose event came late, from that of its arming on.
 fn due_row(arming: &Arming, clocks: &[u64]) -> Option<usize> {
     let last = arming.last?;
     if !is_late(arming) {
@@ -101,7 +101,7 @@ fn due_row(arming: &Arming, clocks: &[u64]) -> Option<usize> {
     Some(last.saturating_sub(overdue).max(arming.first))
 }
 
-/// Draws how late a timer is told: from the row in which it became due.
+/// Draws how late a timer's event came: from the row in which it became due.
 fn draw_delay(
     pen: &mut Pen,
     page: &Page,
@@ -121,7 +121,7 @@ fn draw_delay(
     pen.line(class, commands.as_str(), title)
 }
 
-/// Draws a line for each arming; where it is told late, it is red from its due time on.
+/// Draws a line for each arming; where its event came late, it is red from its due time on.
 pub(crate) fn draw_timers(
     pen: &mut Pen,
     page: &Page,

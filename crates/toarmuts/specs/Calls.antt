@@ -10,11 +10,11 @@ use Rattle.toarmuts.specs.declared.call.PlainCall.{PlainCall}
 abbrev pub number_at : ℕ → PlainCall → ℕ
 number_at place c = slice_index_or c.numbers place 0
 
--- what names something, or tells how many bytes are read: a number that fits in a byte
+-- a name, or the number of bytes to read: a number that fits in a byte
 abbrev pub byte_at : ℕ → PlainCall → Option ℕ
 byte_at place c = if nat_lt (number_at place c) 256 then Some (number_at place c) else None
 
--- so many bytes from the front on, where these are not too many
+-- the first bytes, if these are not too many
 abbrev pub bytes_within : ℕ → PlainCall → Option (ArrayVec ℕ)
 bytes_within most c = if nat_le c.length most then Some (record { items = take c.length c.bytes }) else None
 
@@ -61,15 +61,15 @@ tripled call c =
 abbrev pub sized : (ℕ → ℕ → Call) → Reading
 sized call c = option_map (λ a. call a (number_at 1 c)) (byte_at 0 c)
 
--- a place, and how many bytes are read from there on
+-- an offset, and the number of bytes to read from there on
 abbrev pub spanned : (ℕ → ℕ → Call) → Reading
 spanned call c = option_map (call (number_at 0 c)) (byte_at 1 c)
 
--- a name, a place, and how many bytes are read
+-- a name, an offset, and the number of bytes to read
 abbrev pub reading : (ℕ → ℕ → ℕ → Call) → Reading
 reading call c = option_and_then (λ a. option_map (call a (number_at 1 c)) (byte_at 2 c)) (byte_at 0 c)
 
--- a name, a place, and what is written there
+-- a name, an offset, and what is written there
 abbrev pub writing : (ℕ → ℕ → ArrayVec ℕ → Call) → Reading
 writing call c = option_and_then (λ a. option_map (call a (number_at 1 c)) (chunk_of c)) (byte_at 0 c)
 

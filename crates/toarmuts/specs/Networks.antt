@@ -1,4 +1,4 @@
--- What the numbers of a network say, and in which numbers it is told what happened.
+-- What the numbers of a network say, and in which numbers it is reported what happened.
 use Rattle.std.specs.Prelude.{ℕ, ◌+◌, ◌-◌, min, if◌then◌else◌, ◌==◌}
 use Rattle.medium_core.specs.declared.link.Fate.{Fate}
 use Rattle.medium_core.specs.declared.link.Link.{Link}
@@ -7,11 +7,11 @@ use Rattle.network_steps.specs.declared.came.Came.{Came}
 use Rattle.toarmuts.specs.declared.plain_network.Happening.{Happening}
 use Rattle.toarmuts.specs.declared.plain_network.PlainLink.{PlainLink}
 
--- the place of the mote of this number, where the first one is 1. In the place of number 0 there is no mote
+-- the index of the mote of this number, where the first one is 1. Number 0 has the index of no mote
 abbrev pub place_of : ℕ → ℕ
 place_of number = if number == 0 then 18446744073709551615 else number - 1
 
--- the number of the mote in this place
+-- the number of the mote with this index
 abbrev pub number_of : ℕ → ℕ
 number_of m = min (m + 1) 4294967295
 

@@ -51,7 +51,7 @@ pub record NamesNone (all : List (List ℕ)) (number : ℕ) (reason : LineReason
   pub is_none : IsNoApplication line
   pub is_reason : IsLineReason line reason
 
--- there is a line behind 16 that name applications
+-- there is a line after 16 that name applications
 pub record AreTooMany (all : List (List ℕ)) : Type 0 where
   pub line : List ℕ
   pub before : List (List ℕ)
@@ -60,7 +60,7 @@ pub record AreTooMany (all : List (List ℕ)) : Type 0 where
   pub are_named : AreNamed before
   pub are_full : 16 ≤ length before
 
--- why a line is no further application behind so many
+-- why a line is no further application after `count` others
 abbrev pub IsRefusedLine : List ℕ → ℕ → Refusal → Type 0
 IsRefusedLine line count (Refusal.NoApplication number reason) = (number ≡ count) × (count < 16) × IsNoApplication line
     × IsLineReason line reason
@@ -74,7 +74,7 @@ AreRefused all Refusal.TooManyApplications = AreTooMany all
 AreRefused all Refusal.OutOfMemory = ⊤
 AreRefused all refusal = ⊥
 
--- each line names an application, and they are at most 16, but no mote boots with these sizes and so many: the first size that is
+-- each line names an application, and they are at most 16, but no mote boots with them and these sizes: the first size that is
 -- bad is the reason
 pub record HasBadSizes (configuration : Configuration) (all : List (List ℕ)) (reason : SizeReason) : Type 0 where
   pub are_named : AreNamed all
@@ -97,7 +97,7 @@ status_of (End.BadLine line) = 2
 status_of End.Halted = 3
 status_of End.TooLong = 4
 
--- the number of the line of no form, where there is one
+-- the number of the malformed line, if there is one
 abbrev pub line_of : End → ℕ
 line_of (End.BadLine line) = line
 line_of end = 0
@@ -115,7 +115,7 @@ abbrev pub refusal_line : Refusal → ℕ
 refusal_line (Refusal.NoApplication number reason) = number + 1
 refusal_line refusal = 0
 
--- the number of the reason, where it tells more than the status
+-- the number of the reason, if it says more than the status
 abbrev pub refusal_reason : Refusal → ℕ
 refusal_reason (Refusal.NoApplication number reason) = line_reason_number reason
 refusal_reason (Refusal.BadSizes reason) = size_reason_number reason
@@ -132,7 +132,7 @@ abbrev pub refusal_call : Refusal → ℕ
 refusal_call (Refusal.NoApplication number reason) = call_of_list reason
 refusal_call refusal = 0
 
--- no reason is told, and no place
+-- no reason is reported, and no position
 abbrev pub HasNoReason : Outcome → Type 0
 HasNoReason outcome = (outcome.reason ≡ 0) × (outcome.application ≡ 0) × (outcome.call ≡ 0)
 
@@ -143,7 +143,7 @@ pub record IsRunOf (configuration : Configuration) (text script out : List ℕ) 
   pub is_status : status ≡ status_of end
   pub is_line : line ≡ line_of end
 
--- that run has a text of so many bytes, for which there is no room
+-- that run has a text of this length, for which there is no room
 pub record IsTooLongFor (room : ℕ) (configuration : Configuration) (text script : List ℕ) (size : ℕ) : Type 0 where
   pub end : End
   pub out : List ℕ

@@ -14,11 +14,11 @@ use Rattle.toarmuts.specs.contracts.open_network.OpenNetwork as open_network
 abbrev handle : Global
 handle = record { memory = record { seal = tt } }
 
--- the right to free the block at a place, which was allocated for a value of a type
+-- the right to free the block at an address, which was allocated for a value of a type
 abbrev pub chunk : Ty → Ptr → Fml
 chunk = ghosts.dealloc_token handle
 
--- where it is open, a value on the heap at this place, with the right to free it; else nothing
+-- where it is open, a value on the heap at this address, with the right to free it; otherwise nothing
 abbrev pub owned_if : Bool → (R : RattleType) → Ptr → Option R.Denot → Fml
 owned_if true R at (Some value) = box_owns chunk R at value
 owned_if false R at None = ftrue

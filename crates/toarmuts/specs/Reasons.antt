@@ -1,4 +1,4 @@
--- Why there was no run: the reasons, where they apply, and the numbers by which C is told them.
+-- Why there was no run: the reasons, where they apply, and the numbers that C gets.
 use Rattle.std.specs.Prelude.{◌≡◌, ◌≢◌, ◌+◌, ◌⊎◌, ◌*◌, ℕ, List, [], ◌++◌, length, codes, flat_map, not, nat_lt, if◌then◌else◌, Option, Some, None}
 use Rattle.std.specs.List.{All}
 use Rattle.call_lists.specs.Applications.{IsListed}
@@ -20,7 +20,7 @@ quota_reason mmem applications (Some quota) =
     else if nat_lt mmem (quota * (applications + 1)) then Some SizeReason.AllQuotas
     else None
 
--- the first of the sizes with which no mote with so many applications boots
+-- the first of the sizes with which no mote with this number of applications boots
 abbrev pub size_reason : Sizes → ℕ → Option SizeReason
 size_reason sizes applications =
     if not (is_region_size 4 sizes.mmem) then Some SizeReason.Mmem
@@ -30,7 +30,7 @@ size_reason sizes applications =
 
 -- applications
 
--- the line has this text of calls behind its first word
+-- the line has this text of calls after its first word
 abbrev pub HasCalls : List ℕ → List ℕ → Type 0
 HasCalls line text = ((line ≡ codes "calls") × (text ≡ [])) ⊎ (line ≡ codes "calls " ++ text)
 
@@ -45,7 +45,7 @@ IsOnePart part = (front behind : List ℕ) → part ≢ front ++ (codes ", " ++ 
 abbrev pub IsCallPart : List ℕ → Type 0
 IsCallPart part = (part ≢ []) × IsOnePart part × ((application : Application) × IsListed part application)
 
--- each of these parts, with a comma behind it
+-- each of these parts, with a comma after it
 abbrev pub with_commas : List (List ℕ) → List ℕ
 with_commas parts = flat_map (λ part. part ++ codes ", ") parts
 
@@ -57,7 +57,7 @@ IsNoCallPart part = IsOnePart part × ((part ≡ []) ⊎ IsNoList part)
 abbrev pub IsBehindPart : List ℕ → Type 0
 IsBehindPart behind = (behind ≡ []) ⊎ ((others : List ℕ) × (behind ≡ codes ", " ++ others))
 
--- behind so many parts that are calls the list has one that is none
+-- after this number of parts that are calls the list has one that is none
 pub record HasNoCallAt (text : List ℕ) (number : ℕ) : Type 0 where
   pub before : List (List ℕ)
   pub part : List ℕ

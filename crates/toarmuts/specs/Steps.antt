@@ -29,7 +29,7 @@ use Rattle.toarmuts.specs.declared.configuration.Configuration.{Configuration}
 abbrev pub Held : Type 0
 Held = Option SessionView
 
--- by which status a refusal is told
+-- the status of a refusal
 abbrev pub refusal_status : SessionRefusal → ℕ
 refusal_status SessionRefusal.BadLine = 2
 refusal_status SessionRefusal.Halted = 3
@@ -116,7 +116,7 @@ step_number Next.Entry = 1
 step_number Next.Rest = 2
 step_number Next.Halted = 3
 
--- the turn that awaits its call is told; where none does, nothing is
+-- the turn that awaits its call is reported; if none does, nothing is
 abbrev pub TellsTurn : Option AwaitedCall → PlainTurn → PlainTurn → Type 0
 TellsTurn None there told = told ≡ there
 TellsTurn (Some turn) there told = told ≡ turn_told turn.process.0 turn.origin turn.stimulus there.bytes

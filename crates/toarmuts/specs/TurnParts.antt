@@ -1,4 +1,4 @@
--- What is put into a turn that tells nothing yet.
+-- What is put into a turn that reports nothing yet.
 use Rattle.std.specs.Prelude.{ℕ, List, ◌++◌, length, drop}
 use Rattle.mote_types.specs.declared.event.Event.{Event}
 use Rattle.mote_types.specs.declared.reply.Reply.{Reply}

@@ -1,4 +1,4 @@
--- How a turn is told in a struct of numbers and bytes.
+-- How a turn is reported in a struct of numbers and bytes.
 use Rattle.std.specs.Prelude.{ℕ, Bool, true, false, List, [], ◌++◌, length, drop}
 use Rattle.mote_types.specs.Codes.{refusal_number}
 use Rattle.mote_types.specs.declared.event.Origin.{Origin}
@@ -103,7 +103,7 @@ bytes_told (Stimulus.Event event) = payload_bytes event.payload
 bytes_told (Stimulus.Answer reply) = reply_bytes reply
 bytes_told stimulus = []
 
--- the turn of process p: its bytes stand at the front of those that were there
+-- the turn of process p: its bytes are at the front of those that were there
 abbrev pub turn_told : ℕ → Origin → Stimulus → List ℕ → PlainTurn
 turn_told p origin stimulus there =
     record {

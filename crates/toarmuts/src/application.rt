@@ -15,7 +15,7 @@ use mote_types::app::App;
 use mote_types::call::Call;
 use mote_types::event::Stimulus;
 
-/// A bundled application between two turns. With a kind and all else 0 it is as before its start.
+/// A bundled application between two turns. With a kind, and 0 in all other fields, it is as before its start.
 #[repr(C)]
 #[derive(Drop)]
 pub struct PlainApplication {

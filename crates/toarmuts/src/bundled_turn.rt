@@ -1,4 +1,4 @@
-//! The turns of bundled applications, and by which status they tell how it went.
+//! The turns of bundled applications, and the status that they return.
 
 ghost use Rattle.std.specs.Prelude.{◌≡◌, ◌≢◌};
 ghost use Rattle.toarmuts.specs.BundledTurns.{NetworkTakesTurn, TakesTurn, bundled_status_of, network_bundled_status};

@@ -26,7 +26,7 @@ pub struct PlainCall {
     pub bytes: [u8; 128],
 }
 
-/// So many bytes from the front on, where the vector has room for them.
+/// The first `len` bytes, if the vector has room for them.
 pub(crate) fn front<const N: usize>(bytes: &[u8; 128], len: u32) -> Option<ArrayVec<u8, N>>
     requires { N ≤ 128 }
     ensures { result ≡ (if nat_le len N then Some (record { items = take len bytes.now }) else None) }
@@ -49,7 +49,7 @@ impl PlainCall {
         u8::try_from(self.numbers[place]).ok()
     }
 
-    /// A length, an interval, or a place in a block.
+    /// A length, an interval, or an offset in a block.
     fn size(&self, place: usize) -> u32
         requires { place < 4 }
         ensures { result ≡ number_at place self.now }

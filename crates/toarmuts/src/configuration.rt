@@ -1,11 +1,11 @@
-//! What a mote is to be, in numbers.
+//! The configuration of a mote, in numbers.
 
 ghost use Rattle.std.specs.Prelude.{◌≡◌};
 ghost use Rattle.toarmuts.specs.Configurations.{is_quiet, sizes_of};
 
 use node_memory::Sizes;
 
-/// What a mote is to be. Each number may be any; sizes are in bytes.
+/// The configuration of a mote. Each number may be any; sizes are in bytes.
 #[repr(C)]
 #[derive(Drop)]
 pub struct Configuration {

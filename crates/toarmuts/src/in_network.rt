@@ -1,4 +1,4 @@
-//! What the calls do in an open network, and by which status they tell how it went.
+//! What the calls do in an open network, and the status that they return.
 
 ghost use Rattle.std.specs.Prelude.{◌≡◌, ◌≢◌, ◌≤◌, ◌+◌, None, Some, length as size_of, take, drop, true, false, IfNone, IfOk, IfSome, IsErrOf};
 ghost use Rattle.std.specs.List.{list_any};
@@ -26,7 +26,7 @@ use mote_types::entry::Input;
 use network_steps::steps::NetworkSteps;
 use std::alloc::Global;
 
-/// What a mote is to be. None, where it has too many applications.
+/// The configuration of a mote. None, if it has too many applications.
 fn config_of(mote: &NetworkMote) -> Option<Config>
     ensures some { IfSome result (λ config. config ≡ config_of_mote mote.now) }
     ensures none { IfNone result (is_bootable (config_of_mote mote.now) ≡ false) }
@@ -132,7 +132,7 @@ pub fn add_link(steps: &mut NetworkSteps, from: u32, link: Link) -> u32
     }
 }
 
-/// Tells the turn that awaits its call, if one does.
+/// Reports the turn that awaits its call, if one does.
 fn tell_awaited(steps: &NetworkSteps, turn: &mut PlainTurn)
     ensures { TellsTurn (awaited_turn steps.now.net) turn.old turn.new }
 {
@@ -158,7 +158,7 @@ pub fn go_next(steps: &mut NetworkSteps, happening: &mut Happening, turn: &mut P
     }
 }
 
-/// Hands in the call that a struct says.
+/// Submits the call that a struct says.
 pub fn submit_call(steps: &mut NetworkSteps, plain: &PlainCall) -> u32
     ensures status { result ≡ network_submit_status plain.now steps.old }
     ensures taken { result ≡ 0 → NetworkTakesCall plain.now steps.old steps.new }
@@ -176,7 +176,7 @@ pub fn submit_call(steps: &mut NetworkSteps, plain: &PlainCall) -> u32
     }
 }
 
-/// Lets the clock go on.
+/// Lets the clock advance.
 pub fn pass_ticks(steps: &mut NetworkSteps, ticks: u32) -> u32
     ensures status { result ≡ network_tick_status ticks steps.old }
     ensures passes { result ≡ 0 → TakesTicks ticks steps.old steps.new }
@@ -188,7 +188,7 @@ pub fn pass_ticks(steps: &mut NetworkSteps, ticks: u32) -> u32
     }
 }
 
-/// Hands in an input from outside for the mote of this number.
+/// Submits an input from outside for the mote of this number.
 pub fn feed_mote(steps: &mut NetworkSteps, number: u32, input: Input) -> u32
     ensures status { result ≡ network_feed_status number input steps.old }
     ensures waits { result ≡ 0 → TakesFeed (place_of number) input steps.old steps.new }
@@ -200,7 +200,7 @@ pub fn feed_mote(steps: &mut NetworkSteps, number: u32, input: Input) -> u32
     }
 }
 
-/// Puts the line of what happened last, without its end, to the front of the room.
+/// Puts the line of what happened last, without its end, to the front of the buffer.
 pub fn put_network_line(open_network: &mut OpenNetwork, line: &mut [u8], length: &mut usize) -> u32
     ensures steps { open_network.new.steps ≡ open_network.old.steps }
     ensures status { result ≡ network_line_status (size_of line.old) open_network.old.steps }
@@ -221,7 +221,7 @@ pub fn put_network_line(open_network: &mut OpenNetwork, line: &mut [u8], length:
     put_line(text, line, length)
 }
 
-/// Tells when the next timer of the mote of this number runs out.
+/// Reports when the next timer of the mote of this number runs out.
 pub fn put_mote_due(steps: &NetworkSteps, number: u32, clock: &mut u64) -> u32
     ensures status { result ≡ network_due_status number steps.now }
     ensures clock { result ≡ 0 → mote_due number steps.now ≡ Some clock.new }

@@ -1,4 +1,4 @@
-//! What the calls do in the session of an open mote, and by which status they tell how it went.
+//! What the calls do in the session of an open mote, and the status that they return.
 
 ghost use Rattle.std.specs.Prelude.{◌≡◌, ◌≢◌, ◌≤◌, ◌<◌, ◌+◌, length as size_of, take, drop, nat_lt, if◌then◌else◌, IfSome, IsSomeAnd};
 ghost use Rattle.mote_session.specs.Refusals.{input_refusal, line_refusal};
@@ -13,7 +13,7 @@ use crate::turn::PlainTurn;
 use mote_session::session::{Next, Session};
 use mote_types::entry::Input;
 
-/// Hands in what a line of a script says.
+/// Submits the input of a line of a script.
 pub fn feed_line(session: &mut Session, line: &[u8]) -> u32
     ensures status { result ≡ status_if (line_refusal (read_line line.now) session.old) }
     ensures fed { result ≡ 0 → TakesScriptLine line.now session.old session.new }
@@ -25,7 +25,7 @@ pub fn feed_line(session: &mut Session, line: &[u8]) -> u32
     }
 }
 
-/// Hands in an input.
+/// Submits an input.
 pub fn feed_input(session: &mut Session, input: Input) -> u32
     ensures status { result ≡ status_if (input_refusal input session.old) }
     ensures fed { result ≡ 0 → TakesInput input session.old session.new }
@@ -37,7 +37,7 @@ pub fn feed_input(session: &mut Session, input: Input) -> u32
     }
 }
 
-/// Tells when the next timer runs out.
+/// Reports when the next timer runs out.
 pub fn put_due(due: Option<u64>, clock: &mut u64) -> u32
     ensures status { result ≡ due_status_of due }
     ensures clock { IfSome due (λ moment. clock.new ≡ moment) }
@@ -52,7 +52,7 @@ pub fn put_due(due: Option<u64>, clock: &mut u64) -> u32
     }
 }
 
-/// The number that tells what `next` came to.
+/// The number of what `next` came to.
 fn step_number(next: Next) -> u32
     ensures { result ≡ step_number next }
 {
@@ -64,7 +64,7 @@ fn step_number(next: Next) -> u32
     }
 }
 
-/// Tells the turn that awaits its call, if one does.
+/// Reports the turn that awaits its call, if one does.
 fn tell_turn(session: &Session, turn: &mut PlainTurn)
     ensures { TellsTurn session.now.turn turn.old turn.new }
 {
@@ -89,7 +89,7 @@ pub fn go_on(session: &mut Session, step: &mut u32, turn: &mut PlainTurn) -> u32
     }
 }
 
-/// Hands in the call that a struct says.
+/// Submits the call that a struct says.
 pub fn take_call(session: &mut Session, plain: &PlainCall) -> u32
     ensures status { result ≡ submit_status_of plain.now session.old }
     ensures taken { result ≡ 0 → TakesCall plain.now session.old session.new }
@@ -107,7 +107,7 @@ pub fn take_call(session: &mut Session, plain: &PlainCall) -> u32
     }
 }
 
-/// Puts a line, all but its end, to the front of the room where it fits there, and tells how long it is.
+/// Puts a line, without its end, to the front of the buffer if it fits, and reports its length.
 pub fn put_line(text: &[u8], line: &mut [u8], length: &mut usize) -> u32
     requires { 0 < size_of text.now }
     ensures length { length.new + 1 ≡ size_of text.now }
@@ -126,7 +126,7 @@ pub fn put_line(text: &[u8], line: &mut [u8], length: &mut usize) -> u32
     DONE
 }
 
-/// Puts the line of the last entry, without its end, to the front of the room.
+/// Puts the line of the last entry, without its end, to the front of the buffer.
 pub fn put_last_line(open_mote: &mut OpenMote, line: &mut [u8], length: &mut usize) -> u32
     ensures session { open_mote.new.session ≡ open_mote.old.session }
     ensures status { result ≡ line_status_of (size_of line.old) open_mote.old.session.last }

@@ -1,8 +1,8 @@
 //! The mote as a library for C: one call runs applications over a script. `toarmuts.h` in `include/` declares it.
 //!
-//! Calls, inputs and turns are structs of numbers and bytes, with no pointer in them. Whatever numbers stand there, it is told what
-//! they say, or that they say nothing. A session is a mote that C passes by its address, and that it can neither read nor copy: all
-//! raw pointers that C holds are in `mote` and `unboxed`.
+//! Calls, inputs and turns are structs of numbers and bytes, with no pointer in them. The contracts say what every number means, or that
+//! it is invalid. C passes a mote by its address, and can neither read nor copy it: all raw pointers that C holds are in `mote` and
+//! `unboxed`.
 #![tactic(auto)]
 
 ghost use Rattle.std.specs.Prelude.{◌≡◌, ◌≢◌, ◌≤◌, ◌<◌, length, take, drop};

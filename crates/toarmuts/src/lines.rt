@@ -43,7 +43,7 @@ fn application_of(line: &str) -> Result<Application, LineReason>
     }
 }
 
-/// The application of a line that follows so many others.
+/// The application of a line that follows `count` others.
 ///
 /// # Errors
 ///

@@ -51,7 +51,7 @@ fn part_reason(part: &str) -> Option<CallReason>
 pub fn list_reason(text: &str) -> LineReason
     ensures { IsListReason text.now result }
 {
-    // Two of its bytes stand behind each part but the last, so the parts can be counted.
+    // Two of its bytes follow each part but the last, so the parts can be counted.
     let _bytes = text.len();
     let mut place = 0;
     let mut left = Some(text);

@@ -1,6 +1,6 @@
 //! The calls by which C asks a network of motes step by step.
 //!
-//! Each takes the network out of what C holds, works, and puts it back. What C hands in can be anything, as for one mote.
+//! Each takes the network out of what C holds, works, and puts it back. What C passes can be anything, as for one mote.
 
 ghost use Rattle.std.specs.Prelude.{◌≡◌, ◌≢◌, ◌≤◌, ◌+◌, ◌↔◌, true, None, Some, length as size_of, take, drop, is_some, IsSomeAnd};
 ghost use Rattle.std.specs.List.{list_any};
@@ -74,7 +74,7 @@ pub extern "C" fn toarmuts_network_link(
     status
 }
 
-/// Works to the next turn, line, or rest; `happening` says which, and a turn is told.
+/// Works to the next turn, line, or rest; `happening` says which, and `turn` is the turn.
 #[unsafe(no_mangle)]
 pub extern "C" fn toarmuts_network_next(
     alloc: Global,
@@ -95,7 +95,7 @@ pub extern "C" fn toarmuts_network_next(
     status
 }
 
-/// Hands in the call of the application whose turn it is.
+/// Submits the call of the application whose turn it is.
 #[unsafe(no_mangle)]
 pub extern "C" fn toarmuts_network_submit(
     alloc: Global,
@@ -133,7 +133,7 @@ pub extern "C" fn toarmuts_network_submit_bundled(
     status
 }
 
-/// Lets the clock go on by so many ticks, which `next` does.
+/// Lets the clock advance by `ticks`, which `next` does.
 #[unsafe(no_mangle)]
 pub extern "C" fn toarmuts_network_tick(alloc: Global, network: &mut HeldNetwork, ticks: u32) -> u32
     ensures status { result ≡ network_status (steps_in network.old) (network_tick_status ticks) }
@@ -148,7 +148,7 @@ pub extern "C" fn toarmuts_network_tick(alloc: Global, network: &mut HeldNetwork
     status
 }
 
-/// Hands in an input from outside, of kind 1 serial bytes or 2 a frame, for the mote of this number.
+/// Submits an input from outside, of kind 1 serial bytes or 2 a frame, for the mote of this number.
 #[unsafe(no_mangle)]
 pub extern "C" fn toarmuts_network_feed(
     alloc: Global,
@@ -169,8 +169,8 @@ pub extern "C" fn toarmuts_network_feed(
     status
 }
 
-/// Puts the line of what happened last, without its end, to the front of the room, and tells how long it is, also where it is
-/// longer than the room.
+/// Puts the line of what happened last, without its end, to the front of the buffer, and reports its length, also where it is
+/// longer than the buffer.
 #[unsafe(no_mangle)]
 pub extern "C" fn toarmuts_network_line(
     alloc: Global,
@@ -195,7 +195,7 @@ pub extern "C" fn toarmuts_network_line(
     status
 }
 
-/// Tells the ticks since boot.
+/// Reports the ticks since boot.
 #[unsafe(no_mangle)]
 pub extern "C" fn toarmuts_network_clock(
     alloc: Global,
@@ -215,7 +215,7 @@ pub extern "C" fn toarmuts_network_clock(
     DONE
 }
 
-/// Tells when the next timer of the mote of this number runs out.
+/// Reports when the next timer of the mote of this number runs out.
 #[unsafe(no_mangle)]
 pub extern "C" fn toarmuts_network_due(
     alloc: Global,
@@ -236,7 +236,7 @@ pub extern "C" fn toarmuts_network_due(
     status
 }
 
-/// Gives the network's memory back.
+/// Frees the network's memory.
 #[unsafe(no_mangle)]
 pub extern "C" fn toarmuts_network_close(alloc: Global, network: &mut HeldNetwork) -> u32
     ensures status { result ≡ network_status (steps_in network.old) (λ steps. 0) }

@@ -22,14 +22,14 @@ pub struct Outcome {
     pub line: u64,
     /// The number of bytes of the transcript, also with status 20; 0 with the other statuses from 16 on.
     pub length: usize,
-    /// Why, where that is more than the status tells; else 0. With 19 the first size that is bad: 1 `mmem`, 2 `heap`, 3 `header`,
+    /// The reason, if it says more than the status; otherwise 0. With 19 the first size that is bad: 1 `mmem`, 2 `heap`, 3 `header`,
     /// 4 `quota`, 5 all quotas together exceed `mmem`. With 17: 6 no application has this name; the first part of a list that is
     /// no call 7 has the name of none, 8 too few words, 9 too many, 10 a word that is no number in its range, 11 a word that is no
     /// hex or too long; 12 a list has more than 128 calls.
     pub reason: u32,
-    /// The application of which 17 and 18 tell, from 0 on; else 0.
+    /// The application of statuses 17 and 18, from 0 on; otherwise 0.
     pub application: u32,
-    /// The part of the list of which the reasons 7 to 11 tell, from 0 on; else 0.
+    /// The part of the list of reasons 7 to 11, from 0 on; otherwise 0.
     pub call: usize,
 }
 
@@ -66,7 +66,7 @@ fn run_outcome(end: End, length: usize) -> Outcome
     }
 }
 
-/// Writes the transcript of a run to the front of the room for it, and reports how the run ended; or that there is no room.
+/// Writes the transcript of a run to the front of the buffer, and reports how the run ended; or that there is no room.
 pub fn put_run(ran: Ran, transcript: &mut [u8], outcome: &mut Outcome)
     ensures text { outcome.new.status ≤ 4 → take outcome.new.length transcript.new ≡ ran.transcript.items }
     ensures status { outcome.new.status ≤ 4 → outcome.new.status ≡ status_of ran.end }
@@ -97,7 +97,7 @@ pub fn put_run(ran: Ran, transcript: &mut [u8], outcome: &mut Outcome)
     *outcome = run_outcome(ran.end, size);
 }
 
-/// The numbers of a refusal: its status, its reason, and the application and the call of which it tells.
+/// The numbers of a refusal: its status, its reason, and its application and call.
 fn refusal_numbers(refusal: Refusal) -> (u32, u32, u32, usize)
     ensures status { result.0 ≡ refusal_status refusal }
     ensures reason { result.1 ≡ refusal_reason refusal }
@@ -115,7 +115,7 @@ fn refusal_numbers(refusal: Refusal) -> (u32, u32, u32, usize)
     }
 }
 
-/// The line that names no application, from 1 on; else 0.
+/// The line that names no application, from 1 on; otherwise 0.
 fn line_number(refusal: Refusal) -> u64
     ensures { result ≡ refusal_line refusal }
 {

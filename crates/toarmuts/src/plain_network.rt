@@ -1,4 +1,4 @@
-//! What C passes of a network, and what it is told, in numbers.
+//! What C passes to a network, and what is reported, in numbers.
 
 ghost use Rattle.std.specs.Prelude.{◌≡◌};
 ghost use Rattle.toarmuts.specs.Networks.{happening_of, link_said, loss_said, number_of, place_of};
@@ -51,15 +51,15 @@ pub struct Happening {
     /// 0 a turn, 1 another entry, 2 the clock went on, 3 a frame was lost, 4 it found no room, 5 nobody heard it, 6 rest, 7 all rounds
     /// are used up.
     pub step: u32,
-    /// The mote's number, or the receiver's; else 0.
+    /// The mote's number, or the receiver's; otherwise 0.
     pub mote: u32,
-    /// The sender's number; else 0.
+    /// The sender's number; otherwise 0.
     pub from: u32,
     /// The network's clock.
     pub clock: u64,
 }
 
-/// The place of the mote of this number. No mote has the number 0.
+/// The index of the mote of this number. No mote has the number 0.
 pub fn place_of(number: u32) -> usize
     ensures { result ≡ place_of number }
 {
@@ -70,7 +70,7 @@ pub fn place_of(number: u32) -> usize
     }
 }
 
-/// The number of the mote in this place.
+/// The number of the mote with this index.
 fn number_of(mote: usize) -> u32
     ensures { result ≡ number_of mote }
 {

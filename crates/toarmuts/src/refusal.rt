@@ -55,7 +55,7 @@ pub enum Refusal {
 }
 
 impl CallReason {
-    /// The number that C is told.
+    /// The number that C gets.
     pub fn number(self) -> u32
         ensures { result ≡ call_reason_number self }
     {
@@ -70,7 +70,7 @@ impl CallReason {
 }
 
 impl LineReason {
-    /// The number that C is told.
+    /// The number that C gets.
     pub fn number(self) -> u32
         ensures { result ≡ line_reason_number self }
     {
@@ -81,7 +81,7 @@ impl LineReason {
         }
     }
 
-    /// The part of the list that is no call, from 0 on; else 0.
+    /// The part of the list that is no call, from 0 on; otherwise 0.
     pub fn call(self) -> usize
         ensures { result ≡ call_of_list self }
     {
@@ -93,7 +93,7 @@ impl LineReason {
 }
 
 impl SizeReason {
-    /// The number that C is told.
+    /// The number that C gets.
     pub fn number(self) -> u32
         ensures { result ≡ size_reason_number self }
     {

@@ -7,14 +7,14 @@ ghost use Rattle.toarmuts.specs.Reasons.{quota_reason, size_reason};
 use crate::refusal::SizeReason;
 use node_memory::Sizes;
 
-/// Whether a region of at least so many bytes may have this size.
+/// Whether a region of at least `least` bytes may have this size.
 fn is_region_size(least: u32, size: u32) -> bool
     ensures { result ≡ memory.is_region_size least size }
 {
     least <= size && size <= 65_536 && size % 4 == 0
 }
 
-/// Why no mote with so many applications has this quota of so much managed memory.
+/// Why no mote with this number of applications has this quota of its managed memory.
 fn quota_reason(mmem: u32, applications: u32, quota: u32) -> Option<SizeReason>
     requires { applications ≤ 16 }
     ensures { result ≡ quota_reason mmem applications (Some quota) }
@@ -28,7 +28,7 @@ fn quota_reason(mmem: u32, applications: u32, quota: u32) -> Option<SizeReason>
     None
 }
 
-/// The first of the sizes with which no mote with so many applications boots.
+/// The first of the sizes with which no mote with this number of applications boots.
 pub fn size_reason(sizes: &Sizes, applications: u32) -> Option<SizeReason>
     requires { applications ≤ 16 }
     ensures { result ≡ size_reason sizes.now applications }

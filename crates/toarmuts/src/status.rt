@@ -13,10 +13,10 @@ pub const DONE: u32 = 0;
 /// There is no such application.
 pub const NO_APPLICATION: u32 = 17;
 
-/// No mote boots with these sizes and so many applications.
+/// No mote boots with these sizes and this number of applications.
 pub const BAD_SIZES: u32 = 19;
 
-/// The line is longer than the room.
+/// The line is longer than the buffer.
 pub const NO_ROOM: u32 = 20;
 
 /// Memory was refused.
@@ -40,7 +40,7 @@ pub const NO_LINE: u32 = 30;
 /// No timer is set.
 pub const NO_TIMER: u32 = 33;
 
-/// The status that tells a refusal.
+/// The status of a refusal.
 pub fn refusal_status(refusal: SessionRefusal) -> u32
     ensures status { result ≡ refusal_status refusal }
     ensures not_done { 2 ≤ result }
@@ -59,7 +59,7 @@ pub fn refusal_status(refusal: SessionRefusal) -> u32
     }
 }
 
-/// The status that tells why a network did nothing.
+/// The status that says why a network did nothing.
 pub fn fault_status(fault: StepsFault) -> u32
     ensures status { result ≡ fault_status fault }
     ensures not_done { 2 ≤ result }

@@ -1,6 +1,6 @@
 //! The calls by which C asks a mote step by step.
 //!
-//! Each takes the session out of the mote, works, and puts it back. What C hands in can be anything: a mote that is closed, a
+//! Each takes the session out of the mote, works, and puts it back. What C passes can be anything: a mote that is closed, a
 //! call where none is awaited, numbers out of range have their statuses, and then nothing is changed.
 
 ghost use Rattle.std.specs.Prelude.{◌≡◌, ◌≢◌, ◌≤◌, ◌+◌, ◌↔◌, false, true, None, Some, length as size_of, take, drop, is_some, IsSomeAnd, IfErr, IfOk, IsErrOf};
@@ -45,7 +45,7 @@ fn held(alloc: Global, session: Session) -> Result<Box<OpenMote>, BootFault>
 ///
 /// # Errors
 ///
-/// `BadSizes` exactly where no mote boots so, else `Memory`.
+/// `BadSizes` exactly if no mote boots with this configuration, otherwise `Memory`.
 fn boot(alloc: Global, config: Config) -> Result<Box<OpenMote>, BootFault>
     ensures opened { IfOk result (λ mote. IsOpened config mote.value.session) }
     ensures bad_sizes { IsErrOf result BootFault.BadSizes ↔ (is_bootable config ≡ false) }
@@ -60,7 +60,7 @@ fn boot(alloc: Global, config: Config) -> Result<Box<OpenMote>, BootFault>
     }
 }
 
-/// Opens a mote with so many applications, processes 4, 5, .. All memory that it will use is taken here.
+/// Opens a mote with `applications` applications: processes 4, 5, .. All memory that it will use is allocated here.
 #[unsafe(no_mangle)]
 pub extern "C" fn toarmuts_open(
     alloc: Global,
@@ -100,7 +100,7 @@ pub extern "C" fn toarmuts_open(
     }
 }
 
-/// Hands in what a line of a script says, without its end.
+/// Submits the input of a line of a script, without its end.
 #[unsafe(no_mangle)]
 pub extern "C" fn toarmuts_feed(alloc: Global, mote: &mut Mote, line: &[u8]) -> u32
     ensures status { result ≡ feed_status line.now (session_in mote.old) }
@@ -115,7 +115,7 @@ pub extern "C" fn toarmuts_feed(alloc: Global, mote: &mut Mote, line: &[u8]) -> 
     status
 }
 
-/// Hands in an input of this kind: 0 so many ticks, 1 bytes on the serial line, 2 a frame of bytes.
+/// Submits an input of this kind: 0 ticks, 1 bytes on the serial line, 2 a frame of bytes.
 #[unsafe(no_mangle)]
 pub extern "C" fn toarmuts_feed_input(
     alloc: Global,
@@ -136,7 +136,7 @@ pub extern "C" fn toarmuts_feed_input(
     status
 }
 
-/// Works to the next turn, entry or rest; `step` says which, and a turn is told.
+/// Works to the next turn, entry or rest; `step` says which, and `turn` is the turn.
 #[unsafe(no_mangle)]
 pub extern "C" fn toarmuts_next(
     alloc: Global,
@@ -156,7 +156,7 @@ pub extern "C" fn toarmuts_next(
     status
 }
 
-/// Hands in the call of the application whose turn it is.
+/// Submits the call of the application whose turn it is.
 #[unsafe(no_mangle)]
 pub extern "C" fn toarmuts_submit(alloc: Global, mote: &mut Mote, call: &PlainCall) -> u32
     ensures status { result ≡ submit_status call.now (session_in mote.old) }
@@ -190,8 +190,8 @@ pub extern "C" fn toarmuts_submit_bundled(
     status
 }
 
-/// Puts the transcript's line of the last entry, without its end, to the front of the room, and tells how long it is, also where
-/// it is longer than the room.
+/// Puts the transcript's line of the last entry, without its end, to the front of the buffer, and reports its length, also where
+/// it is longer than the buffer.
 #[unsafe(no_mangle)]
 pub extern "C" fn toarmuts_line(
     alloc: Global,
@@ -217,7 +217,7 @@ pub extern "C" fn toarmuts_line(
     status
 }
 
-/// Tells the ticks since boot.
+/// Reports the ticks since boot.
 #[unsafe(no_mangle)]
 pub extern "C" fn toarmuts_clock(alloc: Global, mote: &mut Mote, clock: &mut u64) -> u32
     ensures status { result ≡ open_status (session_in mote.old) }
@@ -233,7 +233,7 @@ pub extern "C" fn toarmuts_clock(alloc: Global, mote: &mut Mote, clock: &mut u64
     DONE
 }
 
-/// Tells when the mote's next timer runs out.
+/// Reports when the mote's next timer runs out.
 #[unsafe(no_mangle)]
 pub extern "C" fn toarmuts_due(alloc: Global, mote: &mut Mote, clock: &mut u64) -> u32
     ensures status { result ≡ due_status (session_in mote.old) }
@@ -249,7 +249,7 @@ pub extern "C" fn toarmuts_due(alloc: Global, mote: &mut Mote, clock: &mut u64) 
     status
 }
 
-/// Gives the mote's memory back.
+/// Frees the mote's memory.
 #[unsafe(no_mangle)]
 pub extern "C" fn toarmuts_close(alloc: Global, mote: &mut Mote) -> u32
     ensures status { result ≡ open_status (session_in mote.old) }

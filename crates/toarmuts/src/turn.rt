@@ -1,4 +1,4 @@
-//! A turn as C is told it.
+//! A turn as C gets it.
 
 ghost use Rattle.std.specs.Prelude.{◌≡◌, ◌≤◌, length};
 ghost use Rattle.toarmuts.specs.TurnParts.{event_part, reply_part, with_bytes};
@@ -7,7 +7,7 @@ ghost use Rattle.toarmuts.specs.Turns.{no_stats, origin_number, plain_stats, rep
 use mote_types::event::{Event, Origin, Payload, Pid, Stimulus};
 use mote_types::reply::{HeapStats, Reply};
 
-/// The state of the heap, as C is told it.
+/// The state of the heap, as C gets it.
 #[repr(C)]
 #[derive(Clone, Copy, Drop)]
 pub struct PlainStats {
@@ -18,7 +18,7 @@ pub struct PlainStats {
     pub chunks: u32,
 }
 
-/// A turn that awaits its call: who is told what. What has no meaning for its stimulus is 0.
+/// A turn that awaits its call: which application received what. Fields with no meaning for its stimulus are 0.
 #[repr(C)]
 #[derive(Drop)]
 pub struct PlainTurn {
@@ -26,20 +26,20 @@ pub struct PlainTurn {
     pub process: u32,
     /// Where the stimulus comes from: 0 the event queue, 1 at once, 2 a poll, 3 a callback timer, 4 the process's own call.
     pub origin: u32,
-    /// 0 an event, 1 a callback timer that has run out, 2 the answer to a call.
+    /// 0 an event, 1 a callback timer that has run out, 2 the reply to a call.
     pub stimulus: u32,
     /// The code of an event.
     pub event: u32,
     /// What an event carries: 0 nothing, 1 a number, 2 a line of bytes.
     pub payload: u32,
-    /// What an answer is: 0 done, 1 refused, 2 a number, 3 a wide number, 4 yes or no, 5 bytes, 6 the state of the heap.
+    /// What a reply is: 0 done, 1 refused, 2 a number, 3 a wide number, 4 yes or no, 5 bytes, 6 the state of the heap.
     pub reply: u32,
-    /// The number that an event carries, that of a callback timer, that of a refusal, or an answer's: 0 and 1 are no and yes.
+    /// The number that an event carries, that of a callback timer, that of a refusal, or a reply's: 0 and 1 are no and yes.
     pub number: u64,
     pub stats: PlainStats,
     /// How many bytes there are: those of a line or of a read.
     pub length: u32,
-    /// Behind these the bytes are left as they were.
+    /// After these the bytes are left as they were.
     pub bytes: [u8; 128],
 }
 
@@ -77,7 +77,7 @@ fn plain_stats(stats: &HeapStats) -> PlainStats
 }
 
 impl PlainTurn {
-    /// Tells a turn.
+    /// Reports a turn.
     pub fn tell(&mut self, process: Pid, origin: Origin, stimulus: &Stimulus)
         ensures { self.new ≡ turn_told process.0 origin stimulus.now self.old.bytes }
     {
@@ -108,7 +108,7 @@ impl PlainTurn {
         self.bytes[..bytes.len()].copy_from_slice(bytes);
     }
 
-    /// Tells an event.
+    /// Reports an event.
     fn tell_event(&mut self, event: &Event)
         requires clear { (self.old.number ≡ 0) × (self.old.length ≡ 0) }
         ensures { self.new ≡ event_part event.now self.old }
@@ -128,7 +128,7 @@ impl PlainTurn {
         }
     }
 
-    /// Tells the answer to a call.
+    /// Reports the reply to a call.
     fn tell_reply(&mut self, reply: &Reply)
         requires clear { (self.old.number ≡ 0) × (self.old.length ≡ 0) × (self.old.stats ≡ no_stats) }
         ensures { self.new ≡ reply_part reply.now self.old }
@@ -147,7 +147,7 @@ impl PlainTurn {
     }
 }
 
-/// What an answer is.
+/// What a reply is.
 fn reply_number(reply: &Reply) -> u32
     ensures { result ≡ reply_number reply.now }
 {

@@ -32,7 +32,7 @@ fn push_string_bytes(out: &mut Vec<u8>, text: &[u8]) -> Result<(), AllocError>
     Ok(())
 }
 
-/// Appends a string that stands for a text.
+/// Appends the string of a text.
 fn push_string(out: &mut Vec<u8>, text: &[u8]) -> Result<(), AllocError>
     ensures { IfOk result (λ _. out.new.items ≡ out.old.items ++ json_string text.now) }
 {
@@ -41,7 +41,7 @@ fn push_string(out: &mut Vec<u8>, text: &[u8]) -> Result<(), AllocError>
     out.extend_from_slice(b"\"")
 }
 
-/// JSON, or a front part of it.
+/// JSON, or a prefix of it.
 #[derive(Drop)]
 pub(crate) struct Data {
     bytes: Vec<u8>,
@@ -72,7 +72,7 @@ impl Data {
         self.bytes.extend_from_slice(json.as_bytes())
     }
 
-    /// Appends a string that stands for a text. A control character but a line end and a tab stands there as one that can't be shown.
+    /// Appends the string of a text. A control character other than a line end or a tab is replaced by one that can't be shown.
     pub(crate) fn say(&mut self, text: &str) -> Result<(), AllocError>
         ensures { IfOk result (λ _. self.new ≡ self.old ++ json_string text.now) }
     {
@@ -118,7 +118,7 @@ impl Data {
     pub(crate) fn is_harmless(&self)
         ensures { IsHarmless self.now }
     {
-        // Nothing is done: the clause tells what holds of all data.
+        // Nothing is done: the clause says what holds of all data.
         let _bytes = &self.bytes;
     }
 }

@@ -60,7 +60,7 @@ fn is_shown(shown: Shown, first: usize, end: Option<usize>) -> bool {
     }
 }
 
-/// The lists of numbers for what the lines tell together.
+/// The lists of numbers for what the lines show together.
 #[derive(Clone, Copy)]
 struct Lists<'a> {
     alloc: Global,
@@ -125,7 +125,7 @@ impl Lists<'_> {
         push_list(out, "gifts", numbers.as_slice())
     }
 
-    /// Who posted an event and in which line, and who is told it and in which.
+    /// Who posted an event and in which line, and who receives it and in which.
     fn push_curves(&self, out: &mut Data) -> Result<(), AllocError> {
         let mut numbers = Vec::new(self.alloc);
         for curve in self.marks().curves.as_slice() {
@@ -137,7 +137,7 @@ impl Lists<'_> {
         push_list(out, "curves", numbers.as_slice())
     }
 
-    /// Process, number, first line and end of each arming of a timer, when it was due, and when it was told.
+    /// Process, number, first line and end of each arming of a timer, when it was due, and when its event came.
     fn push_armings(&self, out: &mut Data) -> Result<(), AllocError> {
         let mut numbers = Vec::new(self.alloc);
         for arming in self.marks().armings.as_slice() {
@@ -185,7 +185,7 @@ impl Lists<'_> {
         push_list(out, "chains", numbers.as_slice())
     }
 
-    /// Process, name, place, bytes that are taken and that were asked for, first line and end of each block.
+    /// Process, name, position, bytes that are taken and that were asked for, first line and end of each block.
     fn push_stays(&self, out: &mut Data, name: &str, stays: &[Stay]) -> Result<(), AllocError> {
         let mut numbers = Vec::new(self.alloc);
         for stay in stays {
@@ -248,7 +248,7 @@ fn start_of(marks: &Marks, shown: Shown) -> u64 {
     }
 }
 
-/// Appends what was run, as one member behind the other.
+/// Appends what was run, as one member after the other.
 fn push_run(
     out: &mut Data,
     lines: &[&str],
@@ -301,7 +301,7 @@ fn push_words(
     out.say(words.as_str())
 }
 
-/// Appends all members behind the text of the transcript, to the end of the data.
+/// Appends all members after the text of the transcript, to the end of the data.
 fn push_rest(
     alloc: Global,
     out: &mut Data,
@@ -319,7 +319,7 @@ fn push_rest(
     lists.push_rest(out, lines, title, named)
 }
 
-/// All members behind the text of the transcript, to the end of the data.
+/// All members after the text of the transcript, to the end of the data.
 pub(crate) fn rest_of(
     alloc: Global,
     lines: &[&str],

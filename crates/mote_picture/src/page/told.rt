@@ -4,7 +4,7 @@ use picture_facts::words::{push_answer, push_call, push_ending, push_input, push
 use std::alloc::{AllocError, Global};
 use transcript_lines::{Line, Origin, Turn, read_line};
 
-/// Appends what a process was told, its call, and the answer to it, with a tab between each two.
+/// Appends what a process received, its call, and the reply to it, with a tab between each two.
 fn push_turn(
     alloc: Global,
     out: &mut String,

@@ -33,7 +33,7 @@ impl Tag {
     }
 }
 
-/// What an attribute tells of its element.
+/// What an attribute says of its element.
 #[derive(Clone, Copy, Drop)]
 pub enum Attribute {
     Namespace,

@@ -18,7 +18,7 @@ const NAMED: usize = 30;
 /// How many bytes a column shows at least.
 const LEAST_BYTES: u64 = 64;
 
-/// A column: where it begins, its width, and how many bytes that stands for.
+/// A column: where it begins, its width, and how many bytes it shows.
 #[derive(Clone, Copy, Drop)]
 pub struct Column {
     pub left: usize,
@@ -27,7 +27,7 @@ pub struct Column {
 }
 
 impl Column {
-    /// How far from the left of the picture so many bytes reach.
+    /// How far from the left of the picture this number of bytes reaches.
     fn reach_of(&self, bytes: u64) -> usize
         ensures from { capped self.now.left ≤ result }
         ensures to { result ≤ self.now.left + self.now.width }
@@ -40,7 +40,7 @@ impl Column {
     }
 }
 
-/// The place behind a block's last byte.
+/// The position after a block's last byte.
 fn end_of(stay: &Stay) -> u64
     ensures { result ≡ spec.block_end stay.now }
 {
@@ -58,7 +58,7 @@ fn furthest(stays: &[Stay]) -> u64
     reach
 }
 
-/// How many bytes a column is to stand for: a power of two, from 64 on, that no block reaches beyond, but no more than there are.
+/// How many bytes a column shows: a power of two, from 64 on, that no block reaches beyond, but no more than there are.
 pub fn bytes_shown(stays: &[Stay], size: u64) -> u64
     ensures { columns.IsRange stays.now size result }
 {
@@ -194,7 +194,7 @@ fn managed_range(alloc: Global, bytes: u64, size: u64) -> Result<String, AllocEr
     format!(in alloc; "0 to {bytes} of {size} bytes")
 }
 
-/// Draws the column of managed memory, which stands for so many bytes.
+/// Draws the column of managed memory, which shows this number of bytes.
 fn draw_managed_column(
     pen: &mut Pen,
     page: &Page,
@@ -212,7 +212,7 @@ fn draw_managed_column(
     Ok(())
 }
 
-/// Draws managed memory: the lengths of its blocks one behind the other.
+/// Draws managed memory: the lengths of its blocks one after the other.
 pub fn draw_managed(pen: &mut Pen, page: &Page, stays: &[Stay], size: u32) -> Result<(), AllocError>
     ensures { IfOk result (λ _. columns.AddsColumn stays.now size
         (columns.managed_text page.now stays.now size) pen.old.content pen.new.content) }
@@ -250,7 +250,7 @@ fn heap_title(alloc: Global, stay: &Stay, header: u32) -> Result<String, AllocEr
     Ok(title)
 }
 
-/// A part of a block, so many bytes from its front on, as a stay of its own.
+/// A part of a block, with an offset and a length, as a stay of its own.
 fn part_of(stay: &Stay, from: u64, bytes: u64) -> Stay
     ensures { result ≡ spec.part_of stay.now from bytes }
 {
@@ -274,7 +274,7 @@ fn draw_pale_part(
     pen.area("u", area_of(page, column, part), title)
 }
 
-/// The part of a block that lies behind its header and its length.
+/// The part of a block that is after its header and its length.
 fn beyond(stay: &Stay, header: u64) -> Stay
     ensures { result ≡ spec.beyond stay.now header }
 {
@@ -353,7 +353,7 @@ fn heap_range(alloc: Global, bytes: u64, size: u64, most: usize) -> Result<Strin
     format!(in alloc; "0 to {bytes} of {size} bytes, at most {most} blocks at once")
 }
 
-/// Draws the column of the heap, which stands for so many bytes.
+/// Draws the column of the heap, which shows this number of bytes.
 fn draw_heap_column(
     pen: &mut Pen,
     page: &Page,

@@ -52,7 +52,7 @@ pub fn text_element(alloc: Global, place: Place) -> Result<Element, AllocError>
         .with_number(Attribute::Top, place.top)
 }
 
-/// A text's element, with words of a class behind what it says.
+/// A text's element, with words of a class after what it says.
 pub fn with_span(
     alloc: Global,
     element: Element,

@@ -144,7 +144,7 @@ fn used_title(alloc: Global, stay: &Stay) -> Result<String, AllocError>
     )
 }
 
-/// What the mark of a block tells that is in a list.
+/// What the mark of a block shows that is in a list.
 fn linked_title(alloc: Global, stay: &Stay) -> Result<String, AllocError>
     ensures { IfOk result (λ title. string_bytes title ≡ spec.linked_title stay.now) }
 {
