@@ -2,7 +2,7 @@
 use Rattle.std.proofs.Common.{◌≡◌, ◌≢◌, ℕ, zero, suc, ◌+◌, ◌-◌, ◌≤◌, ◌<◌, ◌⊎◌, inl, inr, not, List, [], ◌∷◌, ◌++◌, length, map, filter, take, drop, set, slice_set, Some, None, refl, sym, ap, ◌∙◌, arith}
 use Rattle.std.specs.Prelude.{find}
 use Rattle.std.specs.List.{copy_within}
-use Rattle.std.proofs.lemmas.Bool.{cases_Bool, eq-eqb, lt-ltb, le-ltb}
+use Rattle.std.proofs.lemmas.Bool.{eq-eqb}
 use Rattle.std.proofs.lemmas.List.{take-take, take_at, take_all, drop_all, take_more, drop-take, length-take-le, length-append, append_assoc, append-nil, set_at, length-drop, map-append}
 use Rattle.std.proofs.lemmas.List.Elements.{filter-append}
 use Rattle.std.proofs.lemmas.List.Folds.{find-append}
@@ -23,7 +23,7 @@ without_is (suc i) (row ∷ rows) l =
     let e : suc i + 1 ≡ suc (i + 1) = omega arith in let later = without_is i rows (omega arith) in grind arith
 
 pub removed : (rows : List Row) (i : ℕ) → i < length rows → front (copy_within rows (i + 1) (length rows) i) ≡ without_row i rows
-removed rows i l = grind (arith, copy_within, length-drop, take_all, length-take-le, length-append, take_at, without_is)
+removed rows i l = grind (arith, length-drop, take_all, length-append, take_at, without_is)
 
 pub free_inside : (rows : List Row) (capacity at len : ℕ) → IsTable rows capacity → IsFree 0 rows capacity at len → at + len ≤ capacity
 free_inside rows capacity at len lie free = let b = between 0 rows capacity at len lie free in lie_le (at + len) b.behind capacity b.back
@@ -32,46 +32,61 @@ free_inside rows capacity at len lie free = let b = between 0 rows capacity at l
 pub table_with : (rows : List Row) (capacity : ℕ) (row : Row) → 1 ≤ room_of row → IsTable rows capacity
     → IsFree 0 rows capacity row.place (room_of row) → IsTable (with_row row rows) capacity
 table_with rows capacity row some lie free = let b = between 0 rows capacity row.place (room_of row) lie free in
-    let is = with_row_between 0 b.before b.behind (row.place + room_of row) capacity row b.front b.back (omega arith) in
-    let all = lie_append 0 row.place b.before (row ∷ b.behind) capacity b.front (omega arith, some, b.back) in grind arith
+    grind (
+      arith,
+      lie_append 0 row.place b.before (row ∷ b.behind) capacity b.front (omega arith, some, b.back),
+      with_row_between 0 b.before b.behind (row.place + room_of row) capacity row b.front b.back (omega arith),
+    )
 
 -- bytes that are written between the blocks are no block's
 module _ (bytes : List ℕ) (at : ℕ) (ws : List ℕ) (inside : at + length ws ≤ length bytes) where
   kept_beside : (from : ℕ) (rows : List Row) (capacity : ℕ) → LieFrom from rows capacity → (capacity ≤ at) ⊎ (at + length ws ≤ from)
       → map (block_told (written bytes at ws)) rows ≡ map (block_told bytes) rows
   kept_beside from [] capacity lie side = refl
-  kept_beside from (row ∷ rows) capacity lie side = let le = lie_le (row.place + room_of row) rows capacity lie.2 in
-      let later = kept_beside (row.place + room_of row) rows capacity lie.2 (grind arith) in grind (arith, range-written_apart)
+  kept_beside from (row ∷ rows) capacity lie side = grind (
+    arith,
+    range-written_apart,
+    kept_beside
+        (row.place + room_of row) rows capacity lie.2 (grind arith),
+    lie_le (row.place + room_of row) rows capacity lie.2,
+  )
 
   pub kept : (rows : List Row) (capacity len : ℕ) → IsTable rows capacity → IsFree 0 rows capacity at len → length ws ≤ len
       → map (block_told (written bytes at ws)) rows ≡ map (block_told bytes) rows
   kept rows capacity len lie free le =
       let b = between 0 rows capacity at len lie free in
-      let low = kept_beside 0 b.before at b.front (inl (omega arith)) in
-      let high = kept_beside (at + len) b.behind capacity b.back (inr (omega arith)) in grind (arith, map-append)
+      grind (
+        arith,
+        map-append,
+        kept_beside (at + len) b.behind capacity b.back (inr (omega arith)),
+        kept_beside 0 b.before at b.front
+            (inl (omega arith)),
+      )
 
 module _ (bytes : List ℕ) where
   -- blocks and their order
   pub told_with : (row : Row) (rows : List Row)
       → map (block_told bytes) (with_row row rows) ≡ placed (block_told bytes row) (map (block_told bytes) rows)
   told_with row [] = refl
-  told_with row (other ∷ rows) = let later = told_with row rows in grind (arith, cases_Bool)
+  told_with row (other ∷ rows) = grind (arith, told_with row rows)
 
   -- a block is named by its position
   none_named : (from : ℕ) (rows : List Row) (capacity name : ℕ) → LieFrom from rows capacity → (name < from) ⊎ (capacity ≤ name)
       → find (has_name name) (map (block_told bytes) rows) ≡ None
   none_named from [] capacity name lie side = refl
   none_named from (row ∷ rows) capacity name lie side =
-      let le = lie_le (row.place + room_of row) rows capacity lie.2 in
-      let later = none_named (row.place + room_of row) rows capacity name lie.2
-      (grind arith) in
-      grind arith
+      grind (
+        arith,
+        none_named (row.place + room_of row) rows capacity name lie.2
+            (grind arith),
+        lie_le (row.place + room_of row) rows capacity lie.2,
+      )
 
   pub no_block : (rows : List Row) (at : ℕ) → ((j : ℕ) → j < length rows → (row_of rows j).place ≢ at)
       → find (has_name at) (map (block_told bytes) rows) ≡ None
   no_block [] at none = refl
   no_block (row ∷ rows) at none =
-      let here = none 0 (omega arith) in let later = no_block rows at (λ j l. none (suc j) (omega arith)) in grind arith
+      grind (arith, no_block rows at (λ j l. none (suc j) (omega arith)), none 0 (omega arith))
 
   module _ (rows : List Row) (capacity i : ℕ) (lie : IsTable rows capacity) (below : i < length rows) where
     abbrev row : Row
@@ -88,22 +103,26 @@ module _ (bytes : List ℕ) where
 
     none_behind : find (has_name row.place) behind ≡ None
     none_behind = let a = among 0 rows capacity i lie below in
-        none_named (row.place + room_of row) a.behind capacity row.place a.rest.2 (inl (omega (arith, a.rest.1)))
+        none_named (row.place + room_of row) a.behind capacity row.place a.rest.2 (inl (omega arith))
 
     all_told : map (block_told bytes) rows ≡ before ++ (block_told bytes row ∷ behind)
     all_told = let a = among 0 rows capacity i lie below in
         ap (map (block_told bytes)) a.is ∙ map-append (block_told bytes) a.before (row ∷ a.behind)
 
     pub block_found : find (has_name row.place) (map (block_told bytes) rows) ≡ Some (block_told bytes row)
-    block_found = grind (arith, all_told, find-append, none_before, eq-eqb)
+    block_found = grind (arith, all_told, find-append, none_before)
 
     pub told_without : filter (λ (block : Block). not (has_name row.place block)) (map (block_told bytes) rows) ≡ map (block_told bytes)
         (without_row i rows)
     told_without =
-        let a = among 0 rows capacity i lie below in
-        let low = filter_unnamed row.place before (count_absent row.place before none_before) in
-        let high = filter_unnamed row.place behind (count_absent row.place behind none_behind) in
-        grind (arith, all_told, filter-append, map-append, eq-eqb)
+        grind (
+          arith,
+          filter-append,
+          map-append,
+          eq-eqb,
+          filter_unnamed row.place behind (count_absent row.place behind none_behind),
+          filter_unnamed row.place before (count_absent row.place before none_before),
+        )
 
 module _ (row : Row) where
   -- a new row, by its number
@@ -112,10 +131,9 @@ module _ (row : Row) where
       → with_row row rows ≡ take i rows ++ (row ∷ drop i rows)
   with_row_at [] zero le below above = refl
   with_row_at [] (suc i) le below above = absurd (omega arith)
-  with_row_at (other ∷ rows) zero le below above = let less = above (omega arith) in grind (arith, lt-ltb)
+  with_row_at (other ∷ rows) zero le below above = grind arith
   with_row_at (other ∷ rows) (suc i) le below above =
-      let here = below 0 (omega arith) in
-      let later = with_row_at rows i (omega arith) (λ j l. below (suc j) (omega arith)) (λ l. above (omega arith)) in grind (arith, le-ltb)
+      grind (arith, with_row_at rows i (omega arith) (λ j l. below (suc j) (omega arith)) (λ l. above (omega arith)), below 0 (omega arith))
 
   -- the rows from the number on move up by one, and the new one is put there
   pub inserted : (rows : List Row) (i last : ℕ) → length rows ≡ last + 1 → i ≤ length (take last rows)

@@ -1,5 +1,5 @@
 -- Where a resized block is, by what the code found.
-use Rattle.std.proofs.Common.{arith, ◌≡◌, ℕ, ◌<◌, List, length, Option, Some, None, refl, sym, ap, ◌∙◌, subst, IsSomeAnd}
+use Rattle.std.proofs.Common.{arith, ◌≡◌, ℕ, ◌<◌, List, length, Option, Some, None, sym, ap, ◌∙◌, subst, IsSomeAnd}
 use Rattle.std.specs.Option.{option_map, option_or}
 use Rattle.heap_core.specs.declared.chunk.Place.{Place}
 use Rattle.heap_core.specs.HeapStore.{Block, HeapStore, find_block, place, place_of, new_place, room_in_place}
@@ -16,7 +16,7 @@ some_and o x P e p = subst (λ q. IsSomeAnd q P) (sym e) p
 -- the block that begins there
 pub found_at : (rows : List Row) (bytes : List ℕ) (i at : ℕ) → IsTable rows (length bytes) → i < length rows → (row_of rows i).place ≡ at
     → find_block at (heap_of rows bytes) ≡ Some (block_told bytes (row_of rows i))
-found_at rows bytes i at lie below there = let found = block_found bytes rows (length bytes) i lie below in grind arith
+found_at rows bytes i at lie below there = grind (arith, block_found bytes rows (length bytes) i lie below)
 
 module _ (block : Block) (n : ℕ) (heap : HeapStore) where
   abbrev at_room : ℕ → Place
@@ -37,7 +37,7 @@ pub resize_refused : (outcome : Outcome) (rows : List Row) (bytes : List ℕ) (a
     → ReallocTold outcome at n rows bytes
 resize_refused Outcome.NoTable rows bytes at n block found room why = λ table. absurd (why table)
 resize_refused Outcome.NoRoom rows bytes at n block found room why =
-    let found' = new_elsewhere block n (heap_of rows bytes) None room (why.1 bytes refl) in grind arith
+    grind arith
 resize_refused Outcome.Done rows bytes at n block found room why = absurd why
 resize_refused Outcome.NoBlock rows bytes at n block found room why = absurd why
 resize_refused Outcome.NoRow rows bytes at n block found room why = absurd why

@@ -14,7 +14,7 @@ module _ (rows : List Row) where
     -- a row goes
     pub gone_is : (capacity i : ℕ) → IsTable rows capacity → i < length rows
         → heap_of (without_row i rows) bytes ≡ without_block (row_of rows i).place (heap_of rows bytes)
-    gone_is capacity i lie below = let e = told_without bytes rows capacity i lie below in grind arith
+    gone_is capacity i lie below = grind (arith, told_without bytes rows capacity i lie below)
 
     module _ (row : Row) where
       module _ (ws : List ℕ) where
@@ -27,12 +27,11 @@ module _ (rows : List Row) where
         put_is size lie free = let new = written bytes row.place ws in
             let inside = free_inside rows (length bytes) row.place (room_of row) lie free in
             let read : range_of row.place (size_of row) new ≡ ws = grind (arith, range-written) in
-            let stays = kept bytes row.place ws (omega (arith, size, inside)) rows (length bytes) (room_of row) lie free
-            (omega (arith, size)) in
+            let stays = kept bytes row.place ws (omega arith) rows (length bytes) (room_of row) lie free
+            (omega arith) in
             let told = told_with new row rows in let long = length-written bytes row.place ws in grind arith
 
         pub put_table : 1 ≤ room_of row
             → IsTable rows (length bytes) → IsFree 0 rows (length bytes) row.place (room_of row)
             → IsTable (with_row row rows) (length (written bytes row.place ws))
-        put_table some lie free = let long = length-written bytes row.place ws in
-            let table = table_with rows (length bytes) row some lie free in grind arith
+        put_table some lie free = grind (arith, table_with rows (length bytes) row some lie free, length-written bytes row.place ws)

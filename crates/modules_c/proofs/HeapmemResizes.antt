@@ -3,7 +3,6 @@ use Rattle.std.proofs.Common.{◌≡◌, ◌≢◌, ℕ, zero, suc, ◌+◌, ◌
 use Rattle.std.specs.Prelude.{find, ◌==◌, nat_le, if◌then◌else◌}
 use Rattle.std.specs.Option.{option_map_or}
 use Rattle.std.proofs.Common.{length-append}
-use Rattle.std.proofs.lemmas.Bool.{eq-eqb}
 use Rattle.std.proofs.lemmas.List.{append_assoc, take_at, drop_at, drop-drop, length-take-le, length-replicate, map-append, set_at}
 use Rattle.std.proofs.lemmas.List.Sums.{fold-append}
 use Rattle.arena_core.specs.Code.Written.{written}
@@ -16,7 +15,7 @@ use Rattle.heap_core.proofs.Lemmas.Gaps.{choice}
 use Rattle.modules_c.specs.declared.heapmem.row.Row.{Row}
 use Rattle.modules_c.specs.Heapmem.Heaps.{block_told, heap_of, size_of, room_of, LieFrom, IsTable, with_resized}
 use Rattle.modules_c.specs.Code.HeapmemRows.{row_of, with_row, without_row, next_place, IsFree}
-use Rattle.modules_c.proofs.HeapmemTables.{lie_le, lie_without, first_between, Among, among, between, free_between, with_row_between, row_lies}
+use Rattle.modules_c.proofs.HeapmemTables.{lie_le, lie_without, first_between, Among, among, between, free_between, with_row_between}
 use Rattle.modules_c.proofs.HeapmemSums.{ended_above}
 use Rattle.modules_c.proofs.HeapmemPuts.{put_is, put_table, gone_is}
 
@@ -28,18 +27,21 @@ written_behind bytes at xs ys behind e fits =
     let once = written bytes at xs in
     let long = length-written bytes at xs in
     let both = length-append xs ys in
-    let first : length (take at bytes) ≡ at = length-take-le at bytes (omega arith) in
-    let head = take at bytes ++ xs in
-    let size : length head ≡ behind = grind (arith, length-append) in
+    let first = length-take-le at bytes (omega arith) in
+    let size : length (take at bytes ++ xs) ≡ behind = grind (arith, length-append) in
     grind (arith, written_is, append_assoc, drop-drop, drop_at, take_at)
 
 -- a block's row is its new one instead of the old one
 pub set_is : (rows : List Row) (capacity i : ℕ) (row : Row) → IsTable rows capacity → i < length rows → row.place ≡ (row_of rows i).place
     → slice_set rows i row ≡ with_row row (without_row i rows)
 set_is rows capacity i row lie below e = let a = among 0 rows capacity i lie below in let old = row_of rows i in
-    let put = with_row_between 0 a.before a.behind (old.place + room_of old) capacity row (subst (LieFrom 0 a.before) (sym e) a.front) a.rest.2
-    (omega (arith, a.rest.1, e)) in
-    let set = set_at a.before old a.behind row i a.number in grind arith
+    grind (
+      arith,
+      set_at a.before old a.behind row i a.number,
+      with_row_between 0 a.before a.behind (old.place + room_of old) capacity row
+          (subst (LieFrom 0 a.before) (sym e) a.front) a.rest.2
+          (omega arith),
+    )
 
 -- what is free stays so where a block is removed
 without_either : (xs ys : List Row) (i : ℕ)
@@ -69,7 +71,7 @@ pub own_free : (rows : List Row) (capacity i len : ℕ) → IsTable rows capacit
     → (row_of rows i).place + len ≤ next_place i rows capacity
     → IsFree 0 (without_row i rows) capacity (row_of rows i).place len
 own_free rows capacity i len lie below le = let a = among 0 rows capacity i lie below in
-    let free = free_between 0 a.before a.behind capacity (row_of rows i).place len a.front (omega (arith, le, a.next)) in grind arith
+    grind (arith, free_between 0 a.before a.behind capacity (row_of rows i).place len a.front (omega arith))
 
 module _ (rows : List Row) (bytes : List ℕ) (i n : ℕ) (lie : IsTable rows (length bytes)) (below : i < length rows) where
   abbrev old : Row
@@ -108,15 +110,14 @@ module _ (bytes : List ℕ) where
       → len_at at (gaps_behind from rows) ≡ 0
   none_there from [] capacity at lie less = refl
   none_there from (row ∷ rows) capacity at lie less =
-      let later = none_there (row.place + room_of row) rows capacity at lie.2 (omega (arith, lie.0)) in grind (arith, other_gap)
+      grind (arith, none_there (row.place + room_of row) rows capacity at lie.2 (omega arith))
 
   -- the gaps below a position
   gaps_passed : (from : ℕ) (xs : List Row) (row : Row) (ys : List Row) (at : ℕ) → LieFrom from xs row.place → row.place < at
       → len_at at (gaps_behind from (xs ++ (row ∷ ys))) ≡ len_at at (gaps_behind (row.place + room_of row) ys)
-  gaps_passed from [] row ys at lie less = grind (arith, other_gap)
+  gaps_passed from [] row ys at lie less = grind arith
   gaps_passed from (x ∷ xs) row ys at lie less =
-      let le = lie_le (x.place + room_of x) xs row.place lie.2 in
-      let later = gaps_passed (x.place + room_of x) xs row ys at lie.2 less in grind (arith, other_gap)
+      grind (arith, gaps_passed (x.place + room_of x) xs row ys at lie.2 less, lie_le (x.place + room_of x) xs row.place lie.2)
 
 -- the room that a block has that is resized where it is
 module _ (rows : List Row) (bytes : List ℕ) (i n : ℕ) (lie : IsTable rows (length bytes)) (below : i < length rows) where
@@ -145,16 +146,15 @@ module _ (rows : List Row) (bytes : List ℕ) (i n : ℕ) (lie : IsTable rows (l
   choice_is = let e : here.place + (0 + room_of here) ≡ end = omega arith in grind arith
 
   foot_split : footprint store ≡ ended bytes end a.behind
-  foot_split = grind (arith, a, map-append, fold-append)
+  foot_split = grind (arith, map-append, fold-append)
 
   module _ (last : i + 1 ≡ length rows) where
     no_more : (l : List Row) → a.behind ≡ l → (footprint store ≡ end) × (next_place i rows (length bytes) ≡ length bytes)
-    no_more [] e = grind (arith, foot_split, a)
+    no_more [] e = grind (arith, foot_split)
     no_more (next ∷ l) e = absurd (omega (arith, a.more, ap length e))
 
     pub room_last : room_of here < least → in_place ≡ (if nat_le least most then Some least else None)
-    room_last less = let top = no_more a.behind refl in let lies = row_lies rows (length bytes) i lie below in let e = choice_is in
-        grind arith
+    room_last less = grind (arith, no_more a.behind refl)
 
   module _ (more : i + 1 < length rows) where
     one_more : (l : List Row) → a.behind ≡ l → (end ≢ footprint store) × (gap_at end store ≡ next_place i rows (length bytes) - end)
@@ -163,12 +163,11 @@ module _ (rows : List Row) (bytes : List ℕ) (i n : ℕ) (lie : IsTable rows (l
         let back : LieFrom end (next ∷ l) (length bytes) = subst (λ (k : List Row). LieFrom end k (length bytes)) e a.rest.2 in
         let same_end : next.place + (0 + room_of next) ≡ next.place + room_of next = omega arith in
         let up = ended_above bytes (next.place + room_of next) l (length bytes) back.2 in
-        let none = none_there bytes (next.place + room_of next) l (length bytes) end back.2 (omega (arith, back.0, back.1)) in
+        let none = none_there bytes (next.place + room_of next) l (length bytes) end back.2 (omega arith) in
         let passed = gaps_passed bytes 0 a.before here a.behind end a.front (omega (arith, a.rest.1)) in (
-          λ same. absurd (omega (arith, same, foot_split, ap (ended bytes end) e, ap (λ k. ended bytes k l) same_end, up, back.0, back.1)),
-          grind (arith, a, eq-eqb),
+          λ same. absurd (omega (arith, foot_split, ap (ended bytes end) e, ap (λ k. ended bytes k l) same_end, up, back.0, back.1)),
+          grind arith,
         )
 
     pub room_next : room_of here < least → in_place ≡ (if nat_le least most then Some (room_taken least most) else None)
-    room_next less = let m = one_more a.behind refl in let lies = row_lies rows (length bytes) i lie below in let e = choice_is in
-        grind arith
+    room_next less = grind (arith, one_more a.behind refl)

@@ -31,7 +31,7 @@ module _ (bytes : List ℕ) where
   pub all_is : (from : ℕ) (rows : List Row) (capacity : ℕ) → LieFrom from rows capacity
       → (ended from rows ≤ capacity) × (from + (gap_total from rows + room_total rows) ≡ ended from rows)
   all_is from rows capacity lie =
-      let all = all_bytes 0 from capacity (map (block_told bytes) rows) (in_order from rows capacity lie) in (all.0, omega (arith, all.1))
+      let all = all_bytes 0 from capacity (map (block_told bytes) rows) (in_order from rows capacity lie) in (all.0, omega arith)
 
   pub ended_above : (from : ℕ) (rows : List Row) (capacity : ℕ) → LieFrom from rows capacity → from ≤ ended from rows
   ended_above from rows capacity lie = omega (arith, (all_is from rows capacity lie).1)
@@ -40,10 +40,15 @@ module _ (bytes : List ℕ) where
   gap_first : (from : ℕ) (row : Row) (rows : List Row) (capacity : ℕ) → LieFrom from (row ∷ rows) capacity
       → gap_total from (row ∷ rows) ≡ row.place - from + gap_total (row.place + room_of row) rows
   gap_first from row rows capacity lie =
-      let all = all_is from (row ∷ rows) capacity lie in let later = all_is (row.place + room_of row) rows capacity lie.2 in
-      let rooms = sum_by-cons (λ (block : Block). block.room) (block_told bytes row) (map (block_told bytes) rows) in
       let e : row.place + (0 + room_of row) ≡ row.place + room_of row = omega arith in
-      omega (arith, all.1, later.1, lie.0, rooms, ap (λ n. ended n rows) e)
+      omega (
+        arith,
+        (all_is from (row ∷ rows) capacity lie).1,
+        (all_is (row.place + room_of row) rows capacity lie.2).1,
+        sum_by-cons
+            (λ (block : Block). block.room) (block_told bytes row) (map (block_told bytes) rows),
+        ap (λ n. ended n rows) e,
+      )
 
 module _ (rows : List Row) where
   module _ (capacity : ℕ) where
@@ -64,4 +69,4 @@ module _ (rows : List Row) where
 -- what the blocks take is the rest
 pub taken_is : (rows : List Row) (bytes : List ℕ) (capacity free : ℕ) → IsTable rows capacity → length bytes ≡ capacity
     → free ≡ gap_total bytes 0 rows + (length bytes - footprint (heap_of rows bytes)) → capacity - free ≡ room_total bytes rows
-taken_is rows bytes capacity free lie size is = let all = all_is bytes 0 rows capacity lie in omega (arith, all.0, all.1, is, size)
+taken_is rows bytes capacity free lie size is = let all = all_is bytes 0 rows capacity lie in omega arith

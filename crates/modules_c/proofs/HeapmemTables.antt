@@ -1,6 +1,5 @@
 -- What rows that are a table keep, and what is free between them.
 use Rattle.std.proofs.Common.{◌≡◌, ℕ, zero, suc, ◌+◌, ◌≤◌, ◌<◌, inl, inr, List, [], ◌∷◌, ◌++◌, length, slice_index_or, refl, ap, arith}
-use Rattle.std.proofs.lemmas.Bool.{lt-ltb, le-ltb}
 use Rattle.std.specs.List.Sorted.{IsNonDecreasingBy}
 use Rattle.heap_core.specs.HeapStore.{least_room, room_taken}
 use Rattle.modules_c.specs.declared.heapmem.row.Row.{Row}
@@ -9,11 +8,11 @@ use Rattle.modules_c.specs.Code.HeapmemRows.{IsFree, next_place, row_of, with_ro
 
 pub lie_le : (from : ℕ) (rows : List Row) (capacity : ℕ) → LieFrom from rows capacity → from ≤ capacity
 lie_le from [] capacity lie = lie
-lie_le from (row ∷ rows) capacity lie = omega (arith, lie.0, lie_le (row.place + room_of row) rows capacity lie.2)
+lie_le from (row ∷ rows) capacity lie = omega (arith, lie_le (row.place + room_of row) rows capacity lie.2)
 
 lie_lower : (from lower : ℕ) (rows : List Row) (capacity : ℕ) → lower ≤ from → LieFrom from rows capacity → LieFrom lower rows capacity
-lie_lower from lower [] capacity le lie = omega (arith, le, lie)
-lie_lower from lower (row ∷ rows) capacity le lie = (omega (arith, le, lie.0), lie.1, lie.2)
+lie_lower from lower [] capacity le lie = omega arith
+lie_lower from lower (row ∷ rows) capacity le lie = (omega arith, lie.1, lie.2)
 
 pub lie_append : (from mid : ℕ) (xs ys : List Row) (capacity : ℕ) → LieFrom from xs mid → LieFrom mid ys capacity
     → LieFrom from (xs ++ ys) capacity
@@ -31,7 +30,7 @@ above : (from : ℕ) (rows : List Row) (capacity j : ℕ) (d : Row) → LieFrom 
     → from ≤ (slice_index_or rows j d).place
 above from [] capacity j d lie l = absurd (omega arith)
 above from (row ∷ rows) capacity zero d lie l = lie.0
-above from (row ∷ rows) capacity (suc j) d lie l = omega (arith, lie.0, above (row.place + room_of row) rows capacity j d lie.2 (omega arith))
+above from (row ∷ rows) capacity (suc j) d lie l = omega (arith, above (row.place + room_of row) rows capacity j d lie.2 (omega arith))
 
 pub places_rise : (from : ℕ) (rows : List Row) (capacity : ℕ) → LieFrom from rows capacity
     → IsNonDecreasingBy (λ (row : Row). row.place) rows
@@ -39,9 +38,9 @@ places_rise from [] capacity lie i j d le l = absurd (omega arith)
 places_rise from (row ∷ rows) capacity lie zero zero d le l = omega arith
 places_rise from (row ∷ rows) capacity lie zero (suc j) d le l =
     omega (arith, above (row.place + room_of row) rows capacity j d lie.2 (omega arith))
-places_rise from (row ∷ rows) capacity lie (suc i) zero d le l = absurd (omega (arith, le))
+places_rise from (row ∷ rows) capacity lie (suc i) zero d le l = absurd (omega arith)
 places_rise from (row ∷ rows) capacity lie (suc i) (suc j) d le l =
-    places_rise (row.place + room_of row) rows capacity lie.2 i j d (omega (arith, le)) (omega arith)
+    places_rise (row.place + room_of row) rows capacity lie.2 i j d (omega arith) (omega arith)
 
 -- where the first of these begins
 abbrev pub first_place : List Row → ℕ → ℕ
@@ -85,8 +84,8 @@ among from (row ∷ rows) capacity (suc i) lie below =
       behind = a.behind;
       is = ap (λ l. row ∷ l) a.is;
       without = ap (λ l. row ∷ l) a.without;
-      number = omega (arith, a.number);
-      more = omega (arith, a.more);
+      number = omega arith;
+      more = omega arith;
       front = (lie.0, lie.1, a.front);
       rest = a.rest;
       next = let e : suc i + 1 ≡ suc (i + 1) = omega arith in let next = a.next in grind arith;
@@ -98,7 +97,7 @@ pub row_lies : (rows : List Row) (capacity i : ℕ) → IsTable rows capacity �
 row_lies rows capacity i lie below =
     let a = among 0 rows capacity i lie below in
     let first = first_between ((row_of rows i).place + room_of (row_of rows i)) a.behind capacity a.rest.2 in
-    (omega (arith, first.0, a.next), omega (arith, first.1, a.next))
+    (omega arith, omega arith)
 
 -- bytes that are free: the rows are below them, and from their end on
 pub record Between (from : ℕ) (rows : List Row) (capacity at len : ℕ) : Type 0 where
@@ -126,16 +125,20 @@ free_between from (row ∷ xs) ys capacity at len lie le = inr (free_between (ro
 pub with_row_between : (from : ℕ) (xs ys : List Row) (low capacity : ℕ) (row : Row) → LieFrom from xs row.place → LieFrom low ys capacity
     → row.place < low → with_row row (xs ++ ys) ≡ xs ++ (row ∷ ys)
 with_row_between from [] [] low capacity row h k less = refl
-with_row_between from [] (next ∷ ys) low capacity row h k less = grind (arith, lt-ltb)
+with_row_between from [] (next ∷ ys) low capacity row h k less = grind arith
 with_row_between from (other ∷ xs) ys low capacity row h k less =
-    let le = lie_le (other.place + room_of other) xs row.place h.2 in
-    let later = with_row_between (other.place + room_of other) xs ys low capacity row h.2 k less in grind (arith, le-ltb)
+    grind (
+      arith,
+      with_row_between (other.place + room_of other) xs ys low capacity row h.2 k less,
+      lie_le
+          (other.place + room_of other) xs row.place h.2,
+    )
 
 -- fewer bytes from the same position on are free too
 pub free_shorter : (from : ℕ) (rows : List Row) (capacity at len fewer : ℕ) → fewer ≤ len → IsFree from rows capacity at len
     → IsFree from rows capacity at fewer
-free_shorter from [] capacity at len fewer le free = (free.0, omega (arith, free.1, le))
-free_shorter from (row ∷ rows) capacity at len fewer le (inl here) = inl (here.0, omega (arith, here.1, le))
+free_shorter from [] capacity at len fewer le free = (free.0, omega arith)
+free_shorter from (row ∷ rows) capacity at len fewer le (inl here) = inl (here.0, omega arith)
 free_shorter from (row ∷ rows) capacity at len fewer le (inr later) =
     inr (free_shorter (row.place + room_of row) rows capacity at len fewer le later)
 

@@ -8,7 +8,7 @@ use Rattle.modules_c.specs.declared.mmem.block.Block.{Block}
 use Rattle.modules_c.specs.Mmem.Stored.{places_told, stored, IsTable}
 use Rattle.modules_c.specs.Code.MmemRows.{row_of, IsNext, MovesDown}
 use Rattle.modules_c.proofs.MmemRows.{table_lies, told_some, room_is, at_is, live_below, live_is}
-use Rattle.mmem_core.proofs.Sliding.{AreSliding, sliding_first, sliding_more, lowered_down, lowered_room, lowered_order, inside, past, last_is_end}
+use Rattle.mmem_core.proofs.Sliding.{AreSliding, sliding_more, lowered_down, lowered_room, lowered_order, inside, past, last_is_end}
 use Rattle.modules_c.proofs.MmemStores.{same_store, told-set}
 
 pub record IsMidway (old now : List Block) (before after : List ℕ) (end : ℕ) : Type 0 where
@@ -19,7 +19,7 @@ pub record IsMidway (old now : List Block) (before after : List ℕ) (end : ℕ)
   pub moves : MovesDown old now
 
 pub midway_first : (table : List Block) (buffer : List ℕ) → IsTable table (length buffer) → IsMidway table table buffer buffer 0
-midway_first table buffer sound = grind (arith, sliding_first, table_lies)
+midway_first table buffer sound = grind (arith, table_lies)
 
 module _ {old now : List Block} {before after : List ℕ} {end : ℕ} (midway : IsMidway old now before after end) where
   module _ (i : ℕ) (next : IsNext now end (length now) (Some i)) where
@@ -42,37 +42,36 @@ module _ {old now : List Block} {before after : List ℕ} {end : ℕ} (midway : 
     pub midway_more : IsMidway old (slice_set now i (record { place = end; size = row.size })) before
         (written after end (slice_range after row.place (row.place + row.size))) (end + up4 row.size)
     midway_more =
-        let total = sum_by room_of (places_told old) in let moved : Block = record { place = end; size = row.size } in
+        let moved : Block = record { place = end; size = row.size } in
         let ws = slice_range after row.place (row.place + row.size) in
         let told = told-set now i moved ∙ ap (slice_set (places_told now) i) (told_some moved next.1) in
-        let inside : row.place + row.size ≤ length after = omega (arith, next_inside, len_le_room row.size, midway.size) in
+        let inside : row.place + row.size ≤ length after = omega (arith, next_inside) in
         let count = length-range after row.place row.size inside in
-        let fits : end + length ws ≤ length after = omega (arith, next.2) in
+        let fits : end + length ws ≤ length after = omega arith in
         let size = length-written after end ws in
-        let there = told ∙ ap (λ n. slice_set (places_told now) i (placed end n)) (sym count) in
-        let blocks = ap (map (block_in (written after end ws))) there
-        ∙ blocks-set after end ws fits (places_told now) i (placed end (length ws))
-        (λ j ne. let side = past midway.sliding i place live next.2 lowest j ne in let n = len_le_room row.size in grind arith)
-        ∙ ap (slice_set (stored now after).blocks i)
-        (block_written after end ws fits ∙ sym (get_or-blocks after (places_told now) i ∙ ap (block_in after) live))
-        ∙ set-get_or (stored now after).blocks i None in
         record {
           size = size ∙ midway.size;
-          sliding = subst (AreSliding (length before) total (end + up4 row.size)) (sym told)
+          sliding = subst (AreSliding (length before) (sum_by room_of (places_told old)) (end + up4 row.size)) (sym told)
               (sliding_more midway.sliding i place live next.2 lowest);
-          store = same_store _ _ _ _ size blocks ∙ midway.store;
+          store = same_store _ _ _ _ size (ap (map (block_in (written after end ws)))
+              (told ∙ ap (λ n. slice_set (places_told now) i (placed end n)) (sym count))
+              ∙ blocks-set after end ws fits (places_told now) i (placed end (length ws))
+              (λ j ne. let side = past midway.sliding i place live next.2 lowest j ne in let n = len_le_room row.size in grind arith)
+              ∙ ap (slice_set (stored now after).blocks i)
+              (block_written after end ws fits ∙ sym (get_or-blocks after (places_told now) i ∙ ap (block_in after) live))
+              ∙ set-get_or (stored now after).blocks i None) ∙ midway.store;
           rooms = λ j. ap (λ places. room_of (place_in places j)) told
               ∙ lowered_room midway.sliding i place live next.2 lowest j
               ∙ midway.rooms j;
           moves = record {
             down = λ j. let t = ap (λ places. at_of (place_in places j)) told in
-                omega (arith, lowered_down midway.sliding i place live next.2 lowest j, midway.moves.down j);
+                omega (arith, lowered_down midway.sliding i place live next.2 lowest j);
             order = λ j k some less. let t = ap (λ places. at_of (place_in places j)) told in
                 let u = ap (λ places. at_of (place_in places k)) told in
                 omega (
                   arith,
                   lowered_order midway.sliding i place live next.2 lowest j k
-                      (omega (arith, midway.rooms j, some)) (midway.moves.order j k some less),
+                      (omega arith) (midway.moves.order j k some less),
                 );
           };
         }

@@ -1,5 +1,5 @@
 -- What the rows of a table say of the positions, and what the positions say of the rows.
-use Rattle.mmem_core.proofs.Words.{◌≡◌, ◌≢◌, ℕ, ◌+◌, ◌≤◌, ◌<◌, ◌⊎◌, inl, inr, List, length, Option, Some, None, ap, arith, cases_eq, cases_lt, eq-eqb, up4, number_of, place_in, at_of, room_of, LieApart}
+use Rattle.mmem_core.proofs.Words.{◌≡◌, ◌≢◌, ℕ, ◌+◌, ◌≤◌, ◌<◌, ◌⊎◌, inl, inr, List, length, Option, Some, None, ap, arith, cases_eq, cases_lt, up4, number_of, place_in, at_of, room_of, LieApart}
 use Rattle.mmem_core.specs.declared.place.Place.{Place}
 use Rattle.std.proofs.Math.ListN.{get_or-map}
 use Rattle.std.proofs.lemmas.List.{get_or_past}
@@ -29,24 +29,24 @@ module _ (table : List Block) where
     place_in-told = get_or-map place_told table i (record { place = 0; size = 0 })
 
     pub room_is : room_of (place_in (places_told table) i) ≡ up4 (row_of table i).size
-    room_is = grind (arith, place_in-told, room_told)
+    room_is = grind (arith, place_in-told)
 
     pub at_is : 0 < (row_of table i).size → at_of (place_in (places_told table) i) ≡ (row_of table i).place
-    at_is some = grind (arith, place_in-told, at_told)
+    at_is some = grind (arith, place_in-told)
 
     pub live_below : 0 < (row_of table i).size → i < length table
     live_below some = elim (cases_lt i (length table)) [
       | inl below ↦ below
-      | inr past ↦ absurd (let none = get_or_past table i (record { place = 0; size = 0 }) past in grind arith)
+      | inr past ↦ absurd (grind (arith, get_or_past table i (record { place = 0; size = 0 }) past))
     ]
 
     -- a row with a block has a position, and one without has none
     pub live_is : 0 < (row_of table i).size
         → place_in (places_told table) i ≡ placed (row_of table i).place (row_of table i).size
-    live_is some = grind (arith, place_in-told, told_some)
+    live_is some = grind (arith, place_in-told)
 
     pub unused_is : (row_of table i).size ≡ 0 → place_in (places_told table) i ≡ None
-    unused_is none = grind (arith, place_in-told, eq-eqb)
+    unused_is none = grind (arith, place_in-told)
 
 -- what mmem_core's lemmas require of the positions of a table, and what follows
 module _ (table : List Block) (capacity : ℕ) where
@@ -54,7 +54,7 @@ module _ (table : List Block) (capacity : ℕ) where
   xs = places_told table
 
   pub table_lies : IsTable table capacity → LieApart xs capacity
-  table_lies sound = grind (arith, cases_eq, unused_is, room_is)
+  table_lies sound = grind (arith, unused_is, room_is)
 
   pub table_of : LieApart xs capacity → IsTable table capacity
   table_of lie = grind arith
@@ -79,7 +79,7 @@ module _ (table : List Block) where
 
   module _ (capacity : ℕ) where
     pub table_from : AreSound table capacity (length table) → IsTable table capacity
-    table_from sound = grind (arith, table_of, cases_eq, room_is, at_is, live_below, unused_is)
+    table_from sound = grind (arith, table_of, room_is, at_is, live_below, unused_is)
 
     module _ (i : ℕ) where
       pub row_inside : IsTable table capacity → 0 < (row_of table i).size
@@ -95,6 +95,4 @@ module _ (table : List Block) where
 
       pub row_clear : (j : ℕ) → IsTable table capacity → j ≢ i → EndsBefore (row_of table i) (row_of table j)
       row_clear j sound ne one other le =
-          let a = at_is table i one in let b = at_is table j other in
-          let r = room_is table i in let s = room_is table j in
-          grind arith
+          grind (arith, room_is table j, room_is table i, at_is table j other, at_is table i one)

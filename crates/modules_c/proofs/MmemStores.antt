@@ -6,7 +6,7 @@ use Rattle.mote_types.specs.Bytes.{range_of}
 use Rattle.mmem_core.specs.Code.Conditions.{length_of}
 use Rattle.mmem_core.specs.declared.place.Place.{Place}
 use Rattle.arena_core.proofs.Ranges.{length-written}
-use Rattle.mmem_core.proofs.PlaceLemmas.{placed, len_le_room, end_le_last, last_end-added, LieApart-added, LieApart-freed, LieApart-none}
+use Rattle.mmem_core.proofs.PlaceLemmas.{placed, end_le_last, last_end-added, LieApart-added, LieApart-freed, LieApart-none}
 use Rattle.mmem_core.proofs.StoreLemmas.{block_in, get_or-blocks, sum_same, blocks-set, block_written, unused-added}
 use Rattle.modules_c.specs.declared.mmem.block.Block.{Block}
 use Rattle.modules_c.specs.Mmem.Stored.{place_told, places_told, stored, IsTable, LieNoHigher, KeepOrder, process_of, handle_of, unused_store}
@@ -56,27 +56,28 @@ module _ (table : List Block) (buffer : List ℕ) (i : ℕ) (row : Block) (below
   pub table_added : IsTable added (length (written buffer row.place (zeros row.size)))
   table_added =
       let long = length-map table place_told in
-      let apart = LieApart-added xs i row.size (omega arith) (length buffer) (table_lies table (length buffer) sound) lies.some_bytes
-      (omega (arith, lies.end, lies.room)) in
-      table_of added (length (written buffer row.place (zeros row.size))) (rw (told_added, length-written) apart)
+      table_of added (length (written buffer row.place (zeros row.size)))
+      (rw (told_added, length-written) (LieApart-added xs i row.size (omega arith) (length buffer)
+      (table_lies table (length buffer) sound) lies.some_bytes
+      (omega arith)))
 
   pub last_added : last_end (places_told added) ≡ row.place + up4 row.size
-  last_added = let long = length-map table place_told in let last = last_end-added xs i row.size (omega arith) in
-      rw told_added (last ∙ ap (λ at. at + up4 row.size) (sym lies.end))
+  last_added = let long = length-map table place_told in rw told_added ((last_end-added xs i row.size (omega arith)) ∙ ap
+      (λ at. at + up4 row.size) (sym lies.end))
 
   pub added_behind : IsSomeAnd (place_in (places_told added) i) (λ place. last_end (places_told added) ≡ place.at + up4 row.size)
-  added_behind = let last = last_added in let long = length-map table place_told in let told = told_added in
-      let new = get_or-set_same xs i fresh None (omega arith) in grind (arith, lies.end)
+  added_behind = let last = last_added in let long = length-map table place_told in grind
+      (arith, get_or-set_same xs i fresh None (omega arith), told_added)
 
   pub store_added : stored added (written buffer row.place (zeros row.size))
       ≡ allocated (process_of i) (handle_of i) row.size (stored table buffer)
   store_added =
       let ws = zeros row.size in let count : length ws ≡ row.size = length-replicate row.size 0 in
-      let fits : row.place + length ws ≤ length buffer = omega (arith, len_le_room row.size, lies.room) in
+      let fits : row.place + length ws ≤ length buffer = omega arith in
       let there = told-set table i row ∙ ap (slice_set xs i) (told_some row lies.some_bytes ∙ ap (placed row.place) (sym count)) in
       same_store _ _ _ _ (length-written buffer row.place ws)
       (ap (map (block_in (written buffer row.place ws))) there
-      ∙ blocks-set buffer row.place ws fits xs i (placed row.place (length ws)) (λ j _. inl (omega (arith, end_le_last xs j, lies.end)))
+      ∙ blocks-set buffer row.place ws fits xs i (placed row.place (length ws)) (λ j _. inl (omega (arith, end_le_last xs j)))
       ∙ ap (slice_set (stored table buffer).blocks i) (block_written buffer row.place ws fits)
       ∙ ap (λ k. slice_set (stored table buffer).blocks k (Some ws)) (sym (number_is i)))
 
@@ -102,7 +103,7 @@ table_freed {table = table} {capacity = capacity} i sound below = table_of (slic
 pub no_higher : (old now : List Block) (i : ℕ) (row : Block) → (row_of old i).size ≡ 0
     → ((j : ℕ) → at_of (place_in (places_told now) j) ≤ at_of (place_in (places_told old) j)) → LieNoHigher old (slice_set now i row)
 no_higher old now i row none down j before after e f =
-    grind (arith, cases_eq, unused_is old i none, told-set, get_or-set_other, down j)
+    grind (arith, unused_is old i none, told-set, get_or-set_other)
 
 -- nor do they change their order
 pub same_order : (old now : List Block) (i : ℕ) (row : Block) → (row_of old i).size ≡ 0
@@ -111,7 +112,7 @@ pub same_order : (old now : List Block) (i : ℕ) (row : Block) → (row_of old 
     → at_of (place_in (places_told now) j) < at_of (place_in (places_told now) k))
     → KeepOrder old (slice_set now i row)
 same_order old now i row none some order j k low high new_low new_high e f g h less =
-    grind (arith, cases_eq, unused_is old i none, told-set, get_or-set_other, some j, order j k)
+    grind (arith, unused_is old i none, told-set, get_or-set_other, order j k)
 
 module _ (table : List Block) where
   pub live_none : (buffer : List ℕ) (i : ℕ) → (row_of table i).size ≡ 0 → is_live i (stored table buffer) ≡ false
@@ -142,7 +143,7 @@ module _ (table : List Block) where
           × (block_of (process_of i) (handle_of i) (stored table buffer) ≡ Some (range_of (row_of table i).place len buffer)))
       block_read capacity some room size =
           let at = (row_of table i).place in let len = (row_of table i).size in
-          let fits : at + len ≤ length buffer = omega (arith, len_le_room len) in
+          let fits : at + len ≤ length buffer = omega arith in
           let long = length-range buffer at len fits in
           let block = block_is table buffer i ∙ ap (block_in buffer) (live_is table i some) in
           subst (λ (o : Option (List ℕ)). IsSomeAnd (option_map length o)
@@ -157,10 +158,12 @@ module _ (table : List Block) where
       pub unused_after : (size : ℕ) → i < length table → (row_of table i).size ≡ 0
           → unused (allocated (process_of i) (handle_of i) size (stored table buffer)) ≡ unused (stored table buffer) - up4 size
       unused_after size below none =
-          let number = number_is i in let empty = no_block none in
-          let is = unused-added (stored table buffer) i size
-          (omega (arith, length-map (places_told table) (block_in buffer), length-map table place_told)) in
-          grind arith
+          grind (
+            arith,
+            unused-added (stored table buffer) i size
+                (omega (arith, length-map (places_told table) (block_in buffer), length-map table place_told)),
+            no_block none,
+          )
 
 module _ (count : ℕ) where
   -- a table of such rows

@@ -1,6 +1,5 @@
 use Rattle.std.proofs.Common.{rules, length, sym, subst, ap, ◌∙◌, arith}
 use Rattle.mmem_core.specs.ManagedStore.{unused, allocated}
-use Rattle.std.proofs.lemmas.Bool.Decides.{nat_tests}
 use Rattle.std.proofs.lemmas.List.{length-map}
 use Rattle.modules_c.specs.declared.mmem.block.Block.{Block}
 use Rattle.modules_c.specs.Mmem.Stored.{LieNoHigher, KeepOrder, process_of, handle_of}
@@ -10,31 +9,34 @@ use Rattle.modules_c.proofs.mmem.toarmuts_mmem_alloc.Goals as goal
 
 pub returns-then-has_block-clause-answer : goal.returns-then-has_block-clause-answer
 returns-then-has_block-clause-answer c sound =
-    let live = live_some c.args.blocks.now c.args.buffer.now c.args.handle (c.has_block.ensures.some c.if-has_block.true) in
-    grind (arith, nat_tests, length-map)
+    grind (arith, length-map, live_some c.args.blocks.now c.args.buffer.now c.args.handle (c.has_block.ensures.some c.if-has_block.true))
 
 pub returns-then-size-eq0-clause-answer : goal.returns-then-size-eq0-clause-answer
 returns-then-size-eq0-clause-answer c sound =
-    let dead = live_none c.args.blocks.now c.args.buffer.now c.args.handle (c.has_block.ensures.none c.if-has_block.false) in
-    grind (arith, nat_tests, length-map)
+    grind (arith, length-map, live_none c.args.blocks.now c.args.buffer.now c.args.handle (c.has_block.ensures.none c.if-has_block.false))
 
 pub returns-then-not-fits-clause-answer : goal.returns-then-not-fits-clause-answer
 returns-then-not-fits-clause-answer c sound =
-    let dead = live_none c.args.blocks.now c.args.buffer.now c.args.handle (c.has_block.ensures.none c.if-has_block.false) in
-    let left = unused_left c.args.blocks.now c.args.buffer.now (c.lie_apart.ensures.0 c.if-not-lie_apart.false) in
-    let over = c.fits.ensures.over c.if-not-fits.true in grind (arith, nat_tests, length-map)
+    grind (
+      arith,
+      length-map,
+      unused_left c.args.blocks.now c.args.buffer.now (c.lie_apart.ensures.0 c.if-not-lie_apart.false),
+      live_none c.args.blocks.now c.args.buffer.now c.args.handle (c.has_block.ensures.none c.if-has_block.false),
+    )
 
 pub put_last-requires-clause-unused : goal.put_last-requires-clause-unused
 put_last-requires-clause-unused c =
-    let table = c.args.blocks.now in let i = c.args.handle in
-    still_unused table c.make_room-place.new.blocks c.args.buffer.now c.make_room-place.new.buffer i c.make_room-place.ensures.store
+    still_unused c.args.blocks.now c.make_room-place.new.blocks c.args.buffer.now c.make_room-place.new.buffer c.args.handle c.make_room-place.ensures.store
     (c.has_block.ensures.none c.if-has_block.false)
 
 pub returns-clause-answer : goal.returns-clause-answer
 returns-clause-answer c sound =
-    let dead = live_none c.args.blocks.now c.args.buffer.now c.args.handle (c.has_block.ensures.none c.if-has_block.false) in
-    let left = unused_left c.args.blocks.now c.args.buffer.now (c.lie_apart.ensures.0 c.if-not-lie_apart.false) in
-    let fits = c.fits.ensures.fits c.if-not-fits.false in grind (arith, nat_tests, length-map)
+    grind (
+      arith,
+      length-map,
+      unused_left c.args.blocks.now c.args.buffer.now (c.lie_apart.ensures.0 c.if-not-lie_apart.false),
+      live_none c.args.blocks.now c.args.buffer.now c.args.handle (c.has_block.ensures.none c.if-has_block.false),
+    )
 
 pub returns-clause-given : goal.returns-clause-given
 returns-clause-given c done = record {
@@ -43,31 +45,26 @@ returns-clause-given c done = record {
   still = grind arith;
   together = λ over.
       let table = c.args.blocks.now in let buffer = c.args.buffer.now in let i = c.args.handle in
-      let apart = c.lie_apart.ensures.0 c.if-not-lie_apart.false in
-      let none = c.has_block.ensures.none c.if-has_block.false in
-      let taken = ap (allocated (process_of i) (handle_of i) c.args.size) c.make_room-place.ensures.store in
-      let left = ap unused (c.put_last.ensures.store ∙ taken) ∙ unused_after table buffer i c.args.size c.if-handle-blocks.false none in
+      let left = ap unused (c.put_last.ensures.store ∙ (ap (allocated (process_of i)
+      (handle_of i) c.args.size) c.make_room-place.ensures.store)) ∙ unused_after table buffer i c.args.size c.if-handle-blocks.false
+      (c.has_block.ensures.none c.if-has_block.false) in
       omega (
         arith,
-        left,
-        unused_left table buffer apart,
+        unused_left table buffer (c.lie_apart.ensures.0 c.if-not-lie_apart.false),
         c.put_last.ensures.last,
         c.make_room-place.ensures.together over,
-        c.fits.ensures.fits c.if-not-fits.false,
         c.left_over.ensures,
       );
   down =
-      let table = c.args.blocks.now in let i = c.args.handle in
-      let none = c.has_block.ensures.none c.if-has_block.false in
-      let block : Block = record { place = c.make_room-place.result; size = c.args.size } in
+      let table = c.args.blocks.now in let block : Block = record { place = c.make_room-place.result; size = c.args.size } in
       subst (LieNoHigher table) (sym c.put_last.ensures.row)
-      (no_higher table c.make_room-place.new.blocks i block none c.make_room-place.ensures.moves.down);
+      (no_higher table c.make_room-place.new.blocks c.args.handle block
+      (c.has_block.ensures.none c.if-has_block.false) c.make_room-place.ensures.moves.down);
   order =
-      let table = c.args.blocks.now in let i = c.args.handle in
-      let none = c.has_block.ensures.none c.if-has_block.false in
-      let lies = table_lies table (length c.args.buffer.now) (c.lie_apart.ensures.0 c.if-not-lie_apart.false) in
-      let block : Block = record { place = c.make_room-place.result; size = c.args.size } in
+      let table = c.args.blocks.now in let block : Block = record { place = c.make_room-place.result; size = c.args.size } in
       subst (KeepOrder table) (sym c.put_last.ensures.row)
-      (same_order table c.make_room-place.new.blocks i block none lies.no_empty c.make_room-place.ensures.moves.order);
+      (same_order table c.make_room-place.new.blocks c.args.handle block (c.has_block.ensures.none c.if-has_block.false)
+      (table_lies table (length c.args.buffer.now)
+      (c.lie_apart.ensures.0 c.if-not-lie_apart.false)).no_empty c.make_room-place.ensures.moves.order);
   behind = grind arith;
 }

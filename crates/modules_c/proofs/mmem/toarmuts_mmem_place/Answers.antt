@@ -11,7 +11,7 @@ returns-then-not-has_block-clause-none c same sound buffer =
           ↦ no_block c.args.blocks.now buffer c.args.handle (c.has_block.ensures.none w.if-not-has_block.true)
       | then-not-has_block-via-else-not-has_block+then-not-lies_inside w ↦
           let out = w.lies_inside.ensures.outside w.if-not-lies_inside.true in
-          absurd (omega (arith, row_inside c.args.blocks.now c.args.capacity c.args.handle sound out.0, out.1))
+          absurd (omega (arith, row_inside c.args.blocks.now c.args.capacity c.args.handle sound out.0))
     ]
 
 pub returns-then-not-has_block-clause-outside : goal.returns-then-not-has_block-clause-outside

@@ -1,7 +1,6 @@
 use Rattle.std.proofs.Common.{length, arith}
-use Rattle.std.specs.Option.{is_some}
 use Rattle.modules_c.proofs.HeapmemEdits.{no_block, free_inside}
-use Rattle.modules_c.proofs.HeapmemMoves.{some_and, found_at, new_in_place, new_elsewhere, resize_refused}
+use Rattle.modules_c.proofs.HeapmemMoves.{found_at}
 use Rattle.modules_c.proofs.HeapmemTables.{places_rise, row_lies}
 use Rattle.modules_c.proofs.heapmem.block.realloc.Goals as goal
 
@@ -9,19 +8,19 @@ pub returns-in_default-clause-answer : goal.returns-in_default-clause-answer
 returns-in_default-clause-answer c = grind (arith, no_block)
 
 pub returns-in-Some-room_in_place-clause-answer : goal.returns-in-Some-room_in_place-clause-answer
-returns-in-Some-room_in_place-clause-answer c = grind (arith, new_in_place, some_and, found_at, is_some)
+returns-in-Some-room_in_place-clause-answer c = grind (arith, found_at)
 
 pub returns-in-Some-room_in_place-clause-block : goal.returns-in-Some-room_in_place-clause-block
-returns-in-Some-room_in_place-clause-block c done = grind (arith, new_in_place, some_and, found_at)
+returns-in-Some-room_in_place-clause-block c done = grind (arith, found_at)
 
 pub returns-in-Err-clause-answer : goal.returns-in-Err-clause-answer
-returns-in-Err-clause-answer c = grind (arith, resize_refused, found_at)
+returns-in-Err-clause-answer c = grind (arith, found_at)
 
 pub returns-clause-answer : goal.returns-clause-answer
-returns-clause-answer c = grind (arith, new_elsewhere, some_and, found_at, is_some)
+returns-clause-answer c = grind (arith, found_at)
 
 pub returns-clause-block : goal.returns-clause-block
-returns-clause-block c done = grind (arith, new_elsewhere, some_and, found_at)
+returns-clause-block c done = grind (arith, found_at)
 
 pub resize-requires-clause-small : goal.resize-requires-clause-small
 resize-requires-clause-small c = grind (arith, row_lies)

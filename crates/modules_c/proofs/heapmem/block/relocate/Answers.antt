@@ -9,7 +9,7 @@ use Rattle.modules_c.proofs.heapmem.block.relocate.Goals as goal
 
 pub carry-requires-clause-source : goal.carry-requires-clause-source
 carry-requires-clause-source c =
-    let lies = row_lies c.args.rows.now (length c.args.bytes.now) c.args.number c.requires.table c.requires.there in grind arith
+    grind (arith, row_lies c.args.rows.now (length c.args.bytes.now) c.args.number c.requires.table c.requires.there)
 
 pub carry-requires-clause-target : goal.carry-requires-clause-target
 carry-requires-clause-target c = grind (arith, free_inside)

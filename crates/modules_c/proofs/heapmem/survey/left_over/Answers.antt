@@ -12,11 +12,10 @@ pub loop-row-preserved : goal.loop-row-preserved
 loop-row-preserved c =
     let rows = c.args.rows.now in let i = c.loop-row.row-index in
     let d : Row = grind arith in
-    let row = slice_index_or rows i d in let left = drop (i + 1) rows in
     rw c.room_of.ensures
-    (counted_more rows c.args.capacity c.loop-row.free c.loop-row.end row left
+    (counted_more rows c.args.capacity c.loop-row.free c.loop-row.end (slice_index_or rows i d) (drop (i + 1) rows)
     (subst (IsCounted rows c.args.capacity c.loop-row.free c.loop-row.end)
-    (drop_more rows i d (omega (arith, c.loop-row-test.true, c.loop-row.auto.row-index-end))) c.loop-row.invariant))
+    (drop_more rows i d (omega arith)) c.loop-row.invariant))
 
 pub overflow_add-end : goal.overflow_add-end
-overflow_add-end c = grind (arith, slice_index_or, drop_more, lie_le)
+overflow_add-end c = grind (arith, drop_more, lie_le)

@@ -3,7 +3,6 @@ use Rattle.std.proofs.lemmas.List.{drop_more}
 use Rattle.modules_c.specs.declared.heapmem.row.Row.{Row}
 use Rattle.modules_c.specs.declared.heapmem.row.Hole.{Hole}
 use Rattle.modules_c.specs.Heapmem.Heaps.{room_of}
-use Rattle.modules_c.proofs.HeapmemTables.{lie_le}
 use Rattle.modules_c.proofs.HeapmemWalks.{IsMidway, midway_gap}
 use Rattle.modules_c.proofs.heapmem.survey.look_over.Goals as goal
 use Rattle.modules_c.proofs.heapmem.survey.look_over.Goals.{then-end-row, else-end-row}
@@ -12,7 +11,7 @@ pub loop-row-init : goal.loop-row-init
 loop-row-init c = grind arith
 
 pub returns-in_default-clause-none : goal.returns-in_default-clause-none
-returns-in_default-clause-none c table = grind (arith, slice_index_or, drop_more, lie_le)
+returns-in_default-clause-none c table = grind (arith, drop_more)
 
 pub loop-row-preserved : goal.loop-row-preserved
 loop-row-preserved c =
@@ -22,7 +21,7 @@ loop-row-preserved c =
     let found = c.in-Some.ensures.some in let best = c.loop-row.best in let from = c.loop-row.end in
     let end_is : c.if-end-row.end ≡ row.place + room_of row =
     grind arith in
-    let more = drop_more rows i d (omega (arith, c.loop-row-test.true, c.loop-row.auto.row-index-end)) in (
+    let more = drop_more rows i d (omega arith) in (
       grind arith,
       λ table.
           let midway = subst (IsMidway rows capacity need best from) more (c.loop-row.invariant.1 table) in

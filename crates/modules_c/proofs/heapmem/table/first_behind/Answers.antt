@@ -6,16 +6,19 @@ use Rattle.modules_c.proofs.heapmem.table.first_behind.Goals as goal
 
 pub returns-clause-below : goal.returns-clause-below
 returns-clause-below c j less =
-    let rows = c.args.rows.now in let place = c.args.place in
-    let point = c.partition_point.ensures.partitioned (λ (row : Row). leb row.place place)
-    (always_returns_same _ _ _ (λ a r f k. search (rules, of_calls)))
-    (IsPartitionedBy-leb (λ (row : Row). row.place) rows place c.requires) in
-    grind arith
+    let place = c.args.place in
+    grind (
+      arith,
+      c.partition_point.ensures.partitioned (λ (row : Row). leb row.place place)
+          (always_returns_same _ _ _ (λ a r f k. search (rules, of_calls)))
+          (IsPartitionedBy-leb (λ (row : Row). row.place) c.args.rows.now place c.requires),
+    )
 
 pub returns-clause-above : goal.returns-clause-above
 returns-clause-above c less =
-    let rows = c.args.rows.now in let place = c.args.place in let i = c.partition_point.result in
-    let point = c.partition_point.ensures.partitioned (λ (row : Row). leb row.place place)
-    (always_returns_same _ _ _ (λ a r f k. search (rules, of_calls)))
-    (IsPartitionedBy-leb (λ (row : Row). row.place) rows place c.requires) in
-    grind arith
+    let place = c.args.place in grind (
+      arith,
+      c.partition_point.ensures.partitioned (λ (row : Row). leb row.place place)
+          (always_returns_same _ _ _ (λ a r f k. search (rules, of_calls)))
+          (IsPartitionedBy-leb (λ (row : Row). row.place) c.args.rows.now place c.requires),
+    )

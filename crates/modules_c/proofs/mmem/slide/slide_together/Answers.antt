@@ -1,28 +1,27 @@
-use Rattle.std.proofs.Common.{arith, slice_index_or}
-use Rattle.mmem_core.proofs.PlaceLemmas.{len_le_room, last_le}
+use Rattle.std.proofs.Common.{arith}
+use Rattle.mmem_core.proofs.PlaceLemmas.{last_le}
 use Rattle.modules_c.proofs.MmemMidway.{midway_first, next_inside, midway_more, end_is}
 use Rattle.modules_c.proofs.mmem.slide.slide_together.Goals as goal
 
 pub copy-requires-clause-source : goal.copy-requires-clause-source
-copy-requires-clause-source c = grind (arith, next_inside, slice_index_or, len_le_room)
+copy-requires-clause-source c = grind (arith, next_inside)
 
 pub copy-requires-clause-target : goal.copy-requires-clause-target
-copy-requires-clause-target c = grind (arith, next_inside, slice_index_or, len_le_room)
+copy-requires-clause-target c = grind (arith, next_inside)
 
 pub rounded-end-requires : goal.rounded-end-requires
-rounded-end-requires c = grind (arith, next_inside)
+rounded-end-requires c = grind arith
 
 pub overflow_add-end : goal.overflow_add-end
-overflow_add-end c = grind (arith, next_inside)
+overflow_add-end c = grind arith
 
 pub loop-number-smaller : goal.loop-number-smaller
 loop-number-smaller c = grind (arith, next_inside)
 
 pub loop-number-preserved : goal.loop-number-preserved
 loop-number-preserved c =
-    let l = c.loop-number in
     rw (c.copy.ensures, c.rounded-end.ensures)
-    (midway_more l.invariant c.in-Some.number c.in-Some.ensures)
+    (midway_more c.loop-number.invariant c.in-Some.number c.in-Some.ensures)
 
 pub returns-clause-end : goal.returns-clause-end
 returns-clause-end c = grind (arith, end_is)
