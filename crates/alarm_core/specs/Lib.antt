@@ -1,4 +1,4 @@
 -- The definitions that a reader must believe.
 pub mod Alarms
--- What the code keeps.
+-- The code's invariants.
 pub mod Code

@@ -5,7 +5,7 @@ use Rattle.mote_text.specs.EntryText.{Word, call_words}
 use Rattle.call_lists.specs.Spaced.{spaced}
 use Rattle.mote_types.specs.declared.call.Call.{Call}
 
--- the digits A to F in lower case, and all else unchanged
+-- the digits A to F in lower case, and all other text unchanged
 abbrev pub hex_lowered : List ℕ → List ℕ
 hex_lowered text = map (λ c. if nat_le 65 c && nat_le c 70 then c + 32 else c) text
 

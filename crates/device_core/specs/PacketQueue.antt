@@ -8,7 +8,7 @@ use Rattle.device_core.specs.declared.frame.Frame.{Frame}
 
 pub record PacketQueue : Type 0 where
   pub frames : List Frame
-  -- the number of the first ones that were announced to the receiver
+  -- how many of the first frames were announced to the receiver
   pub announced : ℕ
   pub receiver : Option ProcessNumber
 
@@ -21,29 +21,25 @@ is_full queue = not (nat_lt (length queue.frames) held_frames)
 abbrev pub is_held : PacketQueue → ℕ → Bool
 is_held queue slot = list_any (λ frame. frame.slot == slot) queue.frames
 
--- the least slot that no held frame has
 unfoldable pub free_slot : PacketQueue → Option ℕ
 free_slot queue = find (λ slot. not (is_held queue slot)) (0 ∷ 1 ∷ 2 ∷ 3 ∷ 4 ∷ 5 ∷ 6 ∷ 7 ∷ [])
 
 abbrev pub with_frame : ℕ → ℕ → PacketQueue → PacketQueue
 with_frame slot len queue = record queue { frames = queue.frames ++ record { slot = slot; len = len } ∷ [] }
 
--- the frame that arrived first
 abbrev pub front : PacketQueue → Option Frame
 front queue = slice_get queue.frames 0
 
 abbrev pub front_slot : PacketQueue → Option ℕ
 front_slot queue = option_map (λ frame. frame.slot) (front queue)
 
--- the first frame that wasn't announced to the receiver
 abbrev pub unannounced : PacketQueue → Option Frame
 unannounced queue = slice_get queue.frames queue.announced
 
--- one more was announced to the receiver
 abbrev pub with_announced : PacketQueue → PacketQueue
 with_announced queue = record queue { announced = queue.announced + 1 }
 
--- the number of announced frames is one lower, and stays 0 where it was 0
+-- the number of announced frames decreases by one, but not below 0
 abbrev pub without_front : PacketQueue → PacketQueue
 without_front queue = record queue { frames = drop 1 queue.frames; announced = queue.announced - 1 }
 
@@ -53,6 +49,6 @@ with_receiver p queue = record queue { receiver = Some p }
 abbrev pub is_receiver : PacketQueue → ProcessNumber → Bool
 is_receiver queue p = option_map_or (λ receiver. receiver == p) queue.receiver false
 
--- p has ended. If it was the receiver, there is none now, and no frame counts as announced
+-- p has ended. If it was the receiver, there is no receiver, and no frame counts as announced
 abbrev pub forgotten : ProcessNumber → PacketQueue → PacketQueue
 forgotten p queue = if is_receiver queue p then record queue { receiver = None; announced = 0 } else queue

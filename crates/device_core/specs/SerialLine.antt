@@ -33,15 +33,14 @@ after_bytes serial bytes = fold after_byte serial bytes
 abbrev pub has_line : SerialLine → Bool
 has_line serial = list_any is_line_end serial.ring
 
--- a line keeps its first bytes
+-- of a line that is too long only its first bytes are kept
 abbrev pub with_bytes : Bytes → Bytes → Bytes
 with_bytes line bytes = take line_bytes (line ++ bytes)
 
--- the next whole line in the ring
 abbrev pub next_line : SerialLine → Option Bytes
 next_line serial = if has_line serial then Some (with_bytes serial.line (before_first is_line_end serial.ring)) else None
 
--- what stays after it; where no whole line is left, all bytes go into the line that began
+-- the state after the next whole line was taken. Without one, all bytes of the ring go into the line that began
 abbrev pub after_line : SerialLine → SerialLine
 after_line serial =
     if has_line serial

@@ -1,4 +1,4 @@
--- Heap memory as its users see it: blocks that have a position in the region, and the gaps between them.
+-- Heap memory as its users see it: blocks at positions in the region, and the gaps between them.
 use Rattle.std.specs.Prelude.{ℕ, ◌+◌, ◌-◌, ◌*◌, max, Bool, not, List, [], ◌∷◌, length, map, filter, find, fold, sum_by, Option, Some, None, if◌then◌else◌, ◌==◌, nat_lt, nat_le}
 use Rattle.std.specs.Option.{option_map, option_map_or, option_or}
 use Rattle.mote_types.specs.Kinds.{ProcessNumber, Handle, Offset, Bytes}
@@ -9,7 +9,7 @@ use Rattle.mote_types.specs.Bytes.{zeros, overwritten, resized}
 use Rattle.heap_core.specs.declared.chunk.Gap.{Gap}
 use Rattle.heap_core.specs.declared.chunk.Place.{Place}
 
--- a block begins with its header; room is what it may hold after that
+-- a block begins with its header; room is the number of bytes that it may hold after the header
 pub record Block : Type 0 where
   -- the number of its name
   pub name : ℕ
@@ -33,7 +33,6 @@ has_name name block = block.name == name
 abbrev pub find_block : ℕ → HeapStore → Option Block
 find_block name heap = find (has_name name) heap.blocks
 
--- the bytes of p's block, if it is live
 abbrev pub block_of : ProcessNumber → Handle → HeapStore → Option Bytes
 block_of p h heap = option_map (λ (block : Block). block.bytes) (find_block (number_of p h) heap)
 
@@ -49,7 +48,7 @@ footprint heap = fold (λ _ block. end_of heap.header block) 0 heap.blocks
 abbrev pub top_gap : HeapStore → ℕ
 top_gap heap = heap.size - footprint heap
 
--- these gaps, and before them what is between two positions, where that is not empty
+-- the range from one position to another, if it is not empty, is put before these gaps
 abbrev pub gap_between : ℕ → ℕ → List Gap → List Gap
 gap_between from to gaps = if nat_lt from to then record { at = from; len = to - from } ∷ gaps else gaps
 
@@ -66,37 +65,32 @@ gaps heap = gaps_from heap.header 0 heap.blocks
 abbrev pub least_room : ℕ → ℕ → ℕ
 least_room header n = max (up4 n) (if header == 16 then 4 else 8)
 
--- the room that a block takes of that much: what is left stays a gap only where it exceeds 16
+-- the room that a block takes of the available room: the remainder stays a gap only if it exceeds 16 bytes
 abbrev pub room_taken : ℕ → ℕ → ℕ
 room_taken least available = if nat_lt 16 (available - least) then least else available
 
--- the shorter gap, and the first on a tie
 abbrev pub shorter : Gap → Gap → Gap
 shorter first second = if nat_lt second.len first.len then second else first
 
--- the better one for n bytes of a gap found before, if there is one, and this one
 abbrev pub better : ℕ → Option Gap → Gap → Option Gap
 better need best gap = if nat_le need gap.len then Some (option_map_or (λ other. shorter other gap) best gap) else best
 
--- the shortest gap of that length at least, and the lowest on a tie
+-- best fit: the shortest gap of at least this length; on a tie, the lowest one
 abbrev pub best_gap : ℕ → List Gap → Option Gap
 best_gap need gaps = fold (better need) None gaps
 
--- a block of so much room at the front of a gap
 abbrev pub place_in : ℕ → ℕ → Gap → Place
 place_in header room gap = record { at = gap.at; room = room_taken room (gap.len - header) }
 
--- the position at the front of the top gap, if it is long enough
 abbrev pub top_place : ℕ → HeapStore → Option Place
 top_place room heap = if nat_le (heap.header + room) (top_gap heap) then Some (record { at = footprint heap; room = room }) else None
 
--- where a block of n bytes is placed
+-- where a new block of n bytes is placed: in the best gap, otherwise in the top gap
 abbrev pub place : ℕ → HeapStore → Option Place
 place n heap =
     let room = least_room heap.header n in
     option_or (option_map (place_in heap.header room) (best_gap (heap.header + room) (gaps heap))) (top_place room heap)
 
--- the blocks with one more, in the order of their positions
 abbrev pub placed : Block → List Block → List Block
 placed block [] = block ∷ []
 placed block (other ∷ blocks) = if nat_lt block.at other.at then block ∷ (other ∷ blocks) else other ∷ placed block blocks
@@ -110,21 +104,21 @@ without_block name heap = record heap { blocks = filter (λ block. not (has_name
 abbrev pub block_at : Place → ℕ → Bytes → Block
 block_at place name bytes = record { name = name; at = place.at; room = place.room; bytes = bytes }
 
--- the heap with a new block of n zeros, or nothing where no gap fits it
+-- the heap with a new block of n zeros, or None if no gap fits it
 abbrev pub allocated : ProcessNumber → Handle → ℕ → HeapStore → Option HeapStore
 allocated p h n heap = option_map (λ place. with_block (block_at place (number_of p h) (zeros n)) heap) (place n heap)
 
 abbrev pub freed : ProcessNumber → Handle → HeapStore → HeapStore
 freed p h = without_block (number_of p h)
 
--- the length of the gap below the top gap that begins there
+-- the length of the gap that begins at this position; 0 if there is none. The top gap is left out
 abbrev pub gap_at : ℕ → HeapStore → ℕ
 gap_at at heap = option_map_or (λ (gap : Gap). gap.len) (find (λ (gap : Gap). gap.at == at) (gaps heap)) 0
 
 abbrev pub place_of : Block → Place
 place_of block = record { at = block.at; room = block.room }
 
--- the room of the block at a position, resized to n bytes where it is, if it can be: from its room, and the gap after it
+-- the room of a block after a resize to n bytes that doesn't move it, if there is one: it may use its own room and the gap after it
 abbrev pub room_in_place : Place → ℕ → HeapStore → Option ℕ
 room_in_place place n heap =
     let least = least_room heap.header n in
@@ -136,20 +130,18 @@ room_in_place place n heap =
     else if nat_le least with_gap then Some (room_taken least with_gap)
     else None
 
--- where a live block is after it was resized to n bytes, if it fits somewhere
+-- where a live block is after a resize to n bytes, if it fits anywhere
 abbrev pub new_place : Place → ℕ → HeapStore → Option Place
 new_place old n heap =
     option_or (option_map (λ room. let new : Place = record { at = old.at; room = room } in new) (room_in_place old n heap)) (place n heap)
 
--- the block at another position, or with another room, and resized to n bytes
 abbrev pub moved : Place → Block → ℕ → HeapStore → HeapStore
 moved place block n heap = with_block (block_at place block.name (resized n block.bytes)) (without_block block.name heap)
 
--- the heap after a live block was resized to n bytes, or nothing where no gap fits it
+-- the heap after a live block was resized to n bytes, or None if no gap fits it
 abbrev pub resized_block : Block → ℕ → HeapStore → Option HeapStore
 resized_block block n heap = option_map (λ place. moved place block n heap) (new_place (place_of block) n heap)
 
--- the same for p's block, which is live
 abbrev pub reallocated : ProcessNumber → Handle → ℕ → HeapStore → Option HeapStore
 reallocated p h n heap = option_map_or (λ block. resized_block block n heap) (find_block (number_of p h) heap) None
 

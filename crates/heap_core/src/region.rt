@@ -6,7 +6,7 @@ use arena_core::Span;
 use mote_types::block_name::NAMES;
 
 /// The span of a heap, the length of its headers, how much of it is divided into chunks, and where the chunk of each name's
-/// block begins. Everything else is in the headers.
+/// block begins. All other data is in the headers.
 #[derive(Drop)]
 pub struct Region {
     pub span: Span,

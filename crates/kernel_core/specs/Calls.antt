@@ -1,4 +1,4 @@
--- What follows a call of an application: its refusals in the order in which they are checked, its effect, and its reply.
+-- The calls of applications: the refusals of each in the order in which they are checked, its effect, and its reply.
 use Rattle.std.specs.Prelude.{Bool, not, ◌&&◌, ◌==◌, length, Option, Some, None, if◌then◌else◌, nat_lt}
 use Rattle.std.specs.Option.{option_or}
 use Rattle.mote_types.specs.Kinds.{ProcessNumber, EventCode, TimerNumber}
@@ -27,7 +27,6 @@ use Rattle.kernel_core.specs.PacketCalls.{open_refusal, receiver_claimed, front_
 use Rattle.timer_core.specs.Names.{event_timer, callback_timer}
 use Rattle.timer_core.specs.Timers.{set_timer, stop_timer, reset_timer, restart_timer, can_reset, is_armed}
 
--- the call of p is refused, or this is the machine after it
 abbrev pub refused_or : Option Refusal → ProcessNumber → Machine → Machine → Machine
 refused_or None p m after = after
 refused_or (Some refusal) p m after = refuse p refusal m
@@ -38,11 +37,9 @@ answer_done p = answer p Reply.Done
 abbrev pub event_of : EventCode → Payload → Event
 event_of code payload = record { code = code; payload = payload }
 
--- a broadcast of an application: of no event reserved for the kernel
 abbrev pub broadcast_call_refusal : Machine → EventCode → Option Refusal
 broadcast_call_refusal m code = if is_reserved code then Some Refusal.Reserved else post_refusal m.scheduler
 
--- a post of an application: to one of this mote, otherwise as a broadcast
 abbrev pub post_call_refusal : Machine → ProcessNumber → EventCode → Option Refusal
 post_call_refusal m q code = option_or (application_refusal m.scheduler q) (broadcast_call_refusal m code)
 

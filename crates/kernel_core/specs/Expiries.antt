@@ -1,4 +1,4 @@
--- The expiries of callback timers that wait in the queue: they are cancelled where their timer is set or stopped.
+-- The queued expiries of callback timers: they are cancelled when their timer is set or stopped.
 use Rattle.std.specs.Prelude.{Bool, ◌||◌, map}
 use Rattle.mote_types.specs.Kinds.{ProcessNumber, TimerNumber}
 use Rattle.process_core.specs.Agenda.{Queued}

@@ -13,5 +13,5 @@ pub mod SerialProcess
 pub mod TimerProcesses
 -- What a run shows.
 pub mod Laws
--- What the code keeps.
+-- The code's invariants.
 pub mod Code

@@ -1,4 +1,4 @@
--- The state of the mote: its clock, its work, what the scheduler has, its timers, its memory and its devices.
+-- The state of the mote: its clock, its work, its scheduler, its timers, its memory and its devices.
 use Rattle.std.specs.Prelude.{ℕ, ◌-◌, Bool, false, ◌&&◌, [], ◌∷◌, length, nat_le}
 use Rattle.mote_types.specs.Kinds.{ProcessNumber, Ticks}
 use Rattle.mote_types.specs.Limits.{most_applications, queue_places}
@@ -33,7 +33,6 @@ pub record Machine : Type 0 where
 abbrev pub sizes_of : Config → Sizes
 sizes_of c = record { mmem = c.mmem; heap = c.heap; header = c.header; quota = c.quota }
 
--- the configurations that a mote boots with
 abbrev pub is_bootable : Config → Bool
 is_bootable c = are_sizes (sizes_of c) c.apps && nat_le c.apps most_applications
 
@@ -63,14 +62,12 @@ with_serial serial m = record m { serial = serial }
 abbrev pub with_packets : PacketQueue → Machine → Machine
 with_packets packets m = record m { packets = packets }
 
--- a change of only the scheduler
 abbrev pub scheduled : (Scheduler Bool → Scheduler Bool) → Machine → Machine
 scheduled change m = record m { scheduler = change m.scheduler }
 
 abbrev pub with_event : Queued Bool → Machine → Machine
 with_event event = scheduled (posted event)
 
--- the slots of the event queue that no event has
 abbrev pub free_places : Machine → ℕ
 free_places m = queue_places - length m.scheduler.events
 

@@ -47,7 +47,6 @@ front_read_refusal p at len m =
 abbrev pub front_read : Offset → ℕ → Machine → Reply
 front_read at len m = Reply.Bytes (record { items = range_of at len (front_bytes m) })
 
--- the front frame is gone, and its block is freed
 abbrev pub front_dropped : Option Handle → Machine → Machine
 front_dropped None m = m
 front_dropped (Some slot) m = with_memory (frame_dropped slot m.memory) (with_packets (without_front m.packets) m)

@@ -18,26 +18,23 @@ announce_to (Some receiver) (Some frame) m =
     with_event (Queued.To receiver (number_event PACKET frame.len)) (with_packets (with_announced m.packets) m)
 announce_to _ _ m = m
 
--- the first frame that wasn't announced is announced to the receiver
 abbrev pub announce_next : Machine → Machine
 announce_next m = announce_to m.packets.receiver (unannounced m.packets) m
 
--- there is a receiver, and a frame that wasn't announced
 abbrev pub has_news : PacketQueue → Bool
 has_news queue = is_some queue.receiver && is_some (unannounced queue)
 
--- For each free slot of the queue the next frame is announced. Where one is left, process 3 looks again
+-- For each free slot of the queue the next frame is announced. If a frame is left, process 3 is polled again
 abbrev pub announce : Machine → Machine
 announce m =
     let after = times (free_places m) announce_next m in
     if has_news after.packets then mark packet_process after else after
 
--- where the receiver has ended there is none, and no frame counts as announced
+-- if the receiver has ended, there is no receiver, and no frame counts as announced
 abbrev pub forget_receiver : Option ProcessNumber → Machine → Machine
 forget_receiver None m = m
 forget_receiver (Some p) m = with_packets (forgotten p m.packets) m
 
--- process 3: what it does with an event
 abbrev pub packet : Event → Machine → Machine
 packet event m =
     if event.code == POLL then announce m

@@ -1,4 +1,4 @@
--- The run of the mote: what its machine makes of the inputs and of the calls of the applications.
+-- The run of the mote: the entries that its machine makes, from the inputs and the calls of the applications.
 use Rattle.std.specs.Prelude.{◌≡◌, ℕ, zero, suc, ◌+◌, Bool, true, false, not, ◌&&◌, ◌||◌, List, [], ◌∷◌, ◌++◌, filter_map, Option, Some, None, option_to_list, if◌then◌else◌, ◌==◌}
 use Rattle.mote_types.specs.Kinds.{ProcessNumber}
 use Rattle.mote_types.specs.declared.call.Call.{Call}
@@ -31,11 +31,10 @@ silent m = (m, None)
 abbrev pub work_limit : ℕ
 work_limit = 10000
 
--- a turn or a round would begin; where the work is at its limit, the run is halted instead
+-- a turn or a round begins, unless the work is at its limit: then the run is halted instead
 abbrev pub within_limit : Machine → StepMade → StepMade
 within_limit m step = if m.work == work_limit then (record m { is_halted = true }, Some Entry.Halt) else step
 
--- one more turn or round was begun
 abbrev pub with_more_work : Machine → Machine
 with_more_work m = record m { work = m.work + 1 }
 
@@ -53,7 +52,7 @@ job_done answers (Some Job.Round) m = within_limit m (silent (with_more_work m))
 job_done answers (Some Job.Rest) m = silent m
 job_done answers None m = silent m
 
--- one item of the agenda is worked off
+-- one item of the agenda is executed
 abbrev pub one_step : Answers → Machine → StepMade
 one_step answers m = if m.is_halted then silent m else job_done answers (job m.scheduler) (scheduled after_front m)
 
@@ -65,7 +64,6 @@ is_at_rest m = not m.is_halted && is_idle m.scheduler
 abbrev pub is_still : Machine → Bool
 is_still m = m.is_halted || is_at_rest m
 
--- the stimulus of an entry that is a turn of p
 abbrev pub stimulus_of : ProcessNumber → Entry → Option Stimulus
 stimulus_of p (Entry.Turn pid origin stimulus call) = if pid.0 == p then Some stimulus else None
 stimulus_of p _ = None

@@ -15,28 +15,27 @@ use Rattle.kernel_core.specs.Repeating.{times}
 abbrev pub line_event : Bytes → Event
 line_event line = record { code = SERIAL_LINE; payload = Payload.Line (line_of line) }
 
--- the line is broadcast. It is lost where the queue is full
+-- the line is broadcast. It is lost if the queue is full
 abbrev pub broadcast_line : Bytes → Machine → Machine
 broadcast_line line m = if has_room m.scheduler then with_event (Queued.ToAll (line_event line)) m else m
 
--- CONTINUE is posted to process 2, which waits for it. Where the queue is full it does not wait
+-- CONTINUE is posted to process 2, which waits for it. If the queue is full, it does not wait
 abbrev pub post_continue : Machine → Machine
 post_continue m =
     if has_room m.scheduler
     then with_event (Queued.To serial_line_process (plain_event CONTINUE)) (record m { is_serial_waiting = true })
     else m
 
--- the line is broadcast, and the process goes on after all that waits now
+-- the line is broadcast, and the process continues after all events that are in the queue now
 abbrev pub line_served : Option Bytes → Machine → Machine
 line_served None m = m
 line_served (Some line) m = post_continue (broadcast_line line m)
 
--- The next whole line leaves the ring and is broadcast; where there is none, the bytes in the ring go into the line that began.
--- While process 2 waits, the ring stays as it is
+-- The next whole line leaves the ring and is broadcast. Without one, the bytes in the ring go into the line that began.
+-- While process 2 waits, the ring doesn't change
 abbrev pub serve_line : Machine → Machine
 serve_line m = if m.is_serial_waiting then m else line_served (next_line m.serial) (with_serial (after_line m.serial) m)
 
--- the number of whole lines in the ring
 abbrev pub line_count : SerialLine → ℕ
 line_count serial = length (filter is_line_end serial.ring)
 
@@ -51,7 +50,6 @@ serial_line_polled m = if m.is_serial_waiting then m else empty_ring m
 abbrev pub serial_line_continued : Machine → Machine
 serial_line_continued m = empty_ring (record m { is_serial_waiting = false })
 
--- process 2: what it does with an event
 abbrev pub serial_line : Event → Machine → Machine
 serial_line event m =
     if event.code == POLL then serial_line_polled m

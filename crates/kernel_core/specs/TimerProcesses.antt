@@ -18,7 +18,7 @@ abbrev pub exited_application : Payload → Option ProcessNumber
 exited_application (Payload.Num p) = if nat_le first_application p && nat_le p last_application then Some p else None
 exited_application _ = None
 
--- what is posted where a timer runs out
+-- the event that is posted when a timer expires
 abbrev pub expiry_of : Timer → Queued Bool
 expiry_of (Timer.Event p t) = Queued.To p.0 (number_event TIMER t)
 expiry_of (Timer.Callback p c) = Queued.Expiry p.0 c false
@@ -28,14 +28,13 @@ abbrev pub post_expiry : Option Timer → Machine → Machine
 post_expiry None m = m
 post_expiry (Some timer) m = with_event (expiry_of timer) (with_timers (stop_timer timer m.timers) m)
 
--- the first timer of the list that is due is posted
 abbrev pub post_first_due : Machine → Machine
 post_first_due m = post_expiry (first_due m.clock m.timers) m
 
 abbrev pub is_any_due : Machine → Bool
 is_any_due m = is_some (first_due m.clock m.timers)
 
--- For each free slot of the queue the first due timer is posted. Where a due one is left, etimer looks again
+-- For each free slot of the queue the first due timer is posted. If a due timer is left, etimer is polled again
 abbrev pub post_due : Machine → Machine
 post_due m =
     let after = times (free_places m) post_first_due m in
@@ -46,7 +45,6 @@ abbrev pub forget_event_timers : Option ProcessNumber → Machine → Machine
 forget_event_timers None m = m
 forget_event_timers (Some p) m = with_timers (without_event_timers p m.timers) m
 
--- process 0: what it does with an event
 abbrev pub etimer : Event → Machine → Machine
 etimer event m =
     if event.code == POLL then post_due m
@@ -58,6 +56,5 @@ abbrev pub forget_callback_timers : Option ProcessNumber → Machine → Machine
 forget_callback_timers None m = m
 forget_callback_timers (Some p) m = expiries_cancelled (λ q c. q == p) (with_timers (without_callback_timers p m.timers) m)
 
--- process 1: what it does with an event
 abbrev pub ctimer : Event → Machine → Machine
 ctimer event m = if event.code == EXITED then forget_callback_timers (exited_application event.payload) m else m

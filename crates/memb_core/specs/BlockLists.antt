@@ -15,32 +15,26 @@ head_of list = slice_get list 0
 abbrev pub tail_of : List BlockNumber → Option BlockNumber
 tail_of list = slice_get list (length list - 1)
 
--- what follows b
 abbrev pub next_of : BlockNumber → List BlockNumber → Option BlockNumber
 next_of b [] = None
 next_of b (other ∷ later) = if other == b then head_of later else next_of b later
 
--- b directly after prev
 abbrev pub put_behind : BlockNumber → BlockNumber → List BlockNumber → List BlockNumber
 put_behind prev b [] = []
 put_behind prev b (other ∷ later) = if other == prev then other ∷ (b ∷ later) else other ∷ put_behind prev b later
 
--- each of these removes b first, if it is in the list
+-- `added`, `pushed` and `inserted` first remove b, if it is in the list
 abbrev pub added : BlockNumber → List BlockNumber → List BlockNumber
 added b list = without b list ++ b ∷ []
 
--- b is the new head
 abbrev pub pushed : BlockNumber → List BlockNumber → List BlockNumber
 pushed b list = b ∷ without b list
 
--- b is directly after another block
 abbrev pub inserted : BlockNumber → BlockNumber → List BlockNumber → List BlockNumber
 inserted prev b list = put_behind prev b (without b list)
 
--- without the head
 abbrev pub popped : List BlockNumber → List BlockNumber
 popped list = drop 1 list
 
--- without the tail
 abbrev pub chopped : List BlockNumber → List BlockNumber
 chopped list = take (length list - 1) list

@@ -7,25 +7,21 @@ use Rattle.mote_types.specs.Bytes.{zeros, overwritten}
 pub record BlockPool : Type 0 where
   -- the number of usable bytes of a block
   pub usable : ℕ
-  -- what each number stands for: the bytes of its block, if it is used
+  -- for each number the bytes of its block, if it is used
   pub blocks : List (Option Bytes)
 
--- n blocks, none of which is used
 abbrev pub unused_pool : ℕ → ℕ → BlockPool
 unused_pool count usable = record { usable = usable; blocks = replicate count None }
 
--- the bytes of block b, if it is used
 abbrev pub block_of : BlockNumber → BlockPool → Option Bytes
 block_of b pool = slice_index_or pool.blocks b None
 
--- the unused block of lowest number
 abbrev pub first_unused : BlockPool → Option BlockNumber
 first_unused pool = position is_none pool.blocks
 
 abbrev pub unused_count : BlockPool → ℕ
 unused_count pool = length (filter is_none pool.blocks)
 
--- number b stands for these bytes from now on, or for none
 abbrev pub with_block : BlockNumber → Option Bytes → BlockPool → BlockPool
 with_block b bytes pool = record pool { blocks = slice_set pool.blocks b bytes }
 

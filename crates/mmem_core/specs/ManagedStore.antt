@@ -12,39 +12,33 @@ use Rattle.mote_types.specs.Bytes.{zeros, overwritten}
 
 pub record ManagedStore : Type 0 where
   pub capacity : ℕ
-  -- what each process may hold of it, if that is limited
+  -- the most bytes that each process may hold, if that is limited
   pub quota : Option ℕ
-  -- what each name stands for: the bytes of its block, if it is live
+  -- for each name the bytes of its block, if it is live
   pub blocks : List (Option Bytes)
 
 abbrev pub empty_store : ℕ → Option ℕ → ManagedStore
 empty_store capacity quota = record { capacity = capacity; quota = quota; blocks = replicate all_blocks None }
 
--- the bytes of p's block, if it is live
 abbrev pub block_of : ProcessNumber → Handle → ManagedStore → Option Bytes
 block_of p handle store = get_or store.blocks (number_of p handle) None
 
--- what a block takes: its length, rounded up
 abbrev pub size_of : Option Bytes → ℕ
 size_of block = option_map_or (λ bytes. up4 (length bytes)) block 0
 
--- what all blocks leave free
 abbrev pub unused : ManagedStore → ℕ
 unused store = store.capacity - sum_by size_of store.blocks
 
--- the handles of a process
 abbrev pub handles : List Handle
 handles = range_with_len 0 blocks_each
 
--- what p's blocks take
 abbrev pub taken_by : ProcessNumber → ManagedStore → ℕ
 taken_by p store = sum_by (λ handle. size_of (block_of p handle store)) handles
 
--- what is free for p: under a quota what its own blocks leave of that; otherwise what all blocks leave
+-- the bytes that are free for p: with a quota, what p's own blocks leave of it; otherwise what all blocks leave of the capacity
 abbrev pub free : ProcessNumber → ManagedStore → ℕ
 free p store = option_map_or (λ quota. quota - taken_by p store) store.quota (unused store)
 
--- p may take n bytes more
 abbrev pub fits : ProcessNumber → ℕ → ManagedStore → Bool
 fits p n store = nat_le (up4 n) (free p store)
 
@@ -52,7 +46,6 @@ fits p n store = nat_le (up4 n) (free p store)
 abbrev pub shortage : ManagedStore → Refusal
 shortage store = option_map_or (λ _. Refusal.OverQuota) store.quota Refusal.NoRoom
 
--- p's block is this one from now on, or none
 abbrev pub with_block : ProcessNumber → Handle → Option Bytes → ManagedStore → ManagedStore
 with_block p handle block store = record store { blocks = slice_set store.blocks (number_of p handle) block }
 
@@ -68,6 +61,6 @@ bytes_of p handle store = unwrap_or (block_of p handle store) []
 abbrev pub with_bytes : ProcessNumber → Handle → Offset → Bytes → ManagedStore → ManagedStore
 with_bytes p handle at bytes store = with_block p handle (Some (overwritten at bytes (bytes_of p handle store))) store
 
--- all bytes of p's block are a prefix of q's
+-- all bytes of p's block become the first bytes of q's block
 abbrev pub copied : ProcessNumber → Handle → ProcessNumber → Handle → ManagedStore → ManagedStore
 copied p source q target store = with_bytes q target 0 (bytes_of p source store) store

@@ -15,7 +15,7 @@ churn_calls =
     ∷ Call.HeapAlloc 2 4 ∷ Call.HeapStats ∷ Call.MembAlloc 0 ∷ Call.MembAlloc 0 ∷ Call.ListAdd 0 1 ∷ Call.ListPush 0 0
     ∷ Call.ListChop 0 ∷ Call.MembNumFree 0 ∷ []
 
--- the call of this place, counted from 0, and a wait behind the last one
+-- the call at this position, counted from 0; after the last one, a wait
 abbrev pub call_at : ℕ → Call
 call_at place = slice_index_or churn_calls place Call.Wait
 

@@ -10,7 +10,7 @@ use Rattle.mote_types.specs.EventNumbers.{INIT}
 abbrev pub greeting : List ℕ
 greeting = 104 ∷ 105 ∷ 10 ∷ []
 
--- at its start the greeting, else nothing
+-- it prints the greeting at its start, and otherwise waits
 abbrev pub hello_answer : Stimulus → Call
 hello_answer (Stimulus.Event event) = if event.code == INIT then Call.Print (record { items = greeting }) else Call.Wait
 hello_answer (Stimulus.Answer reply) = Call.Wait

@@ -35,7 +35,7 @@ step_at Stage.Finishing n reply = (Stage.Idle, Call.Wait)
 abbrev pub is_frame : ℕ → ℕ → Bool
 is_frame code n = code == PACKET && nat_le 1 n && nat_le n 127
 
--- a frame of so many bytes has come in
+-- a frame of n bytes has arrived
 abbrev pub frame_answer : ℕ → Payload → Call
 frame_answer code (Payload.Num n) = if is_frame code n then Call.MmemAlloc 0 n else Call.Wait
 frame_answer code _ = Call.Wait

@@ -17,19 +17,19 @@ const CHUNK: usize = 64;
 /// profile).
 #[derive(Drop)]
 pub struct Echo {
-    /// What is still to be printed of the line.
+    /// The part of the line that is still to print.
     pub rest: Chunk,
 }
 
 impl Echo {
-    /// Nothing is to be printed.
+    /// Nothing is left to print.
     pub fn new() -> Self
         ensures { result ≡ record { rest = record { items = [] } } }
     {
         Echo { rest: Chunk::new() }
     }
 
-    /// What a line has behind its first print is kept for the next one.
+    /// Keeps the rest of a line, after its first print, for the next print.
     // Few turns come to this and to `go_on`: by themselves they cost the others no room and no registers.
     #[inline(never)]
     fn keep(&mut self, rest: &[u8])

@@ -25,8 +25,8 @@ pub enum Stage {
     Sent,
 }
 
-/// Draws an event number at its start. Each time that its event timer 0 has run out it broadcasts a count under that
-/// number, and resets the timer then. It prints each count that it is told under that number (this project's profile).
+/// Allocates an event number at its start. Each time its event timer 0 expires, it broadcasts a count under that number, and
+/// resets the timer. It prints each count that it receives under that number (this project's profile).
 #[derive(Drop)]
 pub struct Ping {
     /// The event number that it has drawn.

@@ -24,7 +24,7 @@ pub enum Stage {
     ReadingFront,
     /// That of writing them into the block.
     WritingFront,
-    /// The bytes of the frame behind its first 64.
+    /// The bytes of the frame after its first 64.
     ReadingRest,
     /// That of writing them into the block.
     WritingRest,

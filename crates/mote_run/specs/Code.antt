@@ -1,4 +1,4 @@
--- The code's own invariants. Nobody has to read them who wants to know what a run writes.
+-- The code's invariants. Not needed to know what a run writes.
 pub mod Faults
 pub mod LoopInvariant
 pub mod Reading

@@ -13,19 +13,19 @@ use Rattle.kernel_core.specs.Machine.{booted, is_bootable}
 use Rattle.kernel_core.specs.Mote.{Mote}
 use Rattle.kernel_core.specs.Run.{Running, Runs, at_start}
 
--- so many bytes were read
+-- `count` bytes were read
 pub record HasRead (count : ℕ) (taken_old taken_new : List ℕ) : Type 0 where
   pub bytes : List ℕ
   pub taken : taken_new ≡ taken_old ++ bytes
   pub size : length bytes ≡ count
 
--- what went through the two devices of a run: the bytes that were read, whether their end was, and the bytes that were written
+-- what a run read and wrote: the bytes that were read, whether the end of the script was read, and the bytes that were written
 pub record Exchange : Type 0 where
   pub read : List ℕ
   pub is_ended : Bool
   pub written : List ℕ
 
--- this holds of what went through devices, of which so much had been taken and given before, and was after it
+-- P holds of what was read and written between an old and a new state of the devices, by the bytes taken and given in each state
 pub record Exchanged (taken_old taken_new : List ℕ) (is_ended : Bool) (given_old given_new : List ℕ) (P : Exchange → Type 0) : Type 0 where
   pub read : List ℕ
   pub written : List ℕ
@@ -33,7 +33,7 @@ pub record Exchanged (taken_old taken_new : List ℕ) (is_ended : Bool) (given_o
   pub given : given_new ≡ given_old ++ written
   pub holds : P (record { read = read; is_ended = is_ended; written = written })
 
--- this holds of each script that begins with the bytes read; of these alone, where their end was read
+-- P holds of each script that begins with the bytes read; if the end was read, only of these bytes
 abbrev pub OfEachScript : Exchange → (List ℕ → Type 0) → Type 0
 OfEachScript exchange P = (more : List ℕ) → (exchange.is_ended ≡ true → more ≡ []) → P (exchange.read ++ more)
 
@@ -47,25 +47,25 @@ module _ (config : Config) (says : Applications) where
     pub holds : P last.entries
 
 module _ (config : Config) (says : Applications) (quiet : Bool) where
-  -- out is the text of the machine's run on the script's inputs, all of it and nothing else, and this is how it ends
+  -- out is exactly the text of the machine's run on the script's inputs, and this is how it ends
   pub record IsRunText (script out : List ℕ) (end : End) : Type 0 where
     pub last : Running
     pub runs : Runs says (at_start config) (inputs script).0 last
     pub ends : end ≡ (if list_any is_halt last.entries then End.Halted else (inputs script).1)
     pub is_text : out ≡ text quiet last.entries end
 
-  -- what was read and written is what a run comes to that is answered so, where a fault like this says that reading failed
+  -- what was read and written, if the run returned `answer`; the fault `read_failed` means that reading failed
   pub record HasRunTo {Fault : Type 0} (read_failed : Fault) (answer : Result End Fault) (exchange : Exchange) : Type 0 where
-    -- reading failed: what was written is the text of the run on the whole lines, all of it and nothing else
+    -- reading failed: what was written is exactly the text of the run on the whole lines
     pub after_read_fault : IsErrOf answer read_failed
         → OnWholeLines config says exchange.read (λ entries. exchange.written ≡ text quiet entries End.Finished)
-    -- what was written is the text of the run on the script, whatever more that has where its end was not read
+    -- the run ended: what was written is the text of the run on the script. If its end was not read, this holds whatever follows
     pub text : IfOk answer (λ end. OfEachScript exchange (λ script. IsRunText script exchange.written end))
-    -- a device failed: what was written is a front part of the text of each such script
+    -- a device failed: what was written is a prefix of the text of each such script
     pub front : OnErr answer (OfEachScript exchange (λ script. (whole : List ℕ) (end : End) →
         IsRunText script whole end → (rest : List ℕ) × (whole ≡ exchange.written ++ rest)))
 
--- the kernel was just booted, for so many applications
+-- the kernel was just booted, for this number of applications
 pub record WasBooted (kernel : Mote) (applications : ℕ) : Type 0 where
   pub config : Config
   pub boots : is_bootable config ≡ true

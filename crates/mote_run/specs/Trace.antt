@@ -10,8 +10,8 @@ use Rattle.mote_run.specs.declared.run.RunFault.{RunFault}
 use Rattle.mote_run.specs.RunText.{Exchange, HasRunTo, IsRunText, OfEachScript, OnWholeLines}
 
 module _ (config : Config) (says : Applications) where
-  -- Nothing is read after the piece that ends a malformed line, or a line at which the mote halts; and nothing at all where it halts
-  -- at boot. A piece has at most 4,096 bytes
+  -- Nothing is read after the piece that ends a malformed line, or a line at which the mote halts. If the mote halts at boot, nothing
+  -- is read. A piece has at most 4,096 bytes
   pub record ReadsNoFurther (read : List ℕ) : Type 0 where
     pub before : List ℕ
     pub piece : List ℕ
@@ -20,8 +20,8 @@ module _ (config : Config) (says : Applications) where
     pub goes_on : read ≢ [] → OnWholeLines config says before (λ entries. list_any is_halt entries ≡ false)
 
 module _ (config : Config) (says : Applications) (quiet : Bool) where
-  -- The machine's run on this script: its text begins with what was written, which is all of it where this was answered with
-  -- the run's end; and its entries keep the laws
+  -- The machine's run on this script: its text begins with what was written, and its entries keep the laws. If `answer` is the run's
+  -- end, all of its text was written
   pub record LawfulRun (script out : List ℕ) (answer : Result End RunFault) : Type 0 where
     pub rest : List ℕ
     pub end : End
@@ -29,7 +29,7 @@ module _ (config : Config) (says : Applications) (quiet : Bool) where
     pub all : IfOk answer (λ answered. (rest ≡ []) × (answered ≡ end))
     pub laws : KeepsLaws config run.last.entries
 
-  -- what a run promises that is answered so: its text, that the laws hold of each run whose text it may be, and how far it reads
+  -- what a run promises that returned `answer`: its text, the laws of each run that may have this text, and how far it reads
   pub record RunPromise (answer : Result End RunFault) (exchange : Exchange) : Type 0 where
     pub ran : HasRunTo config says quiet RunFault.Read answer exchange
     pub lawful : OfEachScript exchange (λ script. LawfulRun script exchange.written answer)

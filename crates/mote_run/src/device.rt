@@ -6,8 +6,8 @@ ghost use Rattle.mote_run.specs.Code.Writing.{CountsFailure};
 use crate::run::RunFault;
 use mote_types::device::ByteSink;
 
-/// Writes all bytes. Where a write fails, a front part of them was written.
-// Out of the way of lines, many of which are written at once.
+/// Writes all bytes. If a write fails, a prefix of them was written.
+// Not inlined: many lines are written at once, so it is called seldom.
 #[inline(never)]
 pub fn write_all<K: ByteSink>(sink: &mut K, bytes: &[u8]) -> Result<(), RunFault>
     requires countable { K.failure_count sink.old < 2 ^ 64 - 1 }

@@ -17,7 +17,7 @@ use mote_types::device::{ByteSink, ByteSource};
 pub use node_memory::Sizes;
 use std::alloc::Global;
 
-/// The sizes of a mote's memory where nothing else is said, in bytes: no process has a quota.
+/// The default sizes of a mote's memory, in bytes: no process has a quota.
 pub const DEFAULT_SIZES: Sizes = Sizes {
     mmem: 4_096,
     heap: 4_096,
@@ -25,15 +25,15 @@ pub const DEFAULT_SIZES: Sizes = Sizes {
     quota: None,
 };
 
-/// Boots a mote of these sizes for the applications in the boxes, and runs it from a source to a sink. What is written is
-/// the text of the run that the machine makes with the script's inputs and the applications (where `quiet`, the lines of a
-/// quiet transcript alone), and that is how it ends. Where it was run, all holds that `run` promises (`promise`): the laws of
-/// memory, events, timers and isolation among it.
+/// Boots a mote of these sizes for the applications in the boxes, and runs it from a source to a sink. It writes the text of
+/// the run that the machine makes with the script's inputs and the applications, and returns how that run ends. If `quiet`, it
+/// writes only the lines of a quiet transcript. If it was run, all that `run` promises holds (`promise`), including the laws
+/// of memory, events, timers and isolation.
 ///
 /// # Errors
 ///
-/// `BadSizes` exactly where the kernel boots with no such sizes or there are more than 16 applications; `Read` and `Write`
-/// exactly where that device failed; else `Memory`. What was written is a front part of the text then, and after `Read` all
+/// `BadSizes` exactly where the kernel doesn't boot with these sizes or there are more than 16 applications; `Read` and `Write`
+/// exactly where that device failed; otherwise `Memory`. What was written is then a prefix of the text. After `Read` it is all
 /// of the text of the whole lines that were read.
 pub fn run_boxes<S: ByteSource, K: ByteSink>(
     alloc: Global,

@@ -1,4 +1,4 @@
-//! Text that is due: gathered first, and written in pieces.
+//! Pending output: buffered first, and written in pieces.
 
 ghost use Rattle.std.specs.Prelude.{◌≡◌, ◌<◌, ◌≤◌, ◌-◌, ◌^◌, ◌++◌, ◌∷◌, [], ℕ, List, OnErr, OnOk};
 ghost use Rattle.mote_types.specs.declared.entry.Entry.{Entry as MadeEntry};
@@ -19,7 +19,7 @@ use mote_text::transcript::{
 use mote_types::device::ByteSink;
 use mote_types::entry::{Entry, Input};
 
-/// The text that was made and is not written yet.
+/// The text that was made and isn't written yet.
 #[derive(Drop)]
 pub struct PendingText {
     pub text: OutputBuffer,
@@ -34,7 +34,7 @@ impl PendingText {
         }
     }
 
-    /// Writes all of it. Where a write fails, a front part was written.
+    /// Writes all of it. If a write fails, a prefix was written.
     pub fn flush<K: ByteSink>(&mut self, sink: &mut K) -> Result<(), RunFault>
         requires countable { K.failure_count sink.old < 2 ^ 64 - 1 }
         ensures written { OnOk result (K.is_named → WritesOn (K.given sink.old) self.old.text.items (K.given sink.new) [] []) }
@@ -48,7 +48,7 @@ impl PendingText {
         Ok(())
     }
 
-    /// Writes all of it, where there is no room for so many bytes behind it.
+    /// Writes all of it, if the buffer has no room for `room` more bytes.
     // Each line asks for it.
     #[inline(always)]
     pub fn make_room<K: ByteSink>(&mut self, sink: &mut K, room: usize) -> Result<(), RunFault>
@@ -67,7 +67,7 @@ impl PendingText {
         Ok(())
     }
 
-    /// Puts the line of an entry behind it, if it is shown.
+    /// Appends the line of an entry, if it is shown.
     // Out of the way of turns, which most entries are.
     #[inline(never)]
     pub fn put_entry(&mut self, entry: &Entry, quiet: bool)
@@ -79,7 +79,7 @@ impl PendingText {
         }
     }
 
-    /// Puts the line of a turn behind it, if it is shown.
+    /// Appends the line of a turn, if it is shown.
     pub fn put_turn(&mut self, turn: &Turn, quiet: bool)
         requires { HasRoom self.old.text entry_line_limit }
         ensures { self.new.text.items ≡ self.old.text.items ++ lines quiet (entry_of turn.now ∷ []) }
@@ -95,7 +95,7 @@ impl PendingText {
         }
     }
 
-    /// Puts the line of an input that was handed in behind it, if it is shown.
+    /// Appends the line of an input that was submitted, if it is shown.
     pub fn put_input(&mut self, input: &Input, quiet: bool)
         requires { HasRoom self.old.text entry_line_limit }
         ensures { self.new.text.items ≡ self.old.text.items ++ lines quiet (MadeEntry.Input input.now ∷ []) }
@@ -105,7 +105,7 @@ impl PendingText {
         }
     }
 
-    /// Writes it, and the last line of a run that ends so.
+    /// Writes it, and the last line of a run with this end.
     pub fn close<K: ByteSink>(&mut self, sink: &mut K, end: End) -> Result<(), RunFault>
         requires { K.failure_count sink.old < 2 ^ 64 - 1 }
         ensures written { OnOk result

@@ -6,10 +6,10 @@ use crate::run::RunFault;
 use mote_types::device::ByteSource;
 use std::marker::Model;
 
-/// How many bytes are read at once, at most.
+/// The most bytes that are read at once.
 const PIECE_LIMIT: usize = 4_096;
 
-/// A piece of a script, of which the front part was used.
+/// A piece of a script, of which a prefix was used.
 #[derive(Drop)]
 pub struct Piece {
     bytes: [u8; PIECE_LIMIT],
@@ -46,7 +46,7 @@ impl Piece {
         self.used == self.end
     }
 
-    /// Its next bytes, at most so many.
+    /// Its next bytes, at most `most`.
     pub fn first(&self, most: usize) -> &[u8]
         ensures { result.now ≡ take most self.now }
     {
@@ -62,7 +62,7 @@ impl Piece {
         self.used += count;
     }
 
-    /// Reads the next piece, of at most so many bytes, in place of this one. No bytes are the script's end.
+    /// Reads the next piece, of at most `most` bytes, in place of this one. An empty piece is the script's end.
     pub fn read<S: ByteSource>(&mut self, source: &mut S, most: usize) -> Result<(), RunFault>
         requires some { 0 < most }
         requires unended { S.is_ended source.old ≡ false }

@@ -12,7 +12,7 @@ use mote_text::script::{BadLine, read_input_by};
 use mote_text::script_lines::{Lines, Taken};
 use mote_types::entry::Input;
 
-/// The lines of a script, the number of the present one, which begins at 1, and a place for the input of a line.
+/// The lines of a script, the number of the present one (from 1 on), and a buffer for the input of a line.
 #[derive(Drop)]
 pub struct Reader {
     pub lines: Lines,
@@ -21,7 +21,7 @@ pub struct Reader {
     pub values: DigitValues,
 }
 
-/// Puts what a line says, whose number this is, into the place, and counts it where it has a form. Answers whether that is an
+/// Reads a line with this number into the buffer, and counts it if it is well-formed. Returns whether it is an
 /// input.
 fn read_counted(
     line: &[u8],
@@ -52,29 +52,29 @@ impl Reader {
         }
     }
 
-    /// Reads what the bytes of the present line say, where the script has ended. Answers whether that is an input, which
-    /// lies in its place then.
+    /// Reads the bytes of the present line, after the script has ended. Returns whether they say an input, which is
+    /// in `input` then.
     ///
     /// # Errors
     ///
-    /// `BadLine` where they have no form.
+    /// `BadLine` if the line is malformed.
     pub fn end(&mut self) -> Result<bool, BadLine>
         requires narrow { self.old.lines.last ≢ Stopped.TooWide }
         requires endless { has_no_end (unfinished self.old.lines) ≡ true }
         ensures says { line_said result self.new.input ≡ read_line (unfinished self.old.lines) }
         ensures same_number { self.new.number ≡ self.old.number }
     {
-        // Behind a line's end this begins the next line, which is empty.
+        // After a line's end this begins the next line, which is empty.
         self.lines.take(&[]);
         read_input_by(self.lines.line(), &mut self.input, &self.values)
     }
 
-    /// Takes bytes of the piece up to the end of the present line. Answers how many, and whether they say an input, which
-    /// lies in its place then.
+    /// Takes bytes of the piece up to the end of the present line. Returns how many, and whether they say an input, which
+    /// is in `input` then.
     ///
     /// # Errors
     ///
-    /// `BadLine` where the line has no form, as soon as it is longer than a line may be.
+    /// `BadLine` if the line is malformed, or as soon as it is longer than a line may be.
     pub fn take(&mut self, piece: &[u8]) -> (usize, Result<bool, BadLine>)
         requires narrow { self.old.lines.last ≢ Stopped.TooWide }
         requires endless { has_no_end (unfinished self.old.lines) ≡ true }

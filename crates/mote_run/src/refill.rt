@@ -1,4 +1,4 @@
-//! The next piece of a script, before which all text that is due is written.
+//! The next piece of a script: before it is read, all pending output is written.
 
 ghost use Rattle.std.specs.Prelude.{◌≡◌, ◌<◌, ◌≤◌, ◌+◌, ◌-◌, ◌^◌, ◌++◌, ◌==◌, ◌↔◌, [], ℕ, List, false, length, IsErrOf, OnErr, OnOk};
 ghost use Rattle.mote_run.specs.Code.Writing.{WritesOn};
@@ -8,8 +8,8 @@ use crate::piece::Piece;
 use crate::run::RunFault;
 use mote_types::device::{ByteSink, ByteSource};
 
-/// Where the piece is used up, writes all text that is due, and reads the next one, of at most so many bytes. A piece
-/// that is empty then is the script's end.
+/// If the piece is used up, writes all pending output, and reads the next piece, of at most `most` bytes. If the piece is empty
+/// then, the script has ended.
 pub fn refill<S: ByteSource, K: ByteSink>(
     source: &mut S,
     sink: &mut K,

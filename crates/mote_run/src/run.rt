@@ -25,8 +25,8 @@ pub enum RunFault {
     Write,
 }
 
-/// Runs the applications over a script: reads it in pieces of at most 4,096 bytes, hands each line's input to the mote, and
-/// writes the text of the run; where `quiet` is true, only the lines of a quiet transcript. All text that is due is written
+/// Runs the applications over a script: reads it in pieces of at most 4,096 bytes, submits each line's input to the mote, and
+/// writes the text of the run; if `quiet` is true, only the lines of a quiet transcript. All pending output is written
 /// before it reads again. Nothing is read after the end, nor after the piece that ends a malformed line or a line at which
 /// the mote halts (`no_further`).
 ///

@@ -9,10 +9,10 @@ use crate::piece::Piece;
 use crate::reader::Reader;
 use mote_text::script::{BadLine, SCRIPT_LIMIT};
 
-/// How many bytes a script has at most.
+/// The most bytes of a script.
 pub const LIMIT: usize = SCRIPT_LIMIT as usize;
 
-/// The bytes that were read and are not used yet, what its lines say, and how many bytes were used.
+/// The bytes that were read and aren't used yet, the reader of its lines, and how many bytes were used.
 #[derive(Drop)]
 pub struct Script {
     pub piece: Piece,
@@ -35,12 +35,12 @@ impl Script {
         }
     }
 
-    /// Uses bytes of the piece up to the end of the present line. Answers whether they say an input, which lies in the
-    /// reader's place then.
+    /// Uses bytes of the piece up to the end of the present line. Returns whether they say an input, which is in the
+    /// reader's `input` then.
     ///
     /// # Errors
     ///
-    /// `BadLine` where the line has no form, as soon as it is longer than a line may be.
+    /// `BadLine` if the line is malformed, or as soon as it is longer than a line may be.
     pub fn take(&mut self) -> Result<bool, BadLine>
         requires ready { IsReady self.old }
         requires room { self.old.taken < LIMIT }

@@ -63,8 +63,8 @@ fn take_end<K: ByteSink>(
     }
 }
 
-/// Reads the script in pieces, and hands each line's input to the mote. All text of the run but its last line is written, or
-/// is due then. Answers how the run ends.
+/// Reads the script in pieces, and submits each line's input to the mote. Then all text of the run but its last line is
+/// written or pending. Returns how the run ends.
 pub fn take_script<S: ByteSource, K: ByteSink>(
     source: &mut S,
     sink: &mut K,

@@ -40,7 +40,7 @@ impl Work {
     }
 }
 
-/// Works until nothing more happens without an input. The line of each entry that is shown is written, or is due then.
+/// Works until nothing more happens without an input. The line of each entry that is shown is then written or pending.
 #[inline(never)]
 pub fn settle<K: ByteSink>(
     sink: &mut K,
@@ -70,8 +70,8 @@ pub fn settle<K: ByteSink>(
     }
 }
 
-/// Hands an input to the mote at rest, and works until nothing more happens without another. The line of each entry that is
-/// shown is written, or is due then.
+/// Submits an input to the mote at rest, and works until nothing more happens without another. The line of each entry that is
+/// shown is then written or pending.
 ///
 /// A frame has at least one byte.
 // Part of the loop over lines: most are idle ticks, and what others come to is a function of its own, `settle`.
@@ -100,7 +100,7 @@ pub fn settle_input<K: ByteSink>(
 {
     work.due.make_room(sink, MOST_OF_LINE)?;
     work.due.put_input(input, quiet);
-    // Most lines are ticks that leave nothing due: the mote rests again at once.
+    // Most lines are ticks that leave no work: the mote rests again at once.
     if work.kernel.accept_idle_tick(input) {
         return Ok(());
     }

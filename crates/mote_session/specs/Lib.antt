@@ -7,5 +7,5 @@ pub mod SessionRuns
 pub mod SessionView
 pub mod Steps
 pub mod Voices
--- What the code keeps.
+-- The code's invariants.
 pub mod Code

@@ -20,7 +20,7 @@ Word = Bytes
 abbrev pub hex : Bytes → Word
 hex bytes = if length bytes == 0 then codes "-" else encode_lower bytes
 
--- `-`, a number, or bytes in hexadecimal behind an x
+-- `-`, a number, or bytes in hexadecimal after an x
 abbrev pub payload_word : Payload → Word
 payload_word Payload.Empty = codes "-"
 payload_word (Payload.Num n) = decimal n

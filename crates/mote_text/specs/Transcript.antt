@@ -9,14 +9,14 @@ use Rattle.mote_types.specs.declared.entry.Entry.{Entry}
 use Rattle.mote_text.specs.EntryText.{call_words, entry_line, line_of}
 use Rattle.mote_text.specs.declared.script.End.{End}
 
--- what is written where the script isn't read to its end
+-- what is written if the script isn't read to its end
 abbrev pub final_line : End → Bytes
 final_line End.Finished = []
 final_line End.Halted = []
 final_line (End.BadLine n) = line_of (codes "bad" ∷ codes "line" ∷ decimal n ∷ [])
 final_line End.TooLong = line_of (codes "too" ∷ codes "long" ∷ [])
 
--- whether the first word of a call is one of those whose turns a quiet transcript shows
+-- whether a quiet transcript shows the turns of this call, by its first word
 unfoldable pub prints_or_sends : Call → Bool
 prints_or_sends call = list_any (bytes_eq (slice_index_or (call_words call) 0 [])) (codes "print" ∷ codes "packet-send" ∷ [])
 

@@ -1,5 +1,5 @@
-//! Digits in hex of many bytes: sixteen bytes at a time, worked out side by side. What they are the crate `hex` decides: each
-//! contract here says so.
+//! Hex digits of many bytes, sixteen bytes at a time with vector instructions. Each contract here compares them with those of the
+//! crate `hex`.
 
 ghost use Rattle.std.specs.Prelude.{All, map, ◌<◌, ◌≡◌, ◌≤◌, ◌+◌, ◌*◌, ◌/◌, ◌%◌, ◌++◌, EachIndex, drop, length, slice_index, take};
 ghost use Rattle.hex.specs.Hex.{encode_lower, lower_digits};
@@ -10,7 +10,7 @@ use std::simd::prelude::*;
 /// What a byte is worth that is no digit.
 pub(crate) const NO_DIGIT: u8 = 255;
 
-/// How many bytes have a digit block of their own.
+/// The bytes of a block.
 pub(crate) const BLOCK: usize = 16;
 
 /// The lower case digit of each of sixteen values.
@@ -19,7 +19,7 @@ fn digits_of(values: u8x16) -> u8x16
     requires { All (λ value. value < 16) values }
     ensures { result ≡ map (λ value. slice_index lower_digits value) values }
 {
-    // Of the letters: how far behind the digits 0 to 9 they stand.
+    // The distance of the letters from the digits 0 to 9.
     let past_numbers = values
         .simd_gt(u8x16::splat(9))
         .select(u8x16::splat(b'a' - b'9' - 1), u8x16::splat(0));

@@ -1,4 +1,4 @@
-//! Digits of bytes in hex. The crate `hex` makes and reads each of them once, and here they are looked up.
+//! Tables of the hex digits of bytes: the crate `hex` fills them once.
 
 ghost use Rattle.std.specs.Prelude.{◌≡◌, ◌*◌, EachIndex, length, slice_index};
 ghost use Rattle.std.specs.Result.{result_ok};
@@ -8,7 +8,7 @@ ghost use Rattle.mote_text.specs.Code.LineAnswers.{some_if};
 
 use crate::hex_blocks::{BLOCK, NO_DIGIT, read_blocks, write_blocks};
 
-/// The two lower case digits of each byte, one pair behind the other.
+/// The two lower case digits of each byte, one pair after the other.
 #[derive(Drop)]
 pub struct DigitPairs {
     text: [u8; 512],
@@ -35,7 +35,7 @@ impl DigitPairs {
         DigitPairs { text }
     }
 
-    /// Puts two lower case digits for each byte into the place.
+    /// Writes two lower case digits for each byte into the buffer.
     #[inline]
     pub fn write(&self, bytes: &[u8], place: &mut [u8])
         requires { length place.old ≡ 2 * length bytes.now }
@@ -54,7 +54,7 @@ impl DigitPairs {
     }
 }
 
-/// The digits of either case, each behind a 0: so the crate `hex` reads them as bytes, which are their values.
+/// The digits of either case, each after a 0: so the crate `hex` reads them as bytes, which are their values.
 const DIGITS: &[u8; 44] = b"000102030405060708090a0b0c0d0e0f0A0B0C0D0E0F";
 
 /// What each byte is worth as a hex digit of either case.
@@ -77,8 +77,8 @@ impl DigitValues {
         DigitValues { values }
     }
 
-    /// Puts the bytes that digits of either case write into the place, which holds just so many. Answers whether they write
-    /// any; if not, the place may hold any bytes.
+    /// Reads digits of either case into the buffer. Returns whether they write exactly as many bytes as it holds; if not, the
+    /// buffer may hold any bytes.
     #[inline]
     pub fn read(&self, digits: &[u8], place: &mut [u8]) -> bool
         ensures { some_if result place.new ≡ result_ok (decode_sized digits.now (length place.old)) }

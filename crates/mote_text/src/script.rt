@@ -13,7 +13,7 @@ use arrayvec::ArrayVec;
 use mote_types::entry::Input;
 use thiserror::Error;
 
-/// How many bytes of a script are read, and how many bytes a line may have without its end.
+/// The most bytes of a script that are read, and the most bytes of a line without its end.
 pub const SCRIPT_LIMIT: u32 = 16_777_216;
 
 pub const LINE_LIMIT: usize = 1_024;
@@ -21,7 +21,7 @@ pub const LINE_LIMIT: usize = 1_024;
 /// How a run ends.
 #[derive(Clone, Copy, Debug, PartialEq, Eq, Drop)]
 pub enum End {
-    /// All lines of the script were carried out.
+    /// All lines of the script were executed.
     Finished,
     /// The line of this number is malformed. Lines are numbered from 1.
     BadLine(u32),
@@ -36,7 +36,7 @@ pub enum End {
 #[error("a malformed line")]
 pub struct BadLine;
 
-/// The number from 0 to 4294967295 that digits write: 0, where there are none.
+/// The number from 0 to 4294967295 that digits write: 0 if there are none.
 fn read_digits(digits: &[u8]) -> Option<u32>
     ensures { result ≡ (if list_all is_ascii_digit digits.now && nat_lt (digits_value 10 digits.now) (2 ^ 32)
         then Some (digits_value 10 digits.now) else None) }
@@ -65,7 +65,7 @@ pub fn read_number(text: &[u8]) -> Option<u32>
     read_digits(text)
 }
 
-/// Puts the number of a line `tick N` into the place. Answers whether it is one.
+/// Reads a line `tick N` into the buffer. Returns whether it is one.
 fn read_tick(line: &[u8], input: &mut Input) -> bool
     ensures { some_if result input.new ≡ read_behind (codes "tick ") read_number (λ n. Said.Tick n) line.now }
 {
@@ -79,20 +79,20 @@ fn read_tick(line: &[u8], input: &mut Input) -> bool
     true
 }
 
-/// Puts a tick into the place.
+/// Writes a tick into the buffer.
 #[inline]
 pub(crate) fn put_tick(input: &mut Input, number: u32)
     ensures { input.new ≡ Said.Tick number }
 {
     match input {
-        // Another kind of input is overwritten whole, with zeros behind the number.
+        // Another kind of input is overwritten whole, with zeros after the number.
         Input::Tick(ticks) => *ticks = number,
         _ => *input = Input::Tick(number),
     }
 }
 
-/// How many digits a number has that the piece begins with, and the number, where a line ends behind them. Nothing, where it
-/// begins with none, or with one of more than eight digits.
+/// The number of digits at the start of the piece, and the number that they write, if a line end follows them. Nothing if there
+/// are no digits, or more than eight.
 // Most lines are short ticks: their end is found in the walk that reads them.
 #[inline]
 pub(crate) fn short_number(piece: &[u8]) -> Option<(usize, u32)>
@@ -118,10 +118,10 @@ pub(crate) fn short_number(piece: &[u8]) -> Option<(usize, u32)>
     None
 }
 
-/// What stands in a place until the bytes that digits write are put there.
+/// What a buffer holds until the bytes that digits write are put there.
 static BLANKS: [u8; 512] = [0; 512];
 
-/// Gives the place so many bytes, whatever they are.
+/// Sets the length of the bytes to `len`; their values are unspecified.
 fn resize<const N: usize>(bytes: &mut ArrayVec<u8, N>, len: usize)
     requires some { len ≤ N }
     requires few { N ≤ 512 }
@@ -135,7 +135,7 @@ fn resize<const N: usize>(bytes: &mut ArrayVec<u8, N>, len: usize)
     }
 }
 
-/// Puts from one to `N` bytes, which a text is in hex digits of either case, into the place. Answers whether it is that.
+/// Reads from one to `N` bytes in hex digits of either case into the buffer. Returns whether the text is that.
 fn read_bytes<const N: usize>(
     digits: &[u8],
     bytes: &mut ArrayVec<u8, N>,
@@ -152,7 +152,7 @@ fn read_bytes<const N: usize>(
     values.read(digits, bytes.as_mut_slice())
 }
 
-/// Puts the bytes of a line `serial HEX` into the place. Answers whether it is one.
+/// Reads a line `serial HEX` into the buffer. Returns whether it is one.
 // Out of the way of ticks, which most lines are.
 #[inline(never)]
 fn read_serial(line: &[u8], input: &mut Input, values: &DigitValues) -> bool
@@ -171,7 +171,7 @@ fn read_serial(line: &[u8], input: &mut Input, values: &DigitValues) -> bool
     }
 }
 
-/// Puts the bytes of a line `frame HEX` into the place. Answers whether it is one.
+/// Reads a line `frame HEX` into the buffer. Returns whether it is one.
 // As `read_serial`.
 #[inline(never)]
 fn read_frame(line: &[u8], input: &mut Input, values: &DigitValues) -> bool
@@ -190,14 +190,14 @@ fn read_frame(line: &[u8], input: &mut Input, values: &DigitValues) -> bool
     }
 }
 
-/// Puts what a line of a script says, without its end, into the place. Answers whether it is an input; where it is nothing
-/// (an empty line, a comment), the place is left as it was.
+/// Reads a line of a script, without its end, into the buffer. Returns whether it is an input. If it says nothing (an empty
+/// line, a comment), the buffer is left as it was.
 ///
 /// Source: the script format is this project's profile.
 ///
 /// # Errors
 ///
-/// `BadLine` where the line has none of these forms, or more than 1,024 bytes. The place may hold any input then.
+/// `BadLine` if the line is malformed, or has more than 1,024 bytes. The buffer may hold any input then.
 pub fn read_input_to(line: &[u8], input: &mut Input) -> Result<bool, BadLine>
     ensures says { line_said result input.new ≡ read_line line.now }
     ensures nothing { IfOk result (λ is_input. is_input ≡ false → input.new ≡ input.old) }

@@ -17,13 +17,13 @@ use std::marker::Model;
 pub enum Taken {
     /// A line ended.
     Line,
-    /// The next byte is the 1,025th of a line, so the line has no form.
+    /// The next byte is the 1,025th of a line, so the line is malformed.
     TooWide,
     /// The whole piece was used, and no line ended.
     More,
 }
 
-/// Cuts a script into lines, from pieces of its bytes as they come. It takes no memory.
+/// Cuts a script into lines, from pieces of its bytes as they come. It allocates no memory.
 ///
 /// Source: the script format is this project's profile.
 #[derive(Drop)]
@@ -56,7 +56,7 @@ fn take_up_to_end(bytes: &mut ArrayVec<u8, LINE_LIMIT>, piece: &[u8]) -> (usize,
         × GoesOnAt piece.now result.0) }
 {
     let room = LINE_LIMIT - bytes.len();
-    // The end of a line that isn't too wide stands among these.
+    // The end of a line that isn't too long is among these.
     let near = &piece[..piece.len().min(room + 1)];
     if let Some(end) = memchr(b'\n', near) {
         let _ = bytes.try_extend_from_slice(&near[..end]);
@@ -82,7 +82,7 @@ impl Lines {
         }
     }
 
-    /// After `Line` that line without its end, else the bytes of the line that hasn't ended: at most 1,024, and none of
+    /// After `Line` that line without its end, otherwise the bytes of the line that hasn't ended: at most 1,024, and none of
     /// them is a line end.
     pub fn line(&self) -> &[u8]
         ensures bytes { result.now ≡ self.now.bytes }
@@ -92,8 +92,8 @@ impl Lines {
         self.bytes.as_slice()
     }
 
-    /// The present line without its end, where none of its bytes were taken and its end stands in the piece: a front part of
-    /// the piece, which need not be copied. Nothing is taken: the present line is then the one that begins behind that end.
+    /// The present line without its end, if none of its bytes were taken and its end is in the piece. It is a prefix of the piece,
+    /// and isn't copied. Nothing is taken: the present line is then the one that begins after that end.
     pub fn whole_line<'a>(&self, piece: &'a [u8]) -> Option<&'a [u8]>
         ensures line { IfSome result (λ line. take (length line.now + 1) piece.now ≡ line.now ++ 10 ∷ []) }
         ensures size { IfSome result (λ line. length line.now < length piece.now) }
@@ -117,8 +117,8 @@ impl Lines {
         self.last == Taken::Line || self.bytes.is_empty()
     }
 
-    /// As `whole_line`, for a line `tick N` with at most eight digits, which is read in one walk: its length without its end.
-    /// The tick is put into the place. Where it answers nothing, the place is left as it was, and `whole_line` says more.
+    /// As `whole_line`, for a line `tick N` with at most eight digits, which is read in one pass: its length without its end.
+    /// The tick is written to the buffer. If the result is `None`, the buffer is left as it was: call `whole_line` then.
     #[inline]
     pub fn whole_tick(&self, piece: &[u8], input: &mut Input) -> Option<usize>
         ensures tick { IfSome result (λ len. IsTickLine piece.now len input.new) }
@@ -134,9 +134,9 @@ impl Lines {
         Some(5 + digits)
     }
 
-    /// Takes bytes of the piece up to the end of the present line; after `Line` a new one begins. Answers how many bytes
-    /// were used, and why it stopped there: the line's end is used, and the byte that makes a line too wide is not. Once a
-    /// line was too wide nothing is taken any more.
+    /// Takes bytes of the piece up to the end of the present line; after `Line` a new one begins. Returns how many bytes
+    /// were used, and why it stopped there: the line's end is used, and the byte that makes a line too long is not. Once a
+    /// line was too long, no bytes are taken.
     ///
     /// How the script's bytes are cut into pieces doesn't matter.
     pub fn take(&mut self, piece: &[u8]) -> (usize, Taken)

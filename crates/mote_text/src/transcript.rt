@@ -76,7 +76,7 @@ fn put_note_line(page: &mut Page, at: usize, note: &Note) -> usize
     end
 }
 
-/// Appends the line of an input that is handed in, with its end.
+/// Appends the line of an input that is submitted, with its end.
 ///
 /// Source: the transcript format is this project's profile.
 // As `put_input`.

@@ -115,7 +115,7 @@ fn put_reply(page: &mut Page, at: usize, reply: &Reply) -> usize
     }
 }
 
-/// Puts what a process is told, at most 277 bytes.
+/// Puts the stimulus that a process receives, at most 277 bytes.
 #[inline(always)]
 pub(crate) fn put_stimulus(page: &mut Page, at: usize, stimulus: &Stimulus) -> usize
     requires { at + 291 ≤ 4096 }

@@ -1,7 +1,6 @@
--- Numbers with a meaning: of processes, and how many there are of each thing. Definitions take them from here, never from the code.
+-- Numbers with a meaning: process numbers and limits. Definitions take them from here, never from the code.
 use Rattle.std.specs.Prelude.{ℕ, ◌^◌}
 
--- the kernel's processes
 abbrev pub etimer_process : ℕ
 etimer_process = 0
 
@@ -24,14 +23,13 @@ last_application = 19
 abbrev pub most_applications : ℕ
 most_applications = 16
 
--- how many event numbers there are, and how many events the queue has room for
 abbrev pub event_codes : ℕ
 event_codes = 256
 
 abbrev pub queue_places : ℕ
 queue_places = 32
 
--- a process has that many managed blocks and heap blocks, and a pool that many blocks
+-- the managed blocks of a process, its heap blocks, and the blocks of a pool
 abbrev pub blocks_each : ℕ
 blocks_each = 16
 
@@ -45,7 +43,6 @@ all_blocks = 272
 abbrev pub last_pool : ℕ
 last_pool = 3
 
--- an application's timers, and the latest deadline that one may have
 abbrev pub timers_each : ℕ
 timers_each = 8
 
@@ -55,14 +52,14 @@ callback_timers_each = 4
 abbrev pub last_deadline : ℕ
 last_deadline = 2 ^ 63
 
--- how many frames can be held, and how many bytes one may have
+-- the most frames that are held, and the most bytes of one
 abbrev pub held_frames : ℕ
 held_frames = 8
 
 abbrev pub frame_limit : ℕ
 frame_limit = 127
 
--- how many bytes the ring of the serial line holds, a line keeps, and one input may have
+-- the most bytes in the ring of the serial line, in a line, and in one input
 abbrev pub ring_places : ℕ
 ring_places = 127
 
@@ -72,10 +69,10 @@ line_bytes = 127
 abbrev pub serial_limit : ℕ
 serial_limit = 256
 
--- how many bytes one call reads
+-- the most bytes that one call reads
 abbrev pub chunk_limit : ℕ
 chunk_limit = 64
 
--- how many bytes a region of memory may have
+-- the most bytes of a region of memory
 abbrev pub region_limit : ℕ
 region_limit = 65536

@@ -56,7 +56,7 @@ fn run_wish<W: Write + Drop>(
     }
 }
 
-/// Writes the last line of a script of which nothing is carried out.
+/// Writes the last line of a script of which no line is executed.
 pub(crate) fn write_end<W: Write + Drop>(mut writer: W, end: End) -> Result<End, RunFault> {
     let mut text = OutputBuffer::new();
     last_text(end, &mut text);
@@ -66,12 +66,12 @@ pub(crate) fn write_end<W: Write + Drop>(mut writer: W, end: End) -> Result<End,
     }
 }
 
-/// Carries out a script, and writes its transcript.
+/// Executes a script, and writes its transcript.
 ///
 /// # Errors
 ///
 /// `NoMote`, and where memory was refused, before anything is written; `Write` where the writer fails; otherwise why the network's run
-/// comes to no end.
+/// does not end.
 pub(crate) fn carry_out<W: Write + Drop>(
     alloc: Global,
     script: &[u8],

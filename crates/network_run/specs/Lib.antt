@@ -1,5 +1,5 @@
--- What a reader has to believe.
+-- The definitions that a reader must believe.
 pub mod NetworkRunText
 pub mod Voices
--- What the code keeps.
+-- The code's invariants.
 pub mod Code

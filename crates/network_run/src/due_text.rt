@@ -1,4 +1,4 @@
-//! Text that is due: lines are gathered first, and written in pieces.
+//! Pending output: lines are buffered first, and written in pieces.
 
 ghost use Rattle.std.specs.Prelude.{◌≡◌, ◌≤◌, ◌<◌, ◌-◌, ◌^◌, [], codes, length, not, OnOk};
 ghost use Rattle.mote_session.specs.Code.Shown.{is_last_shown};
@@ -19,7 +19,7 @@ use network_text::lines::{
     push_last_line, push_unheard_line,
 };
 
-/// Lines that were made and are not written yet.
+/// Lines that were made and aren't written yet.
 #[derive(Drop)]
 pub(crate) struct DueText {
     pub(crate) due: OutputBuffer,
@@ -34,7 +34,7 @@ impl DueText {
         }
     }
 
-    /// Writes all of it. Where a write fails, a prefix was written.
+    /// Writes all of it. If a write fails, a prefix was written.
     pub(crate) fn flush<K: ByteSink>(&mut self, sink: &mut K) -> Result<(), RunFault>
         requires countable { K.failure_count sink.old < 2 ^ 64 - 1 }
         ensures puts { K.is_named → Puts result (K.given sink.old) self.old.due.items (K.given sink.new) self.new.due.items [] }
@@ -46,7 +46,7 @@ impl DueText {
         Ok(())
     }
 
-    /// Writes all of it, where there is no room for so many bytes after it.
+    /// Writes all of it, if the buffer has no room for `room` more bytes.
     // Each line asks for it.
     #[inline(always)]
     fn make_room<K: ByteSink>(&mut self, sink: &mut K, room: usize) -> Result<(), RunFault>
@@ -62,7 +62,7 @@ impl DueText {
         Ok(())
     }
 
-    /// Puts the line that says that the clock went on after it.
+    /// Appends the line that says that the clock went on.
     pub(crate) fn put_clock<K: ByteSink>(
         &mut self,
         sink: &mut K,
@@ -77,7 +77,7 @@ impl DueText {
         Ok(())
     }
 
-    /// Puts the line that says that nobody heard a frame after it.
+    /// Appends the line that says that nobody heard a frame.
     pub(crate) fn put_missed<K: ByteSink>(
         &mut self,
         sink: &mut K,

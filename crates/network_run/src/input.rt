@@ -1,4 +1,4 @@
-//! Inputs of a network, carried out.
+//! Execution of a network's inputs.
 
 ghost use Rattle.std.specs.Prelude.{◌≡◌, ◌<◌, ◌+◌, ◌-◌, ◌^◌, ◌∷◌, [], true, length, slice_get, IfOk, IsSomeAnd};
 ghost use Rattle.mote_session.specs.SessionView.{SessionView};
@@ -60,7 +60,7 @@ fn pass_time<K: ByteSink, H: Caller>(
     }
 }
 
-/// Tells a mote that is behind the time, and lets it work.
+/// Gives the time to a mote whose clock is behind, and lets it work.
 fn catch_up<K: ByteSink, H: Caller>(
     sink: &mut K,
     text: &mut DueText,
@@ -95,7 +95,7 @@ fn catch_up<K: ByteSink, H: Caller>(
     }
 }
 
-/// Hands an input to a mote that isn't behind. One that was halted misses it.
+/// Submits an input to a mote that isn't behind. A halted mote misses it.
 fn feed<K: ByteSink, H: Caller>(
     sink: &mut K,
     text: &mut DueText,

@@ -83,7 +83,7 @@ fn take_lines<K: ByteSink, H: Caller>(
     Ok(End::Finished)
 }
 
-/// Starts the motes, and carries out the lines of a script. Returns how the run ends.
+/// Starts the motes, and executes the lines of a script. Returns how the run ends.
 fn carry_out<K: ByteSink, H: Caller>(
     sink: &mut K,
     text: &mut DueText,
@@ -107,7 +107,7 @@ fn carry_out<K: ByteSink, H: Caller>(
     }
 }
 
-/// Writes all text that is due, and the last line of a run that ended so.
+/// Writes all pending output, and the last line of a run with this end.
 fn close<K: ByteSink>(sink: &mut K, text: &mut DueText, end: End) -> Result<End, RunFault>
     requires countable { K.failure_count sink.old < 2 ^ 64 - 1 }
     ensures ran { K.is_named →
@@ -133,7 +133,7 @@ fn is_write(fault: RunFault) -> bool
     }
 }
 
-/// Writes all text that is due after a fault, unless writing failed.
+/// Writes all pending output after a fault, unless writing failed.
 fn fail<K: ByteSink>(sink: &mut K, text: &mut DueText, fault: RunFault) -> Result<End, RunFault>
     requires countable { is_write fault ≡ false → K.failure_count sink.old < 2 ^ 64 - 1 }
     ensures ran { K.is_named →
@@ -149,8 +149,8 @@ fn fail<K: ByteSink>(sink: &mut K, text: &mut DueText, fault: RunFault) -> Resul
     Err(fault)
 }
 
-/// Runs a network on the lines of a script, the first of which has the number `first`, and writes the text of all that happens; where
-/// `quiet` is true, only the lines of a quiet transcript. First the motes are started. Then each line's input is carried out, at rest,
+/// Runs a network on the lines of a script, the first of which has the number `first`, and writes the text of all that happens; if
+/// `quiet` is true, only the lines of a quiet transcript. First the motes are started. Then each line's input is executed, at rest,
 /// until the network rests again, or the input has used up its rounds: that ends the run. A malformed line ends it, too.
 ///
 /// What is written is the text of the moves that the network made, with the calls of the caller's applications, and the last line. A

@@ -89,7 +89,7 @@ fn settle<K: ByteSink, H: Caller>(
     Ok(())
 }
 
-/// Puts the lines of a step that was due, which left the network so.
+/// Puts the lines of a step of the network itself, which left the network in this state.
 fn finish_step<K: ByteSink>(
     sink: &mut K,
     text: &mut DueText,
@@ -106,7 +106,7 @@ fn finish_step<K: ByteSink>(
     put_step(sink, text, network, outcome, quiet)
 }
 
-/// Does what is due, where no mote is at work, and puts its lines.
+/// Does the next pending step, when no mote is at work, and puts its lines.
 fn take_step<K: ByteSink>(
     sink: &mut K,
     text: &mut DueText,

@@ -79,7 +79,7 @@ pub(crate) fn put_entry<K: ByteSink>(
     }
 }
 
-/// Puts the lines of a step that was due, where no mote was at work, and left the network so.
+/// Puts the lines of a step of the network itself, when no mote was at work, which left it in this state.
 pub(crate) fn put_step<K: ByteSink>(
     sink: &mut K,
     text: &mut DueText,

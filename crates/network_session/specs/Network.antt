@@ -18,6 +18,6 @@ pub record NetworkView : Type 0 where
   pub bound : ℕ
   pub rounds : ℕ
 
--- when each mote must be told the time
+-- when each mote must get the time
 abbrev pub wakes_of : List SessionView → List ℕ
 wakes_of motes = map (λ (mote : SessionView). wake mote.machine) motes

@@ -26,19 +26,19 @@ refusal_for input clock (Some mote) =
     else if nat_lt mote.machine.clock clock then Some NetworkFault.Behind
     else mote_refusal input mote
 
--- why an input from outside can't be handed in
+-- why an input from outside can't be submitted
 abbrev pub feed_refusal : ℕ → Input → NetworkView → Option NetworkFault
 feed_refusal m input net =
     if is_some net.active then Some NetworkFault.NotAtRest
     else refusal_for input net.air.clock (slice_get net.motes m)
 
--- of being told the time
+-- why a mote can't get the time
 abbrev pub time_refusal : ℕ → Option SessionView → Option NetworkFault
 time_refusal clock None = Some NetworkFault.NoMote
 time_refusal clock (Some mote) =
     if nat_lt mote.machine.clock clock then mote_refusal (Input.Tick (due_ticks clock mote.machine.clock)) mote else None
 
--- why a mote can't be told the time; one that isn't behind needn't be told
+-- the same, by the mote's number; a mote that isn't behind doesn't need the time
 abbrev pub catch_up_refusal : ℕ → NetworkView → Option NetworkFault
 catch_up_refusal m net =
     if is_some net.active then Some NetworkFault.NotAtRest

@@ -16,7 +16,7 @@ is_unheard f (Some mote) = mote.machine.is_halted || length f.bytes.items == 0
 abbrev pub passing : NetworkView → Outcome
 passing net = if nat_lt net.air.clock net.target then Outcome.Passed else Outcome.Rest
 
--- a frame arrives for this mote, which is told the time before
+-- a frame arrives for this mote, which gets the time first
 abbrev pub hearing : ℕ → Flight → Option SessionView → Outcome
 hearing clock f None = Outcome.Missed f.from f.to
 hearing clock f (Some mote) =
@@ -33,7 +33,7 @@ abbrev pub waking : NetworkView → Option ℕ → Outcome
 waking net (Some m) = Outcome.Woken m
 waking net None = arriving net (arrival net.air)
 
--- At each moment the motes whose moment has come are told the time, in order; then frames arrive, in order; then time goes on
+-- At each moment the motes whose moment has come get the time, in order. Then frames arrive, in order. Then time goes on
 abbrev pub due_now : NetworkView → Outcome
 due_now net = waking net (first_come net.air.clock (wakes_of net.motes))
 
@@ -50,7 +50,7 @@ is_rest (Outcome.Stopped m) = false
 is_rest (Outcome.Woken m) = false
 is_rest (Outcome.Heard m) = false
 
--- First all motes are started, in order. Once an input has taken all its rounds, nothing more is done
+-- First all motes are started, in order. Once an input has used up its rounds, no step is made
 abbrev pub due_step : NetworkView → Outcome
 due_step net =
     if nat_lt net.started (length net.motes) then Outcome.Started net.started

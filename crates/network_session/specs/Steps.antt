@@ -42,7 +42,7 @@ pub record WorkedIn (m : ℕ) (next : Next) (old new : List SessionView) : Type 
   pub same : HasSameInputs before after
   pub others : new ≡ slice_set old m after
 
--- one was handed an input
+-- one mote got an input; the others are as they were
 pub record HandedIn (m : ℕ) (input : Input) (old new : List SessionView) : Type 0 where
   pub before : SessionView
   pub after : SessionView
@@ -51,7 +51,7 @@ pub record HandedIn (m : ℕ) (input : Input) (old new : List SessionView) : Typ
   pub fed : IsFed input before after
   pub others : new ≡ slice_set old m after
 
--- one was told the time
+-- one mote got the time; the others are as they were
 pub record ToldIn (m now : ℕ) (old new : List SessionView) : Type 0 where
   pub before : SessionView
   pub after : SessionView
@@ -60,7 +60,7 @@ pub record ToldIn (m now : ℕ) (old new : List SessionView) : Type 0 where
   pub fed : IsFed (Input.Tick (due_ticks now before.machine.clock)) before after
   pub others : new ≡ slice_set old m after
 
--- the call of one was submitted
+-- the call of one mote was submitted; the others are as they were
 pub record SubmittedIn (m : ℕ) (call : Call) (old new : List SessionView) : Type 0 where
   pub before : SessionView
   pub after : SessionView
@@ -75,12 +75,12 @@ pub record Worked (m : ℕ) (next : Next) (old new : NetworkView) : Type 0 where
   pub worked : WorkedIn m next old.motes new.motes
   pub result : new ≡ record old { motes = new.motes; air = aired m next worked.after old.air; active = active_after m next }
 
--- a mote is told the time
+-- a mote gets the time
 pub record IsToldTime (m : ℕ) (old new : NetworkView) : Type 0 where
   pub told : ToldIn m old.air.clock old.motes new.motes
   pub result : new ≡ record old { motes = new.motes; active = Some m; rounds = old.rounds - 1 }
 
--- the frame that arrives is handed to a mote
+-- a mote gets the frame that arrives
 pub record HearsFrame (m : ℕ) (old new : NetworkView) : Type 0 where
   pub flight : Flight
   pub arrives : arrival old.air ≡ Some flight
@@ -88,17 +88,17 @@ pub record HearsFrame (m : ℕ) (old new : NetworkView) : Type 0 where
   pub handed : HandedIn m (Input.Frame flight.bytes) old.motes new.motes
   pub result : new ≡ record old { motes = new.motes; air = landed old.air; active = Some m; rounds = old.rounds - 1 }
 
--- the call of the turn that a mote awaits is carried out
+-- the call that a mote awaits for its turn is executed
 pub record IsNetworkSubmitted (call : Call) (old new : NetworkView) : Type 0 where
   pub m : ℕ
   pub was_active : old.active ≡ Some m
   pub submitted : SubmittedIn m call old.motes new.motes
   pub result : new ≡ record old { motes = new.motes }
 
--- a mote is handed an input from outside
+-- a mote gets an input from outside
 pub record IsNetworkFed (m : ℕ) (input : Input) (old new : NetworkView) : Type 0 where
   pub was_active : old.active ≡ None
-  -- it is no tick, and the mote has been told the time
+  -- it is no tick, and the mote has got the time
   pub timeless : ticks_of input ≡ 0
   pub handed : HandedIn m input old.motes new.motes
   pub on_time : old.air.clock ≤ handed.before.machine.clock

@@ -9,7 +9,7 @@ use Rattle.network_session.specs.declared.outcome.Outcome.{Outcome}
 pub record IsTimely (clock : ℕ) (active : Option ℕ) (started m : ℕ) (mote : SessionView) : Type 0 where
   -- no mote is ahead
   pub not_ahead : mote.machine.clock ≤ clock
-  -- the one at work has been told the time
+  -- the one at work has got the time
   pub at_work : active ≡ Some m → mote.machine.clock ≡ clock
   pub fresh : started ≤ m → mote.machine.clock ≡ clock
   -- no timer of another one ran out before now: its moment has not gone by

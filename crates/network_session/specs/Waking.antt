@@ -1,9 +1,9 @@
--- When motes must be told the time.
+-- When motes must get the time.
 use Rattle.std.specs.Prelude.{ℕ, ◌+◌, ◌-◌, max, min, if◌then◌else◌}
 use Rattle.kernel_core.specs.Machine.{Machine}
 use Rattle.timer_core.specs.Deadlines.{earlier_of, next_deadline}
 
--- for how many ticks a mote can sleep: one input tells of no more
+-- the most ticks that a mote can sleep: one input has no more
 abbrev pub longest_sleep : ℕ
 longest_sleep = 4294967295
 
@@ -11,7 +11,7 @@ longest_sleep = 4294967295
 abbrev pub never : ℕ
 never = 18446744073709551615
 
--- the moment when a mote must be told the time at the latest: when its next timer runs out
+-- the latest moment at which a mote must get the time: when its next timer expires
 abbrev pub wake : Machine → ℕ
 wake m =
     if m.is_halted then never

@@ -29,7 +29,7 @@ pub enum NetworkFault {
     /// No mote has this number.
     #[error("no such mote")]
     NoMote,
-    /// The mote must be told the time first: `catch_up`.
+    /// The mote must get the time first: `catch_up`.
     #[error("behind")]
     Behind,
     /// Ticks are passed by `pass_time`.

@@ -46,7 +46,7 @@ pub fn logs_keep_promise()
     media_keep_faith();
 }
 
-/// No mote's clock is ahead of the network's, and none is told of its next timer too late.
+/// No mote's clock is ahead of the network's, and no mote learns of its next timer too late.
 pub fn times_are_kept()
     ensures boot { (configs : ℕ → Config) (room : ℕ) (links : List (List Link)) (net : NetworkView) →
         ((m : ℕ) (mote : SessionView) → slice_get net.motes m ≡ Some mote → mote.machine ≡ booted (configs m)) →

@@ -137,7 +137,7 @@ fn air_in(medium: &mut Medium, mote: &Session, m: usize)
     }
 }
 
-/// Sets when a mote must be told the time.
+/// Sets when a mote must get the time.
 fn set_wake(wakes: &mut Alarms, motes: &Vec<Session>, m: usize)
     requires within { m < length motes.now.items }
     requires each { length wakes.old ≡ length motes.now.items }
@@ -146,7 +146,7 @@ fn set_wake(wakes: &mut Alarms, motes: &Vec<Session>, m: usize)
     wakes.set(m, wake_of(&motes[m]));
 }
 
-/// When each of these motes must be told the time.
+/// When each of these motes must get the time.
 fn wakes_in(alloc: Global, motes: &Vec<Session>) -> Result<Alarms, NetworkBootFault>
     ensures wakes { IfOk result (λ wakes. wakes ≡ wakes_of motes.now.items) }
     ensures memory { IfErr result (λ fault. fault ≡ NetworkBootFault.Memory) }
@@ -165,7 +165,7 @@ fn wakes_in(alloc: Global, motes: &Vec<Session>) -> Result<Alarms, NetworkBootFa
 #[derive(Drop)]
 pub struct Network {
     motes: Vec<Session>,
-    /// When each must be told the time. That of the mote at work may be out of date.
+    /// When each must get the time. That of the mote at work may be out of date.
     wakes: Alarms,
     medium: Medium,
     active: Option<usize>,
@@ -195,7 +195,7 @@ impl Model for Network {
 }
 
 impl Network {
-    /// Does the next step: of the mote that is at work; without one, what is due.
+    /// Does the next step: that of the mote at work; without one, the next pending step.
     ///
     /// # Errors
     ///
@@ -273,7 +273,7 @@ impl Network {
         }
     }
 
-    /// Does what is due, where no mote is at work.
+    /// Does the next pending step, when no mote is at work.
     #[tactic(auto, using(crate::proofs::Due::due_left, crate::proofs::Due::due_rest, crate::proofs::Due::due_exhausted))]
     fn begin(&mut self) -> Result<Outcome, NetworkFault>
         requires { self.old.active ≡ None }
@@ -483,7 +483,7 @@ impl Network {
     ///
     /// # Errors
     ///
-    /// `NotAtRest` where a mote is at work; `NoMote`; `IsTime` for a tick; `Behind` where the mote must be told the time first
+    /// `NotAtRest` where a mote is at work; `NoMote`; `IsTime` for a tick; `Behind` where the mote must get the time first
     /// (`catch_up`); `Refused` where the mote refuses: it halted, or the input has no bytes.
     pub fn feed(&mut self, m: usize, input: Input) -> Result<(), NetworkFault>
         ensures fed { IfOk result (λ _. IsNetworkFed m input self.old self.new) }
@@ -505,7 +505,7 @@ impl Network {
         self.hand_over(m, input)
     }
 
-    /// Hands an input from outside to a mote that has been told the time.
+    /// Hands an input from outside to a mote that has got the time.
     fn hand_over(&mut self, m: usize, input: Input) -> Result<(), NetworkFault>
         requires closed { self.old.active ≡ None }
         requires within { m < length self.old.motes }
@@ -521,7 +521,7 @@ impl Network {
         Ok(())
     }
 
-    /// Tells a mote the time, if it is behind, so that it can be handed an input from outside. Says whether it was.
+    /// Gives a mote the time, if it is behind, so that it can get an input from outside. Returns whether it was behind.
     ///
     /// # Errors
     ///

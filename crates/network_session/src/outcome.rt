@@ -12,7 +12,7 @@ pub enum Outcome {
     Rested(usize),
     /// This mote had been halted, and does nothing.
     Stopped(usize),
-    /// This mote was told the time: its moment has come, or a frame arrives for it.
+    /// This mote got the time: its moment has come, or a frame arrives for it.
     Woken(usize),
     /// This mote was handed the frame that arrived.
     Heard(usize),

@@ -1,4 +1,4 @@
-//! When motes must be told the time.
+//! When motes must get the time.
 
 ghost use Rattle.std.specs.Prelude.{◌≡◌};
 ghost use Rattle.network_session.specs.Network.{wakes_of};
@@ -13,7 +13,7 @@ const LONGEST_SLEEP: u64 = 4_294_967_295;
 /// The moment of a halted mote, which never comes.
 const NEVER: u64 = u64::MAX;
 
-/// When the mote must be told the time at the latest.
+/// When the mote must get the time at the latest.
 pub(crate) fn wake_of(session: &Session) -> u64
     ensures { result ≡ wake session.now.machine }
 {

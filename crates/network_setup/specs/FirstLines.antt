@@ -25,7 +25,7 @@ DoesLine line = DoesUnless (is_blank line) line
 abbrev pub is_input : List ℕ → Bool
 is_input line = is_some (read_network_input line)
 
--- these lines were carried out one after the other, up to the first input, from which on they are left
+-- these lines were executed one after the other, up to the first input. The lines from there on are left
 abbrev pub AreCarriedOut : List (List ℕ) → List (List ℕ) → SetupView → SetupView → Type 0
 AreCarriedOut [] left old new = (left ≡ []) × (new ≡ old)
 AreCarriedOut (line ∷ lines) left old new =

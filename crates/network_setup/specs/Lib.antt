@@ -6,5 +6,5 @@ pub mod Lines
 pub mod MoteLines
 pub mod FirstLines
 pub mod SetUpRuns
--- What the code keeps.
+-- The code's invariants.
 pub mod Code

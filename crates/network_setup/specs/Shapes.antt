@@ -6,7 +6,7 @@ use Rattle.network_setup.specs.Setting.{is_fit, next_carriage}
 use Rattle.network_setup.specs.declared.carriage.Carriage.{Carriage}
 use Rattle.network_setup.specs.declared.shape.Shape.{Shape}
 
--- so many numbers from this one on
+-- n numbers from `first` on
 abbrev pub numbers : ℕ → ℕ → List ℕ
 numbers first zero = []
 numbers first (suc count) = first ∷ numbers (first + 1) count
@@ -55,7 +55,7 @@ links_of (Shape.Ring span) = ring_links span.first span.last
 links_of (Shape.Mesh span) = mesh_links span.first span.last
 links_of (Shape.Grid span width) = grid_links span.first span.last width
 
--- among so many motes there are these, a ring has three or more, and a grid's rows aren't empty
+-- the network has these motes, a ring has three or more, and a grid's rows aren't empty
 abbrev pub is_shape : ℕ → Shape → Bool
 is_shape motes (Shape.Link from to) = true
 is_shape motes (Shape.Line span) = nat_le span.last motes

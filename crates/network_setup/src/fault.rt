@@ -1,6 +1,6 @@
-//! Why a line isn't carried out, and why a run comes to no end.
+//! Why a line isn't executed, and why a run does not end.
 
-/// Why a line isn't carried out.
+/// Why a line isn't executed.
 #[derive(Clone, Copy, Drop)]
 pub enum LineFault {
     Malformed,
@@ -8,13 +8,13 @@ pub enum LineFault {
     Memory,
 }
 
-/// Why the run of a network that was set up comes to no end.
+/// Why the run of a network that was set up does not end.
 #[derive(Clone, Copy, Drop)]
 pub enum SetUpRunFault {
     /// Memory was refused: nothing was written.
     Memory,
-    /// A rule of this crate is broken: a link isn't sound that was found to be so.
+    /// A rule of this crate is broken: a link that passed its checks isn't sound.
     BadLink,
-    /// The run of the network comes to no end.
+    /// The run of the network does not end.
     Run(network_run::fault::RunFault),
 }

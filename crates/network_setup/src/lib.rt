@@ -1,6 +1,6 @@
 //! Networks that the first lines of a script set up, and their runs.
 //!
-//! `read_setup` promises that the lines up to the first input were carried out, and `Setup::take_line` what each of them sets up.
+//! `read_setup` promises that the lines up to the first input were executed, and `Setup::take_line` what each of them sets up.
 //! `run_setup` promises what it writes of the network that was set up, what `network_run` promises, and that this network has just booted.
 #![tactic(auto)]
 

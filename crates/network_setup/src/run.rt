@@ -68,7 +68,7 @@ pub fn read_setup<'a>(
 ///
 /// # Errors
 ///
-/// `Memory` and `BadLink` where there is no network: nothing was written. `Run` where its run comes to no end.
+/// `Memory` and `BadLink` where there is no network: nothing was written. `Run` where its run does not end.
 pub fn run_setup<K: ByteSink>(
     alloc: Global,
     setup: Setup,

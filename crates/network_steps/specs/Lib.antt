@@ -1,4 +1,4 @@
--- What a reader has to believe.
+-- The definitions that a reader must believe.
 pub mod StepsView
 pub mod Lines
 pub mod Refusals

@@ -57,7 +57,7 @@ is_from_outside (Input.Tick n) = false
 is_from_outside (Input.Serial bytes) = not (length bytes.items == 0)
 is_from_outside (Input.Frame bytes) = not (length bytes.items == 0)
 
--- a mote that is halted is told no time
+-- why a mote can't get the time; a halted mote doesn't need it
 abbrev pub told_refusal : ℕ → Option SessionView → NetworkView → Option StepsFault
 told_refusal m None net = Some StepsFault.NoMote
 told_refusal m (Some mote) net = if mote.machine.is_halted then None else fault_if (catch_up_refusal m net)

@@ -32,7 +32,7 @@ is_reported (Outcome.Stopped m) = false
 is_reported (Outcome.Woken m) = false
 is_reported (Outcome.Heard m) = false
 
--- some moves lead from old to new; they have no lines, and carry out no inputs
+-- some moves lead from old to new; they have no lines, and execute no inputs
 pub record GoesOn (old new : NetworkView) : Type 0 where
   pub moves : List Move
   pub leads : Leads old moves new
@@ -172,14 +172,14 @@ is_halted_in (Some mote) = mote.machine.is_halted
 abbrev pub is_behind : NetworkView → SessionView → Bool
 is_behind net mote = not mote.machine.is_halted && nat_lt mote.machine.clock net.air.clock
 
--- it is told the time
+-- a mote gets the time, if it is behind
 pub record ToldIfBehind (m : ℕ) (old new : NetworkView) : Type 0 where
   pub mote : SessionView
   pub there : slice_get old.motes m ≡ Some mote
   pub told : is_behind old mote ≡ true → TellsTime m old new
   pub untold : is_behind old mote ≡ false → new ≡ old
 
--- an input from outside waits for a mote, which is told the time first
+-- an input from outside waits for a mote, which gets the time first
 pub record TakesFeed (m : ℕ) (input : Input) (old new : StepsView) : Type 0 where
   pub told : ToldIfBehind m old.net new.net
   pub result : new ≡ record old { net = new.net; waiting = Some (record { mote = m; input = input }); phase = Phase.Working }

@@ -6,7 +6,7 @@ ghost use Rattle.network_steps.specs.Works.{came_of, last_after, phase_after};
 use mote_types::entry::Input;
 use network_session::outcome::Outcome;
 
-/// What `NetworkSteps::next` came to. Motes have numbers from 0 on.
+/// What `NetworkSteps::next` reported. Motes have numbers from 0 on.
 #[derive(Clone, Copy, Debug, PartialEq, Eq, Drop)]
 pub enum Came {
     /// An application of this mote takes a turn, and its call is awaited. Then the turn is an entry.
@@ -36,7 +36,7 @@ pub enum Phase {
     Fresh,
     /// Something may be left to do.
     Working,
-    /// Nothing is: an input can be handed in.
+    /// Nothing is left to do: an input can be submitted.
     Resting,
     /// The last input has taken all its rounds.
     Spent,
@@ -49,7 +49,7 @@ pub struct Sending {
     pub place: usize,
 }
 
-/// An input from outside that waits until its mote, which was told the time, rests.
+/// An input from outside that waits until its mote, which got the time, rests.
 #[derive(Drop)]
 pub struct Waiting {
     pub mote: usize,

@@ -289,7 +289,7 @@ impl NetworkSteps {
         came
     }
 
-    /// Hands in the call of the application whose turn it is.
+    /// Submits the call of the application whose turn it is.
     ///
     /// # Errors
     ///
@@ -341,12 +341,12 @@ impl NetworkSteps {
         }
     }
 
-    /// Hands in serial bytes or a frame for a mote, which `next` hands over once the mote was told the time.
+    /// Submits serial bytes or a frame for a mote. `next` passes them to the mote once it has got the time.
     ///
     /// # Errors
     ///
     /// `Refused`: `AwaitsCall`, `Halted` or `NotAtRest` where the network doesn't rest; then `NoMote`; then `Refused`: `NoInput` for
-    /// a tick, or no bytes; `TooManyInputs` where the mote can't be told the time, since it was handed 2^40 inputs.
+    /// a tick, or no bytes; `TooManyInputs` where the mote can't get the time, since it already got 2^40 inputs.
     pub fn feed(&mut self, mote: usize, input: Input) -> Result<(), StepsFault>
         ensures waits { IfOk result (λ _. TakesFeed mote input self.old self.new) }
         ensures accepted { IfOk result (λ _. feed_refusal mote input self.old ≡ None) }
@@ -364,7 +364,7 @@ impl NetworkSteps {
         Ok(())
     }
 
-    /// Tells a mote the time, if it is behind and wasn't halted.
+    /// Gives a mote the time, if it is behind and wasn't halted.
     fn tell_if_behind(&mut self, mote: usize) -> Result<(), StepsFault>
         requires there { slice_get self.old.net.motes mote ≢ None }
         requires rests { self.old.phase ≡ Rests }

@@ -1,6 +1,6 @@
--- What a reader has to believe.
+-- The definitions that a reader must believe.
 pub mod NetworkText
 pub mod NetworkScript
 pub mod NetworkRuns
--- What the code keeps.
+-- The code's invariants.
 pub mod Code

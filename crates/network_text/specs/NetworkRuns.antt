@@ -21,9 +21,9 @@ pub data Move : Type 0 where
   Submit : (call : Call) → (after : NetworkView) → Move
   -- an input from outside: time may go on
   Tick : (ticks : ℕ) → (after : NetworkView) → Move
-  -- mote m is told the time, before an input from outside
+  -- mote m gets the time, before an input from outside
   Tell : (m : ℕ) → (after : NetworkView) → Move
-  -- it is handed an input from outside
+  -- it gets an input from outside
   Hand : (m : ℕ) → (input : Input) → (after : NetworkView) → Move
   -- it was halted before an input from outside
   Miss : (m : ℕ) → (input : Input) → (after : NetworkView) → Move
@@ -33,7 +33,7 @@ pub record IsResting (net : NetworkView) : Type 0 where
   pub idle : net.active ≡ None
   pub due : due_step net ≡ Outcome.Rest
 
--- a step that the network does: that of the mote at work; without one, what is due
+-- a step that the network does: that of the mote at work; without one, the next pending step
 pub record DoesStep (outcome : Outcome) (old new : NetworkView) : Type 0 where
   pub steps : Steps outcome old new
   pub due : old.active ≡ None → outcome ≡ due_step old
@@ -89,7 +89,7 @@ is_missed (Move.Tick ticks new) = false
 is_missed (Move.Tell m new) = false
 is_missed (Move.Hand m input new) = false
 
--- the input from outside that a move carries out
+-- the input from outside that a move executes
 abbrev pub input_of : Move → Option NetworkInput
 input_of (Move.Tick ticks new) = Some (NetworkInput.Tick ticks)
 input_of (Move.Hand m input new) = Some (NetworkInput.ForMote (m + 1) input)
@@ -98,7 +98,7 @@ input_of (Move.Step outcome new) = None
 input_of (Move.Submit call new) = None
 input_of (Move.Tell m new) = None
 
--- those that all of them carry out
+-- the inputs that all of these moves execute
 abbrev pub inputs_of : List Move → List NetworkInput
 inputs_of moves = filter_map input_of moves
 
@@ -111,7 +111,7 @@ moved old (Move.Tell m new) = told_by old.air.clock m (slice_get old.motes m)
 moved old (Move.Hand m input new) = Happening.Hands m input ∷ []
 moved old (Move.Miss m input new) = []
 
--- and in all of them
+-- what happens in all of these moves
 abbrev pub log_of : NetworkView → List Move → List Happening
 log_of old [] = []
 log_of old (move ∷ moves) = moved old move ++ log_of (after_move move) moves

@@ -36,7 +36,7 @@ read_for_mote parts = option_and_then (for_mote (read_line parts.1)) (read_numbe
 abbrev pub read_network_input : List ℕ → Option NetworkInput
 read_network_input line = option_or (tick_of (read_line line)) (option_and_then read_for_mote (parted line))
 
--- in a network of so many motes there is the one that an input is for
+-- a network with this number of motes has the mote that an input is for
 abbrev pub is_for_some : ℕ → NetworkInput → Bool
 is_for_some motes (NetworkInput.Tick n) = true
 is_for_some motes (NetworkInput.ForMote number input) = nat_le 1 number && nat_le number motes

@@ -54,7 +54,7 @@ missed_line (Some flight) = frame_line (codes "missed") flight.from flight.to
 abbrev pub unheard_line : ℕ → List ℕ
 unheard_line m = line_of (codes "missed" ∷ codes "-" ∷ mote_number m ∷ [])
 
--- the last line: `halt`, where an input has taken all its rounds; else as that of a mote
+-- the last line: `halt` if an input has used up its rounds; otherwise as that of a mote
 abbrev pub last_line : End → List ℕ
 last_line End.Halted = line_of (codes "halt" ∷ [])
 last_line End.Finished = []
@@ -66,8 +66,8 @@ abbrev pub if_shown : Bool → List ℕ → List ℕ
 if_shown true text = text
 if_shown false text = []
 
--- The lines of one thing that happens in this air. What a mote is handed its own entry says. A quiet transcript shows the entries
--- that a mote's shows, and nothing of the network's own
+-- The lines of one thing that happens in this air. An input of a mote has no line here: the mote's own entry shows it. A quiet
+-- transcript shows the entries that a mote's quiet transcript shows, and no lines of the network's own
 abbrev pub happening_lines : Bool → Air → Happening → List ℕ
 happening_lines quiet air (Happening.Hands m input) = []
 happening_lines quiet air (Happening.Hears m bytes) = []

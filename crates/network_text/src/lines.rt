@@ -124,7 +124,7 @@ pub fn last_entry_text(mote: usize, session: &Session, text: &mut OutputBuffer)
     push_last_entry(mote, session, text);
 }
 
-/// Appends the last line of a transcript: `halt`, `bad line 3` or `too long`; nothing where the whole script was carried out.
+/// Appends the last line of a transcript: `halt`, `bad line 3` or `too long`; nothing if the whole script was executed.
 ///
 /// Source: the transcript format is this project's profile.
 pub fn push_last_line(end: End, text: &mut OutputBuffer)

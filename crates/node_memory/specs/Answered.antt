@@ -8,15 +8,12 @@ abbrev pub Asked : Type 0 → Type 0
 Asked S = S × Reply
 
 module _ {S : Type 0} where
-  -- nothing changes where the call is refused; otherwise this is the reply
   abbrev pub unless_refused : Option Refusal → S → Asked S → Asked S
   unless_refused None s answered = answered
   unless_refused (Some refusal) s answered = (s, Reply.Refused refusal)
 
-  -- the call is executed, and returns no value
   abbrev pub done : S → Asked S
   done s = (s, Reply.Done)
 
-  -- the reply is these bytes, and nothing changes
   abbrev pub bytes_read : Bytes → S → Asked S
   bytes_read bytes s = (s, Reply.Bytes (record { items = bytes }))

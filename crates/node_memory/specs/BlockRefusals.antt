@@ -1,5 +1,4 @@
--- When a call on one block is refused: of managed or heap memory, or of a pool. `block` has the bytes of the one that is
--- named, if it is live.
+-- When a call on one block is refused: of managed or heap memory, or of a pool. `block` is the bytes of that block, if it is live.
 use Rattle.std.specs.Prelude.{ℕ, Bool, not, ◌||◌, [], Option, Some, None, is_some, unwrap_or, if◌then◌else◌, ◌==◌, nat_le, nat_lt}
 use Rattle.std.specs.Option.{option_or}
 use Rattle.mote_types.specs.Kinds.{BlockNumber, Offset, Bytes}
@@ -17,7 +16,6 @@ alloc_refusal n size block =
     else if size == 0 then Some Refusal.Range
     else None
 
--- it must be live
 abbrev pub live_refusal : BlockNumber → Option Bytes → Option Refusal
 live_refusal n block =
     if not (is_name n) then Some Refusal.BadName
@@ -27,7 +25,6 @@ live_refusal n block =
 abbrev pub realloc_refusal : BlockNumber → ℕ → Option Bytes → Option Refusal
 realloc_refusal n size block = option_or (live_refusal n block) (if size == 0 then Some Refusal.Range else None)
 
--- the length of what is written is len
 abbrev pub write_refusal : BlockNumber → Offset → ℕ → Option Bytes → Option Refusal
 write_refusal n at len block = option_or (live_refusal n block) (if is_within at len (unwrap_or block []) then None else Some Refusal.Range)
 

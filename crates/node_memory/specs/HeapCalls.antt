@@ -8,7 +8,6 @@ use Rattle.heap_core.specs.HeapStore.{HeapStore, block_of, allocated, reallocate
 use Rattle.node_memory.specs.Answered.{Asked, unless_refused, done, bytes_read}
 use Rattle.node_memory.specs.BlockRefusals.{alloc_refusal, realloc_refusal, live_refusal, write_refusal, read_refusal}
 
--- the heap changes, or nothing fits
 abbrev pub done_or_no_room : Option HeapStore → HeapStore → Asked HeapStore
 done_or_no_room None heap = (heap, Reply.Refused Refusal.NoRoom)
 done_or_no_room (Some after) heap = done after

@@ -11,7 +11,6 @@ pub record PoolWithLists : Type 0 where
   pub first : List BlockNumber
   pub second : List BlockNumber
 
--- none of its blocks is used, and its two lists are empty
 abbrev pub unused_pool_of : ℕ → PoolWithLists
 unused_pool_of usable = record { pool = unused_pool blocks_each usable; first = []; second = [] }
 

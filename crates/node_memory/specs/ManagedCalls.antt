@@ -11,12 +11,10 @@ use Rattle.node_memory.specs.Answered.{Asked, unless_refused, done, bytes_read}
 use Rattle.node_memory.specs.BlockRefusals as block
 use Rattle.node_memory.specs.BlockRefusals.{is_name}
 
--- there must be room for the block
 abbrev pub alloc_refusal : ProcessNumber → Handle → ℕ → ManagedStore → Option Refusal
 alloc_refusal p h n store =
     option_or (block.alloc_refusal h n (block_of p h store)) (if fits p n store then None else Some (shortage store))
 
--- the source may not be longer than the target
 abbrev pub copy_refusal : ProcessNumber → Handle → Handle → ManagedStore → Option Refusal
 copy_refusal p source target store =
     if not (is_name source) || not (is_name target) then Some Refusal.BadName
@@ -41,6 +39,5 @@ read p h at len store =
 abbrev pub copy : ProcessNumber → Handle → Handle → ManagedStore → Asked ManagedStore
 copy p source target store = unless_refused (copy_refusal p source target store) store (done (copied p source p target store))
 
--- how much is free for p
 abbrev pub avail : ProcessNumber → ManagedStore → Asked ManagedStore
 avail p store = (store, Reply.Num (managed_store.free p store))

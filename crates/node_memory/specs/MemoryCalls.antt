@@ -1,4 +1,4 @@
--- What the calls on its parts make of a node's memory.
+-- How calls on a part of a node's memory change the whole.
 use Rattle.std.specs.Prelude.{ℕ, ◌/◌, if◌then◌else◌, nat_lt}
 use Rattle.mote_types.specs.Limits.{last_pool}
 use Rattle.mote_types.specs.declared.reply.Reply.{Reply}

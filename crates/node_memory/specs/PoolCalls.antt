@@ -13,11 +13,10 @@ use Rattle.node_memory.specs.BlockRefusals as block
 use Rattle.node_memory.specs.BlockRefusals.{is_name}
 use Rattle.node_memory.specs.Answered.{Asked, unless_refused, done, bytes_read}
 
--- a block in one of the lists stays
 abbrev pub free_refusal : BlockNumber → PoolWithLists → Option Refusal
 free_refusal b s = option_or (block.live_refusal b (block_of b s.pool)) (if is_linked b s then Some Refusal.Linked else None)
 
--- a block goes into a list where it is live, and not in the other one
+-- a block that enters a list must be live, and not in the other list
 abbrev pub link_refusal : ListName → BlockNumber → PoolWithLists → Option Refusal
 link_refusal name b s =
     option_or (block.live_refusal b (block_of b s.pool))
@@ -35,7 +34,6 @@ member_refusal name b s =
     else if not (has_number b (list_in name s)) then Some Refusal.NotLinked
     else None
 
--- the number, if there is one, and what follows from it; otherwise the refusal
 abbrev pub number_or : Refusal → Option BlockNumber → (BlockNumber → PoolWithLists) → PoolWithLists → Asked PoolWithLists
 number_or refusal None after s = (s, Reply.Refused refusal)
 number_or refusal (Some n) after s = (after n, Reply.Num n)

@@ -4,7 +4,6 @@ use Rattle.std.specs.Option.{option_map_or}
 use Rattle.mote_types.specs.Limits.{region_limit}
 use Rattle.node_memory.specs.declared.sizes.Sizes.{Sizes}
 
--- whether a region may have this size: at least that many bytes, and a multiple of 4
 abbrev pub is_region_size : ℕ → ℕ → Bool
 is_region_size least size = nat_le least size && nat_le size region_limit && size % 4 == 0
 
@@ -15,7 +14,6 @@ is_quota mmem applications quota = is_region_size 4 quota && nat_le (quota * (ap
 abbrev pub is_header : ℕ → Bool
 is_header header = header == 16 || header == 8
 
--- whether a node with n applications may have these sizes
 abbrev pub are_sizes : Sizes → ℕ → Bool
 are_sizes sizes applications =
     is_region_size 4 sizes.mmem && is_region_size 20 sizes.heap && is_header sizes.header

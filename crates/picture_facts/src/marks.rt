@@ -405,7 +405,7 @@ impl Walk {
         Ok(told)
     }
 
-    /// A turn of a quiet transcript: nothing else is known of its activation.
+    /// A turn of a quiet transcript: this is all that is known of its activation.
     fn take_quiet_turn(&mut self, turn: &Turn<'_>, row: usize) -> Result<(), AllocError> {
         if let Some(digits) = turn.call.strip_prefix("print ") {
             self.count_printed(digits);

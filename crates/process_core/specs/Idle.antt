@@ -1,4 +1,4 @@
--- Whether anything is left to be done.
+-- Whether any work is left.
 use Rattle.std.specs.Prelude.{Bool, true, false, not, ◌&&◌, List, [], ◌∷◌}
 use Rattle.process_core.specs.Scheduler.{Scheduler, wants_round}
 

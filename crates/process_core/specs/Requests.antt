@@ -1,4 +1,4 @@
--- What an application may ask of the scheduler: when it is refused, and what follows where it isn't.
+-- The calls on the scheduler: when each is refused, and otherwise its effect.
 use Rattle.std.specs.Prelude.{◌+◌, List, [], ◌∷◌, ◌++◌, map, Option, Some, None, if◌then◌else◌, nat_lt}
 use Rattle.std.specs.Option.{option_or}
 use Rattle.mote_types.specs.Kinds.{ProcessNumber, EventCode}
@@ -15,7 +15,6 @@ use Rattle.process_core.specs.Processes.{numbers, without, is_on_list, is_alive,
 use Rattle.process_core.specs.Agenda.{Item}
 use Rattle.process_core.specs.Scheduler.{Scheduler, state_in, in_front, put_in_state, has_room}
 
--- whether a process in that state may be killed
 abbrev pub kill_refusal_in : State → Option Refusal
 kill_refusal_in State.Absent = Some Refusal.NotRunning
 kill_refusal_in State.Leaving = Some Refusal.NotRunning
@@ -56,7 +55,7 @@ module _ {X : Type 0} where
   abbrev pub given_in_turn : ProcessNumber → ProcessNumber → Event → Scheduler X → Scheduler X
   given_in_turn p q event s = in_front (Item.Give q Origin.Synch (Stimulus.Event event) ∷ []) (answered p Reply.Done s)
 
-  -- q must be started, and then p gets its reply
+  -- q is started, and then p gets its reply
   abbrev pub started_by : ProcessNumber → ProcessNumber → Scheduler X → Scheduler X
   started_by p q s = in_front (Item.Start q ∷ []) (answered p Reply.Done s)
 
@@ -64,7 +63,7 @@ module _ {X : Type 0} where
   abbrev pub farewells : ProcessNumber → Scheduler X → List Item
   farewells p s = map (λ q. Item.Give q Origin.Synch (Stimulus.Event (number_event EXITED p))) (numbers (without p s.processes))
 
-  -- q is on its way out: the others get an event, q gets EXIT and leaves the list; then p gets its reply
+  -- q is killed: the other processes get an event, q gets EXIT and leaves the list; then p gets its reply
   abbrev pub killed_by : ProcessNumber → ProcessNumber → Scheduler X → Scheduler X
   killed_by p q s =
       in_front (farewells q s ++ Item.GiveExit q ∷ Item.Remove q ∷ []) (put_in_state q State.Leaving (answered p Reply.Done s))

@@ -1,4 +1,4 @@
--- The scheduler: how the agenda is worked off.
+-- The scheduler: how the agenda is executed, item by item.
 use Rattle.std.specs.Prelude.{ℕ, Bool, true, false, not, ◌&&◌, ◌||◌, List, [], ◌∷◌, ◌++◌, map, drop, length, Option, Some, None, if◌then◌else◌, nat_lt, flat_map, slice_get}
 use Rattle.std.specs.List.{range_with_len}
 use Rattle.mote_types.specs.Kinds.{ProcessNumber, EventCode}
@@ -12,7 +12,7 @@ use Rattle.process_core.specs.declared.process.Process.{Process}
 use Rattle.process_core.specs.Processes.{numbers, state_of, is_marked, is_any_marked, with_state, with_mark, without, is_on_list, is_running, is_kernel_process, at_first}
 use Rattle.process_core.specs.Agenda.{Queued, Item, Job}
 
--- what must be done, and by whom. X is what an expiry of a callback timer carries
+-- what must be done, and by which process. X is the type of what an expiry of a callback timer carries
 pub record Scheduler (X : Type 0) : Type 0 where
   pub applications : ℕ
   pub processes : List Process
@@ -26,7 +26,6 @@ module _ {X : Type 0} where
   abbrev pub state_in : Scheduler X → ProcessNumber → State
   state_in s p = state_of p s.processes
 
-  -- these items are put before everything on the agenda
   abbrev pub in_front : List Item → Scheduler X → Scheduler X
   in_front items s = record s { agenda = items ++ s.agenda }
 
@@ -42,7 +41,7 @@ module _ {X : Type 0} where
   abbrev pub posted : Queued X → Scheduler X → Scheduler X
   posted event s = record s { events = s.events ++ event ∷ [] }
 
-  -- what stands for the delivery of an event. The layer above decides whether an expiry counts
+  -- the items that deliver an event. The layer above decides whether an expiry counts
   abbrev pub delivery : List ProcessNumber → Option (Queued X) → List Item
   delivery list (Some (Queued.To p event)) = Item.Give p Origin.Event (Stimulus.Event event) ∷ []
   delivery list (Some (Queued.ToAll event)) = flat_map (λ p. Item.Polls ∷ Item.Give p Origin.Event (Stimulus.Event event) ∷ []) list
@@ -75,7 +74,7 @@ module _ {X : Type 0} where
   abbrev pub wants_round : Scheduler X → Bool
   wants_round s = is_any_marked s.processes || nat_lt 0 (length s.events)
 
-  -- the scheduler after the front of this agenda; where nothing is on it, a round begins if it has anything to do
+  -- the scheduler after the first item of this agenda. With an empty agenda a round begins, if it has any work
   abbrev pub after_front_of : List Item → Scheduler X → Scheduler X
   after_front_of [] s = if wants_round s then in_front (Item.Polls ∷ Item.Deliver ∷ []) s else s
   after_front_of (item ∷ items) s = after_item item (record s { agenda = items })
@@ -91,13 +90,13 @@ module _ {X : Type 0} where
   -- what an item asks of the layers above
   abbrev pub job_of_item : Item → Scheduler X → Option (Job X)
   job_of_item (Item.Turn p origin stimulus) s = Some (Job.TakeTurn p origin stimulus)
-  -- a kernel process has no use for anything but an event
+  -- a kernel process ignores every stimulus but an event
   job_of_item (Item.Give p origin (Stimulus.Event event)) s = if is_kernel_process p then Some (Job.Serve p event) else None
   job_of_item Item.Deliver s = job_of_event (slice_get s.events 0)
   job_of_item (Item.Show entry) s = Some (Job.ShowEntry entry)
   job_of_item _ s = None
 
-  -- what the front of this agenda asks of them; where nothing is on it, a round, or rest
+  -- the job of the agenda's first item; with an empty agenda, a round or rest
   abbrev pub job_at : List Item → Scheduler X → Option (Job X)
   job_at [] s = Some (if wants_round s then Job.Round else Job.Rest)
   job_at (item ∷ items) s = job_of_item item s
@@ -105,7 +104,7 @@ module _ {X : Type 0} where
   abbrev pub job : Scheduler X → Option (Job X)
   job s = job_at s.agenda s
 
--- the process list before the applications start, and the applications that must be started
+-- the process list before the applications start, and on the agenda the start of each application
 abbrev pub at_boot : {X : Type 0} → ℕ → Scheduler X
 at_boot applications =
     record {

@@ -13,7 +13,7 @@ use network_setup::setup::Setup;
 use network_text::lines::last_text;
 use std::alloc::{AllocError, Global};
 
-/// Appends the last line of a script of which nothing is carried out.
+/// Appends the last line of a script of which no line is executed.
 fn put_end(sink: &mut Transcript, end: End) -> Result<Option<End>, AllocError> {
     let mut text = OutputBuffer::new();
     last_text(end, &mut text);

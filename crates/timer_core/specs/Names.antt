@@ -11,7 +11,6 @@ event_timer p t = Timer.Event (record { 0 = p }) t
 abbrev pub callback_timer : ProcessNumber → TimerNumber → Timer
 callback_timer p c = Timer.Callback (record { 0 = p }) c
 
--- every timer of all applications
 unfoldable pub all_timers : List Timer
 all_timers =
     flat_map

@@ -26,7 +26,6 @@ no_timers = record { cells = map (λ timer. record { timer = timer; cell = zero_
 abbrev pub cell_of : Timer → Timers → Cell
 cell_of timer timers = option_map_or (λ named. named.cell) (find (λ named. is_timer timer named.timer) timers.cells) zero_cell
 
--- the timer has this cell, and each other one keeps its own
 abbrev pub with_cell : Timer → Cell → List NamedCell → List NamedCell
 with_cell timer cell cells = map (λ (named : NamedCell). if is_timer timer named.timer then record named { cell = cell } else named) cells
 
@@ -38,7 +37,7 @@ abbrev pub armed_with : Timer → Cell → Timers → Timers
 armed_with timer cell timers =
     record { cells = with_cell timer cell timers.cells; armed = if is_armed timer timers then timers.armed else timer ∷ timers.armed }
 
--- it runs out n ticks from now
+-- the timer expires `interval` ticks from now
 abbrev pub set_timer : Ticks → Timer → Ticks → Timers → Timers
 set_timer clock timer interval = armed_with timer (record { start = clock; interval = interval })
 
@@ -49,11 +48,11 @@ restart_timer clock timer timers = armed_with timer (record (cell_of timer timer
 abbrev pub deadline : Cell → Ticks
 deadline cell = cell.start + cell.interval
 
--- where the deadline was, the next interval begins
+-- the next interval begins at the old deadline, not now
 abbrev pub reset_timer : Timer → Timers → Timers
 reset_timer timer timers = armed_with timer (record (cell_of timer timers) { start = deadline (cell_of timer timers) }) timers
 
--- whether the deadline after a reset is one that a timer may have
+-- whether the deadline after a reset is at most the last one that a timer may have
 abbrev pub can_reset : Timer → Timers → Bool
 can_reset timer timers = nat_le ((cell_of timer timers).start + 2 * (cell_of timer timers).interval) last_deadline
 
@@ -63,11 +62,9 @@ stop_timer timer timers = record timers { armed = filter (λ other. not (is_time
 abbrev pub is_due : Ticks → Timers → Timer → Bool
 is_due clock timers timer = nat_le (deadline (cell_of timer timers)) clock
 
--- the first on the list whose deadline has come
 abbrev pub first_due : Ticks → Timers → Option Timer
 first_due clock timers = find (is_due clock timers) timers.armed
 
--- the timers of p are off the list
 abbrev pub without_event_timers : ProcessNumber → Timers → Timers
 without_event_timers p timers = record timers { armed = filter (λ timer. not (is_event_timer_of p timer)) timers.armed }
 

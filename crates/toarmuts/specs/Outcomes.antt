@@ -27,8 +27,7 @@ AreOfLines [] [] = ⊤
 AreOfLines (line ∷ following) (application ∷ others) = IsOfLine line application × AreOfLines following others
 AreOfLines _ _ = ⊥
 
--- out is the text of the machine's run of the lines' applications on the script, all of it and nothing else, and this is how it
--- ends
+-- out is exactly the text of the machine's run of the lines' applications on the script, and this is how it ends
 pub record HasRun (configuration : Configuration) (text script out : List ℕ) (end : End) : Type 0 where
   pub applications : List Application
   pub are_of_lines : AreOfLines (lines text) applications

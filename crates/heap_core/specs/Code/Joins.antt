@@ -10,7 +10,7 @@ use Rattle.heap_core.specs.Code.FreeList.{LiveIn, GapsLinked, FreedLinked}
 use Rattle.heap_core.specs.Code.Links.{KeepsFreed}
 use Rattle.heap_core.specs.Code.PlacedBlocks.{without_place}
 
--- what was at a position became something else, and the chunks that are no gaps are these blocks: every other live chunk stays
+-- the chunk at this position changed, and the chunks that are no gaps are these blocks. Every other live chunk stays
 pub record Changed (old new : Region) (before after : Contents) (at : ℕ) (store : HeapStore) : Type 0 where
   pub chunks : HasChunks new after.bytes
   pub gaps : GapsLinked new after.bytes

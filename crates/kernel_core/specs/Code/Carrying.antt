@@ -1,4 +1,4 @@
--- The scheduler where the expiries carry something else: arming numbers in the code, and in the machine whether they are cancelled.
+-- The scheduler with another payload of expiries: an arming number in the code, and in the machine whether it is cancelled.
 use Rattle.std.specs.Prelude.{ℕ, map}
 use Rattle.process_core.specs.Agenda.{Queued, Job}
 use Rattle.process_core.specs.Scheduler.{Scheduler}
@@ -16,7 +16,7 @@ job_carrying f (Job.ShowEntry entry) = Job.ShowEntry entry
 job_carrying f Job.Round = Job.Round
 job_carrying f Job.Rest = Job.Rest
 
--- the same scheduler, whose expiries carry something else
+-- the same scheduler with another payload of expiries
 abbrev pub carrying : {X Y : Type 0} → (ℕ → ℕ → X → Y) → Scheduler X → Scheduler Y
 carrying f s =
     record {

@@ -38,7 +38,6 @@ managed_turns p entries = filter (λ turn. is_managed_call turn.call && is_some 
 abbrev pub managed_calls : ProcessNumber → List Entry → List Call
 managed_calls p entries = map (λ turn. turn.call) (managed_turns p entries)
 
--- the replies
 abbrev pub managed_replies : ProcessNumber → List Entry → List Reply
 managed_replies p entries = filter_map (λ turn. turn.reply) (managed_turns p entries)
 
@@ -53,7 +52,7 @@ as_over_quota reply = reply
 abbrev pub asked_by : ProcessNumber → Call → ManagedStore → Asked ManagedStore
 asked_by p call store = option_map_or (λ answer. answer store) (request p (managed_touch (deed call))) (done store)
 
--- the replies to these calls of p, of a memory that nobody else uses
+-- the replies to these calls of p, from a memory that only p uses
 abbrev pub replies_from : ProcessNumber → ManagedStore → List Call → List Reply
 replies_from p store [] = []
 replies_from p store (call ∷ later) =

@@ -13,7 +13,7 @@ use Rattle.kernel_core.specs.Laws.Deeds.{Deed, Touch, deed}
 use Rattle.kernel_core.specs.Laws.BlockHistory.{Blocks, BlockUse, blocks_of, use_of}
 use Rattle.kernel_core.specs.Laws.OwnTurns.{HasCall, Turn, up_to_call}
 
--- one at least, and all of them are numbers of blocks
+-- at least one handle, and all of them are numbers of blocks
 abbrev pub are_names : List Handle → Bool
 are_names names = nat_lt 0 (length names) && list_all (λ name. nat_le name last_block) names
 

@@ -11,7 +11,6 @@ use Rattle.mote_types.specs.declared.entry.Input.{Input}
 use Rattle.mote_types.specs.declared.entry.Entry.{Entry}
 use Rattle.kernel_core.specs.Run.{heard}
 
--- the reply in a turn, if there is one
 abbrev pub reply_of : Stimulus → Option Reply
 reply_of (Stimulus.Answer reply) = Some reply
 reply_of _ = None
@@ -47,7 +46,6 @@ abbrev pub own_from : ProcessNumber → Ticks → List Entry → List OwnTurn
 own_from p clock [] = []
 own_from p clock (entry ∷ later) = cons_option (own_turn p clock entry later) (own_from p (clock + ticks_in entry) later)
 
--- the turns of p
 abbrev pub own : ProcessNumber → List Entry → List OwnTurn
 own p entries = own_from p 0 entries
 

@@ -10,7 +10,6 @@ use Rattle.timer_core.specs.Timers.{zero_cell, deadline}
 use Rattle.kernel_core.specs.Laws.Deeds.{Deed, deed}
 use Rattle.kernel_core.specs.Laws.OwnTurns.{OwnTurn, own, is_done, ticks_in}
 
--- the clock after these entries
 abbrev pub clock_after : List Entry → Ticks
 clock_after entries = fold (λ clock entry. clock + ticks_in entry) 0 entries
 

@@ -8,7 +8,7 @@ ghost use Rattle.modules_c.specs.Heapmem.Answers.{outcome_numbered};
 pub enum Outcome {
     /// As it was asked for.
     Done,
-    /// The rows describe no blocks that are apart in the heap: somebody else wrote to them. Or the heap is too large for rows.
+    /// The rows don't describe disjoint blocks in the heap: other code wrote to them. Or the heap is too large for rows.
     NoTable,
     /// No block begins there.
     NoBlock,

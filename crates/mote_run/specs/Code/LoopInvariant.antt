@@ -8,8 +8,8 @@ use Rattle.mote_run.specs.declared.script.Script.{Script}
 use Rattle.mote_run.specs.Code.Reading.{ReadSoFar}
 use Rattle.mote_run.specs.Code.Way.{Follows, Place, Went}
 
--- The run has come from its start to here: the lines of the script that have ended were carried out. What a source that is named
--- says was taken was read
+-- The run has come from its start to here: all lines that have ended were executed. The bytes that a named source says were taken
+-- were read
 pub record HasCome (source_named sink_named : Type 0) (quiet : Bool) (taken_old taken_new : List ℕ) (start here : Place)
     (script : Script) : Type 0 where
   pub read : List ℕ
@@ -38,8 +38,8 @@ pub record ReadWhileRunning (quiet : Bool) (start : Place) (taken_old taken_new 
   pub size : length piece ≤ 4096
   pub goes_on : before ++ piece ≢ [] → GoesOnFrom quiet start before
 
--- What was given from the start to an answer, when this was read: it begins the text of each script that begins so. Where the
--- answer is the run's end, this is left to be written
+-- What was written from the start until the run returned, when this was read: a prefix of the text of each script that begins with
+-- `read`. If the run ended, the text that `left_at` has for its end is left to write
 pub record Ran (quiet : Bool) (read : List ℕ) (is_ended : Bool) (start : Place) (given : List ℕ) (left_at : End → List ℕ)
     (answer : Result End RunFault) : Type 0 where
   pub out : List ℕ

@@ -11,7 +11,7 @@ use Rattle.mote_text.specs.declared.script_lines.Taken.{Taken}
 use Rattle.kernel_core.specs.Code.Conditions.{has_bytes, ticks_of}
 use Rattle.mote_run.specs.declared.script.Script.{Script}
 
--- a line says what it is read as, bytes before a line's end say nothing, and a line that is too wide has no form
+-- a line says what it is read as, bytes before a line's end say nothing, and a line that is too long is malformed
 abbrev pub said : Taken → List ℕ → Option (Option Input)
 said Taken.Line line = read_line line
 said Taken.More bytes = Some None
@@ -23,11 +23,11 @@ number_after Taken.Line number = number + 1
 number_after Taken.More number = number
 number_after Taken.TooWide number = number
 
--- what can be handed in
+-- the inputs that can be submitted
 abbrev pub CanBeFed : Input → Type 0
 CanBeFed input = (has_bytes input ≡ true) × (ticks_of input < 2 ^ 32)
 
--- so many bytes of a piece were used, up to the end of the present line, whose number this is. That is what they say
+-- `used` bytes of a piece were used, up to the end of the present line, which has this number. That is what they say
 pub record ReadPart (line piece line_later : List ℕ) (used number number_later : ℕ) (says : Result Bool BadLine)
     (input : Input) : Type 0 where
   pub last : Taken
@@ -57,7 +57,7 @@ pub record ReadSoFar (read : List ℕ) (inputs : List Input) (script : Script) :
   pub narrow : length (unfinished script.reader.lines) ≤ line_limit
   pub before : Before ended inputs script.reader.number []
 
--- what a take answers of bytes that were read: whether they say an input, or that every script which begins with them ends there
+-- what a take returns for bytes that were read: whether they say an input, or that every script that begins with them ends there
 abbrev pub Takes : List ℕ → List Input → Script → Result Bool BadLine → Type 0
 Takes read earlier script (Ok false) = ReadSoFar read earlier script
 Takes read earlier script (Ok true) = ReadSoFar read (earlier ++ script.reader.input ∷ []) script

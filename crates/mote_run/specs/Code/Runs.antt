@@ -6,7 +6,7 @@ use Rattle.mote_run.specs.declared.run.RunFault.{RunFault}
 use Rattle.mote_text.specs.declared.script.End.{End}
 use Rattle.node_memory.specs.declared.sizes.Sizes.{Sizes}
 
--- a mote of these sizes with so many applications
+-- a mote of these sizes with this number of applications
 abbrev pub config_of : Sizes → ℕ → Config
 config_of sizes applications =
     record { mmem = sizes.mmem; heap = sizes.heap; apps = applications; quota = sizes.quota; header = sizes.header }

@@ -1,4 +1,4 @@
--- The way of a run from one place to another, by what is left to be written.
+-- The way of a run from one state to another, by the text that is left to write.
 use Rattle.std.specs.List.{list_any}
 use Rattle.std.specs.Prelude.{◌≡◌, ℕ, Bool, List, [], ◌∷◌, ◌++◌, Result, MatchResult, if◌then◌else◌}
 use Rattle.mote_types.specs.declared.event.Stimulus.{Stimulus}
@@ -14,11 +14,11 @@ use Rattle.kernel_core.specs.Run.{Running, Runs, heard}
 use Rattle.mote_run.specs.declared.work.Work.{Work}
 use Rattle.mote_run.specs.Code.Writing.{lines}
 
--- each application says now what it said before these entries to all that it heard in them, and to what it is told next
+-- each application says now what it said before these entries, to all that it received in them and to what it receives next
 pub record IsTold (before : Applications) (entries : List Entry) (now : Applications) : Type 0 where
   pub each : (p : ℕ) (next : Stimulus) (later : List Stimulus) → now p (next ∷ later) ≡ before p (heard p entries ++ (next ∷ later))
 
--- where a run is: what was written, text that is due, what the applications say to what they are told from now on, and the machine
+-- the state of a run: what was written, pending output, what the applications say to what they receive from now on, and the machine
 pub record Place : Type 0 where
   pub given : List ℕ
   pub due : List ℕ
@@ -28,29 +28,29 @@ pub record Place : Type 0 where
 abbrev pub place : List ℕ → Work → Applications → Place
 place given work says = record { given = given; due = work.due.text.items; says = says; machine = work.kernel.machine }
 
--- how a run with these entries ends, where its script ends so
+-- how a run with these entries ends, if its script ends like this
 abbrev pub end_of : List Entry → End → End
 end_of entries end = if list_any is_halt entries then End.Halted else end
 
--- how a run ends, by its machine, where its script ends so
+-- how a run ends, by its machine, if its script ends like this
 abbrev pub end_at : Machine → End → End
 end_at machine end = if machine.is_halted then End.Halted else end
 
--- where such inputs are still handed in, and the script ends so, this is all text in the end, and this is how the run ends
+-- if these later inputs are submitted, and the script ends like this, `text` is the whole text of the run, and it ends with `end`
 pub record Follows (quiet : Bool) (here : Place) (later : Reading) (text : List ℕ) (end : End) : Type 0 where
   pub last : Running
   pub runs : Runs here.says (record { machine = here.machine; entries = [] }) later.0 last
   pub ends : end ≡ end_at here.machine (end_of last.entries later.1)
   pub is_text : text ≡ here.given ++ (here.due ++ (lines quiet last.entries ++ final_line end))
 
--- On the way these inputs were handed in, and more was written: whatever text follows from the one place, follows from the other
+-- On the way these inputs were submitted, and more was written: whatever text follows from the first state follows from the second
 pub record Went (quiet : Bool) (inputs : List Input) (from to : Place) : Type 0 where
   pub out : List ℕ
   pub given : to.given ≡ from.given ++ out
   pub onward : (later : Reading) (text : List ℕ) (end : End) → Follows quiet from (preceded_by inputs later) text end →
       Follows quiet to later text end
 
--- it went to this place, or, where the answer is a fault, to some other where the same was written
+-- it went to this state; or, if the result is a fault, to some other one in which the same was written
 abbrev pub Goes : {T Fault : Type 0} → Result T Fault → Bool → List Input → Place → Place → Type 0
 Goes answer quiet inputs from to =
     MatchResult answer (λ _. Went quiet inputs from to)

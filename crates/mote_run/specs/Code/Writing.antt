@@ -1,17 +1,17 @@
--- How text goes out that is gathered first, and written in pieces.
+-- How text is written that is buffered first, and written in pieces.
 use Rattle.std.specs.Prelude.{◌≡◌, ◌+◌, ℕ, Bool, List, ◌++◌, filter, flat_map, Result, IfErr, OnErr, OnOk}
 use Rattle.mote_types.specs.declared.entry.Entry.{Entry}
 use Rattle.mote_text.specs.EntryText.{entry_line}
 use Rattle.mote_text.specs.Transcript.{is_shown}
 use Rattle.mote_run.specs.declared.run.RunFault.{RunFault}
 
--- Behind text that was due came more. A front part of both was written, and the rest is due now
+-- More text came after pending output. A prefix of both was written, and the rest is pending now
 pub record WritesOn (given_old due_old given_new due_new more : List ℕ) : Type 0 where
   pub out : List ℕ
   pub given : given_new ≡ given_old ++ out
   pub parted : due_old ++ more ≡ out ++ due_new
 
--- of a sink with so many failures before and after: one write failed where the answer is its fault, and else none
+-- the sink's failure count before and after: one write failed if the result is an error, otherwise none
 abbrev pub CountsFailure : {T : Type 0} → Result T RunFault → ℕ → ℕ → Type 0
 CountsFailure result old new =
     OnOk result (new ≡ old) × OnErr result (new ≡ old + 1) × IfErr result (λ fault. fault ≡ RunFault.Write)

@@ -6,7 +6,7 @@ use Rattle.arrayvec.specs.ArrayVec.{ArrayVec}
 abbrev pub HasRoom : ArrayVec ℕ → ℕ → Type 0
 HasRoom buffer count = length buffer.items + count ≤ 4096
 
--- these bytes were put at a position, after what is before it; they end there, and are at most so many
+-- these bytes, at most `most` of them, were put at position `at`, and end at `end`; the bytes before `at` are as they were
 pub record Puts (old new : List ℕ) (at end : ℕ) (most : ℕ) (bytes : List ℕ) : Type 0 where
   pub text : take end new ≡ take at old ++ bytes
   pub few : end ≤ at + most

@@ -4,7 +4,7 @@ use Rattle.std.specs.Result.{result_ok}
 use Rattle.hex.specs.Hex.{decode_pairs, hex_digit_value, lower_digits}
 use Rattle.hex.specs.declared.error.FromHexError.{FromHexError}
 
--- at twice each byte stand its two digits, the high four bits first
+-- at twice each byte are its two digits, the high four bits first
 abbrev pub PairsOfDigits : List ℕ → Type 0
 PairsOfDigits text =
     (byte : ℕ) → byte < 256 →
@@ -15,7 +15,7 @@ PairsOfDigits text =
 abbrev pub value_or_none : ℕ → ℕ
 value_or_none digit = unwrap_or (hex_digit_value digit) 255
 
--- each byte's value stands at its place
+-- the value of each byte is at its index
 abbrev pub ValuesOfDigits : List ℕ → Type 0
 ValuesOfDigits values = (digit : ℕ) → digit < 256 → slice_index values digit ≡ value_or_none digit
 

@@ -5,7 +5,7 @@ use Rattle.mote_text.specs.declared.script_lines.Taken.{Taken}
 
 -- what was taken of the script so far
 pub record LinesView : Type 0 where
-  -- where the last take ended a line: that line, without its end. Else the bytes of the line that hasn't ended
+  -- if the last take ended a line: that line, without its end. Otherwise the bytes of the line that hasn't ended
   pub bytes : List ℕ
   -- why the last take stopped
   pub last : Taken
@@ -13,7 +13,7 @@ pub record LinesView : Type 0 where
 abbrev pub nothing_taken : LinesView
 nothing_taken = record { bytes = []; last = Taken.More }
 
--- bytes, and behind a line its end
+-- these bytes; a whole line is followed by its end
 abbrev pub with_end : Taken → List ℕ → List ℕ
 with_end Taken.Line line = line ++ 10 ∷ []
 with_end Taken.TooWide bytes = bytes
@@ -31,6 +31,6 @@ unfinished lines = unfinished_after lines.last lines.bytes
 abbrev pub has_no_end : List ℕ → Bool
 has_no_end bytes = list_all (λ byte. not (byte == 10)) bytes
 
--- a byte stands there, and it ends no line
+-- there is a byte at this position, and it is no line end
 abbrev pub GoesOnAt : List ℕ → ℕ → Type 0
 GoesOnAt piece at = (byte : ℕ) × (slice_get piece at ≡ Some byte) × (byte ≢ 10)

@@ -12,8 +12,8 @@ Reading = List Input × End
 abbrev pub preceded_by : List Input → Reading → Reading
 preceded_by earlier later = (earlier ++ later.0, later.1)
 
--- what the rest of a script gives, where its present line, of this number, begins so, and where so many more bytes may
--- be read
+-- what the rest of a script gives: its present line has this number and begins with these bytes, and at most `room` more bytes
+-- are read
 unfoldable pub read_on : ℕ → List ℕ → ℕ → List ℕ → Reading
 read_on number line room [] = with_line number (read_line line) ([], End.Finished)
 read_on number line zero (byte ∷ rest) = ([], End.TooLong)

@@ -1,7 +1,7 @@
 -- The table of the numbers that most words of a transcript are.
 use Rattle.std.specs.Prelude.{◌≡◌, ◌+◌, ◌*◌, ◌<◌, ◌++◌, ℕ, List, codes, decimal, drop, length, slice_index, take}
 
--- at eight times each number below 256 stand its digits and a blank; the byte four places on is the number of these bytes
+-- at eight times each number below 256 are its digits and a blank; the byte four positions later is the number of these bytes
 abbrev pub HasSmallNumbers : List ℕ → Type 0
 HasSmallNumbers table =
     (n : ℕ) → n < 256 →

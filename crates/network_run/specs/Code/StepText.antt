@@ -15,7 +15,7 @@ entry_text quiet m None air = []
 entry_text quiet m (Some mote) air =
     if_shown (is_last_shown quiet mote.last) (last_entry_line m mote.last) ++ if_shown (not quiet) (sent_lines m (sent_in mote.last) air)
 
--- of a step that was due, where no mote was at work
+-- the text of a step of the network itself, when no mote was at work
 abbrev pub step_text : Bool → Outcome → NetworkView → List ℕ
 step_text quiet (Outcome.Missed from to) new = if_shown (not quiet) (frame_line (codes "missed") from to)
 step_text quiet Outcome.Passed new = if_shown (not quiet) (clock_line new.air.clock)

@@ -6,7 +6,7 @@ use Rattle.network_session.specs.Steps.{Steps}
 use Rattle.network_session.specs.Time.{is_work}
 use Rattle.network_session.specs.declared.outcome.Outcome.{Outcome}
 
--- a step that was due, where no mote was at work
+-- a step of the network itself, when no mote was at work
 pub record DidDueStep (outcome : Outcome) (old new : NetworkView) : Type 0 where
   pub steps : Steps outcome old new
   pub due : outcome ≡ due_step old

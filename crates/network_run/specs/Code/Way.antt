@@ -1,4 +1,4 @@
--- The way of a run from one place to another.
+-- The way of a run from one state to another.
 use Rattle.std.specs.Prelude.{◌≡◌, ◌+◌, ℕ, Bool, true, false, List, [], ◌++◌, Option, None, Some, Result, MatchResult, if◌then◌else◌}
 use Rattle.mote_text.specs.declared.script.End.{End}
 use Rattle.network_session.specs.Network.{NetworkView}
@@ -10,7 +10,7 @@ use Rattle.network_run.specs.declared.fault.RunFault.{RunFault}
 use Rattle.network_text.specs.NetworkRuns.{IsResting, Leads, Move, inputs_of, moves_text}
 use Rattle.network_text.specs.declared.input.NetworkInput.{NetworkInput}
 
--- where a run is: what was written, text that is due, the network, and what the applications say from now on
+-- the state of a run: what was written, pending output, the network, and what the applications say from now on
 pub record Place : Type 0 where
   pub given : List ℕ
   pub due : List ℕ
@@ -20,7 +20,7 @@ pub record Place : Type 0 where
 abbrev pub place : List ℕ → List ℕ → NetworkView → Voices → Place
 place given due net voices = record { given = given; due = due; net = net; voices = voices }
 
--- moves carried out these inputs, with the calls of the applications; their text was written, or is due
+-- moves executed these inputs, with the calls of the applications; their text was written, or is pending
 pub record Went (quiet : Bool) (inputs : List NetworkInput) (from to : Place) : Type 0 where
   pub moves : List Move
   pub leads : Leads from.net moves to.net
@@ -33,13 +33,13 @@ is_write RunFault.Write = true
 is_write RunFault.NoCall = false
 is_write (RunFault.Refused fault) = false
 
--- some of these inputs were carried out, and the rest is left; where writing failed, some text is lost
+-- some of these inputs were executed, and the rest is left; if writing failed, some text is lost
 pub record Stopped (quiet : Bool) (inputs : List NetworkInput) (left : List NetworkInput) (lost : List ℕ) (from to : Place) : Type 0 where
   pub carried : List NetworkInput
   pub parts : inputs ≡ carried ++ left
   pub went : Went quiet carried from (record to { due = lost })
 
--- a fault: text is lost only where writing failed. A call that was refused is no move
+-- a fault: text is lost only if writing failed. A refused call is no move
 pub record Faulted (quiet : Bool) (inputs : List NetworkInput) (fault : RunFault) (from to : Place) : Type 0 where
   pub left : List NetworkInput
   pub lost : List ℕ
@@ -47,7 +47,7 @@ pub record Faulted (quiet : Bool) (inputs : List NetworkInput) (fault : RunFault
   pub voices : Voices
   pub stopped : Stopped quiet inputs left lost from (record to { voices = voices })
 
--- these inputs were carried out, unless there was a fault
+-- these inputs were executed, unless there was a fault
 abbrev pub Goes : {T : Type 0} → Result T RunFault → Bool → List NetworkInput → Place → Place → Type 0
 Goes result quiet inputs from to = MatchResult result (λ _. Went quiet inputs from to) (λ fault. Faulted quiet inputs fault from to)
 
@@ -56,7 +56,7 @@ abbrev pub RestsIf : Bool → NetworkView → Type 0
 RestsIf true net = IsResting net
 RestsIf false net = IsSpent net
 
--- these inputs were carried out, if the network rests; some may be left where it has used up its rounds
+-- these inputs were executed, if the network rests; some may be left if it has used up its rounds
 pub record Takes (quiet : Bool) (inputs : List NetworkInput) (rests : Bool) (from to : Place) : Type 0 where
   pub left : List NetworkInput
   pub all : rests ≡ true → left ≡ []
@@ -66,7 +66,7 @@ abbrev pub TakesIf : Result Bool RunFault → Bool → List NetworkInput → Pla
 TakesIf result quiet inputs from to =
     MatchResult result (λ rests. Takes quiet inputs rests from to) (λ fault. Faulted quiet inputs fault from to)
 
--- of a sink with so many failures before and after
+-- the sink's failure count before and after
 abbrev pub CountsFaults : {T : Type 0} → Result T RunFault → ℕ → ℕ → Type 0
 CountsFaults result old new = MatchResult result (λ _. new ≡ old) (λ fault. new ≡ (if is_write fault then old + 1 else old))
 
@@ -84,7 +84,7 @@ RunsIf result quiet script from to =
 abbrev pub Reading : Type 0
 Reading = List NetworkInput × End
 
--- some inputs of a script were carried out, and the later lines say the others
+-- some inputs of a script were executed, and the later lines say the others
 pub record HasCome (quiet : Bool) (script later : List NetworkInput × End) (from here : Place) : Type 0 where
   pub earlier : List NetworkInput
   pub inputs : script.0 ≡ earlier ++ later.0

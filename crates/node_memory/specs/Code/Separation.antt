@@ -161,8 +161,8 @@ is_heap _ = false
 abbrev pub lacks_place : Call → Reply → Bool
 lacks_place call reply = is_heap (part_called call) && is_no_room reply
 
--- What a call that is refused with this reply leaves: every block, as it is and where it is. All else is unchanged too, except
--- where the heap lacks room: then what was freed there before may have been joined.
+-- A call that is refused with this reply leaves every block as it is and where it is. All other memory is unchanged too, unless
+-- the heap lacks room: then chunks that were freed there before may have been joined.
 pub record LeavesAll (call : Call) (reply : Reply) (old new : PlacedMemory) : Type 0 where
   pub blocks : StaysInPlace old new
   pub rest : lacks_place call reply ≡ false → new ≡ old

@@ -37,7 +37,7 @@ fn stay_of(pid: usize, name: u64, at: u64, row: usize) -> Stay {
     }
 }
 
-/// The block that a call on a list is about: the one in its reply, or else its last number.
+/// The block that a call on a list is about: the one in its reply, otherwise its last number.
 fn block_of(answer: &str, last: u64) -> u64 {
     match answer.strip_prefix("num ") {
         Some(number) => number_of(Some(number)),
