@@ -6,7 +6,6 @@ use Rattle.mote_types.specs.Kinds.{Bytes}
 use Rattle.mote_types.specs.Limits.{ring_places, line_bytes}
 
 pub record SerialLine : Type 0 where
-  -- the bytes that wait
   pub ring : Bytes
   -- a byte was lost, and no line end was taken since
   pub overflow : Bool

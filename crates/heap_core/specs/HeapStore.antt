@@ -138,7 +138,6 @@ new_place old n heap =
 abbrev pub moved : Place → Block → ℕ → HeapStore → HeapStore
 moved place block n heap = with_block (block_at place block.name (resized n block.bytes)) (without_block block.name heap)
 
--- the heap after a live block was resized to n bytes, or None if no gap fits it
 abbrev pub resized_block : Block → ℕ → HeapStore → Option HeapStore
 resized_block block n heap = option_map (λ place. moved place block n heap) (new_place (place_of block) n heap)
 

@@ -1,4 +1,4 @@
--- Re-exports the names that most proofs here cite.
+-- The names that most proofs here cite.
 use Rattle.std.proofs.Common.{arith}
 pub use Rattle.arrayvec.specs.ArrayVec.{ArrayVec}
 unfoldable pub use Rattle.device_core.specs.PacketQueue.{free_slot}
@@ -28,7 +28,7 @@ pub use Rattle.kernel_core.specs.Machine.{Machine, booted, free_places, is_boota
 pub use Rattle.kernel_core.specs.PacketProcess.{announce, announce_next, has_news}
 unfoldable pub use Rattle.kernel_core.specs.Repeating.{times}
 pub use Rattle.kernel_core.specs.Run.{Answers, ComesToRest, Running, Runs, StepMade, after_step, after_steps, answers_after, at_start, gone_on, heard, is_at_rest, is_still, job_done, one_step, silent, with_input, with_more_work, within_limit, work_limit}
-pub use Rattle.kernel_core.specs.SerialProcess.{broadcast_line, line_count, line_served, post_continue, serial_line, serve_line}
+pub use Rattle.kernel_core.specs.SerialProcess.{broadcast_line, line_served, post_continue, serial_line, serve_line}
 pub use Rattle.kernel_core.specs.TimerProcesses.{exited_application, expiry_of, is_any_due, post_due, post_expiry, post_first_due}
 pub use Rattle.kernel_core.specs.declared.config.Config.{Config}
 pub use Rattle.kernel_core.specs.declared.kernel_fields.KernelFields.{KernelFields}
@@ -76,5 +76,5 @@ pub use Rattle.timer_core.specs.Names.{is_timer}
 pub use Rattle.timer_core.specs.Timers.{Timers, first_due, is_armed, is_due, no_timers, set_timer, without_callback_timers}
 pub use Rattle.timer_core.specs.declared.timer.Timer.{Timer}
 
--- what nearly every proof here rests on
+-- the rules that nearly every proof here uses
 pub ruleset decide = (arith, nat_tests)

@@ -1,27 +1,24 @@
--- Worked examples: how small motes start, what a killed process receives, what the kernel's own processes do, and the limit of work.
+-- Worked examples: the start of small motes, a killed process, the kernel's processes, the limit of work.
 use Rattle.std.proofs.Common.{◌≡◌, ℕ, true, [], ◌∷◌, refl, Some, None, length, if◌then◌else◌, ◌==◌}
-use Rattle.kernel_core.proofs.Common.{Applications, Says, fold_says, says_of, number_event, plain_event, CONTINUE, INIT, POLL, EXIT, TIMER, SERIAL_LINE, PACKET, Call, Entry, Event, Origin, Stimulus, Refusal, Reply, after_bytes, quiet_line, Queued, no_timers, set_timer, Machine, booted, with_serial, announce, times, Running, after_steps, at_start, is_at_rest, serial_line, post_due}
+use Rattle.kernel_core.proofs.Common.{Applications, Says, after_call, fold_says, says_of, number_event, plain_event, CONTINUE, INIT, POLL, EXIT, TIMER, SERIAL_LINE, PACKET, Call, Entry, Event, Origin, Stimulus, Refusal, Reply, after_bytes, quiet_line, Queued, no_timers, set_timer, Machine, booted, with_serial, announce, times, Running, after_steps, at_start, is_at_rest, serial_line, post_due}
 use Rattle.mote_types.specs.declared.event.Payload.{Payload}
 use Rattle.device_core.specs.PacketQueue as PacketQueue
 use Rattle.timer_core.specs.Names as Names
 use Rattle.timer_core.specs.Names.{event_timer}
 use Rattle.kernel_core.specs.declared.config.Config.{Config}
 use Rattle.kernel_core.specs.Inputs.{frame_arrived, frame_refusal}
-use Rattle.kernel_core.specs.PacketCalls.{receiver_claimed}
 
--- a mote of n applications
 abbrev small : ℕ → Config
 small applications = record { mmem = 4; heap = 20; apps = applications; quota = None; header = 16 }
 
--- the same call whenever it receives the same
+-- the call depends only on the stimulus
 abbrev always : (Stimulus → Call) → Says
 always answer = fold_says (λ (state : ℕ) stimulus. answer stimulus) (λ state stimulus. state) 0
 
--- more steps than anything here takes: at rest a step changes nothing
+-- more steps than any example takes: at rest a step changes nothing
 abbrev rested : Applications → Running → Running
 rested says = after_steps says 40
 
--- what a process receives, from where, and the call it makes
 abbrev turn : ℕ → Origin → Stimulus → Call → Entry
 turn p origin stimulus call = Entry.Turn (record { 0 = p }) origin stimulus call
 
@@ -50,8 +47,7 @@ started_entries : started.entries ≡
     event_turn 4 Origin.Synch (plain_event INIT) Call.Clock ∷ turn 4 Origin.Answer (Stimulus.Answer (Reply.Wide 0)) Call.Wait ∷ []
 started_entries = refl
 
--- Two applications: the first one kills the second, which asks for the clock in its EXIT event. The first one is in its own
--- turn, so it gets no EXITED of the other one.
+-- Two applications: the first kills the second, which asks for the clock in its EXIT. The first is in its own turn, so it gets no EXITED.
 
 abbrev killer : Stimulus → Call
 killer (Stimulus.Event event) = if event.code == INIT then Call.Poll 4 else Call.Kill 5
@@ -75,9 +71,8 @@ told_of_the_end : (rested two (at_start (small 2))).entries ≡
     ∷ []
 told_of_the_end = refl
 
--- What the kernel's processes do.
+-- The kernel's processes.
 
--- a timer of process 4 is due in three ticks
 abbrev timed : ℕ → Machine
 timed clock = record (booted (small 1)) { clock = clock; timers = set_timer 0 (event_timer 4 0) 3 no_timers }
 
@@ -107,12 +102,12 @@ frame_fits = refl
 frame_is_lost : frame_refusal 5 (booted (small 1)) ≡ Some Refusal.NoRoom
 frame_is_lost = refl
 
-frame_told : (announce (receiver_claimed 4 (frame_arrived (7 ∷ 9 ∷ []) (booted (small 1))))).scheduler.events ≡
+frame_told : (announce (after_call Call.PacketOpen 4 (frame_arrived (7 ∷ 9 ∷ []) (booted (small 1))))).scheduler.events ≡
     Queued.To 4 (number_event PACKET 2) ∷ []
 unfolding times PacketQueue.free_slot
 frame_told = refl
 
--- Where the work of an input is at its limit, the next turn halts the mote.
+-- At the limit of an input's work the next turn halts the mote.
 
 abbrev worked_up : Machine
 worked_up = record (booted (small 1)) { work = 10000 }

@@ -1,5 +1,5 @@
 -- The lines in the ring, one after another.
-use Rattle.kernel_core.proofs.Common.{decide, list_any, after_first, option_map, is_line_end, line_of, next_line, after_line, Machine, with_serial, line_count, line_served, serve_line, post_continue, broadcast_line, times, machine_of, KernelFields}
+use Rattle.kernel_core.proofs.Common.{decide, list_any, after_first, option_map, is_line_end, line_of, next_line, after_line, Machine, with_serial, line_served, serve_line, post_continue, broadcast_line, times, machine_of, KernelFields}
 use Rattle.std.proofs.Common.{◌≡◌, ℕ, suc, true, false, List, [], ◌∷◌, refl, Some, None, filter, length}
 use Rattle.arrayvec.specs.ArrayVec.{ArrayVec}
 use Rattle.kernel_core.proofs.Repeating.{times_next, times_same, times_none}
@@ -19,13 +19,11 @@ running_serve : (m : Machine) → m.is_serial_waiting ≡ false
     → serve_line m ≡ line_served (next_line m.serial) (with_serial (after_line m.serial) m)
 running_serve = grind decide
 
--- all lines that are in the ring are served
 abbrev pub all_served : KernelFields → Machine
-all_served k = times (suc (line_count k.serial)) serve_line (machine_of k)
+all_served k = times (suc (length (filter is_line_end k.serial.ring))) serve_line (machine_of k)
 
 module _ (k : KernelFields) where
   module _ (new : KernelFields) where
-    -- one of them was
     pub one_served : (line : ArrayVec ℕ) → k.serial_waits ≡ false → Some line ≡ option_map line_of (next_line k.serial)
         → new.serial ≡ after_line k.serial
         → machine_of new ≡ post_continue (broadcast_line line.items (with_serial (after_line k.serial) (machine_of k)))

@@ -2,14 +2,14 @@
 use Rattle.std.specs.Prelude.{Bool, not, ◌&&◌, ◌==◌, length, Option, Some, None, if◌then◌else◌, nat_lt}
 use Rattle.std.specs.Option.{option_or}
 use Rattle.mote_types.specs.Kinds.{ProcessNumber, EventCode, TimerNumber}
-use Rattle.mote_types.specs.Limits.{etimer_process, timers_each, callback_timers_each}
+use Rattle.mote_types.specs.Limits.{etimer_process, packet_process, timers_each, callback_timers_each}
 use Rattle.mote_types.specs.declared.call.Call.{Call}
 use Rattle.mote_types.specs.declared.reply.Reply.{Reply}
 use Rattle.mote_types.specs.declared.refusal.Refusal.{Refusal}
 use Rattle.mote_types.specs.declared.event.Payload.{Payload}
 use Rattle.mote_types.specs.declared.event.Event.{Event}
 use Rattle.mote_types.specs.Codes.{is_reserved}
-use Rattle.device_core.specs.PacketQueue.{front_slot}
+use Rattle.device_core.specs.PacketQueue.{front_slot, with_receiver}
 use Rattle.node_memory.specs.Memory.{Memory}
 use Rattle.node_memory.specs.Answered.{Asked}
 use Rattle.node_memory.specs.ManagedCalls as managed
@@ -21,9 +21,9 @@ use Rattle.process_core.specs.Agenda.{Queued}
 use Rattle.process_core.specs.Processes.{is_alive}
 use Rattle.process_core.specs.Scheduler.{state_in}
 use Rattle.process_core.specs.Requests.{application_refusal, post_refusal, synch_refusal, poll_refusal, start_refusal, kill_refusal, alloc_event_refusal, number_drawn, given_in_turn, started_by, killed_by, waited, ended}
-use Rattle.kernel_core.specs.Machine.{Machine, scheduled, with_timers, with_memory, with_event, mark, answer, refuse, shown_first}
+use Rattle.kernel_core.specs.Machine.{Machine, scheduled, with_timers, with_memory, with_packets, with_event, mark, answer, refuse, shown_first}
 use Rattle.kernel_core.specs.Expiries.{expiries_cancelled}
-use Rattle.kernel_core.specs.PacketCalls.{open_refusal, receiver_claimed, front_refusal, front_read_refusal, front_read, front_dropped, sent}
+use Rattle.kernel_core.specs.PacketCalls.{open_refusal, front_refusal, front_read_refusal, front_read, front_dropped, sent}
 use Rattle.timer_core.specs.Names.{event_timer, callback_timer}
 use Rattle.timer_core.specs.Timers.{set_timer, stop_timer, reset_timer, restart_timer, can_reset, is_armed}
 
@@ -40,17 +40,11 @@ event_of code payload = record { code = code; payload = payload }
 abbrev pub broadcast_call_refusal : Machine → EventCode → Option Refusal
 broadcast_call_refusal m code = if is_reserved code then Some Refusal.Reserved else post_refusal m.scheduler
 
-abbrev pub post_call_refusal : Machine → ProcessNumber → EventCode → Option Refusal
-post_call_refusal m q code = option_or (application_refusal m.scheduler q) (broadcast_call_refusal m code)
-
 abbrev pub timer_refusal : TimerNumber → Option Refusal
 timer_refusal t = if nat_lt t timers_each then None else Some Refusal.BadName
 
 abbrev pub callback_refusal : TimerNumber → Option Refusal
 callback_refusal c = if nat_lt c callback_timers_each then None else Some Refusal.BadName
-
-abbrev pub reset_refusal : ProcessNumber → TimerNumber → Machine → Option Refusal
-reset_refusal p t m = option_or (timer_refusal t) (if can_reset (event_timer p t) m.timers then None else Some Refusal.Range)
 
 abbrev pub is_callback_timer : ProcessNumber → TimerNumber → ProcessNumber → TimerNumber → Bool
 is_callback_timer p c q d = q == p && d == c
@@ -64,7 +58,8 @@ after_call Call.Wait p m = scheduled (waited p) m
 after_call Call.Exit p m = scheduled (ended p) m
 -- events
 after_call (Call.Post q code payload) p m =
-    refused_or (post_call_refusal m q code) p m (answer_done p (with_event (Queued.To q (event_of code payload)) m))
+    refused_or (option_or (application_refusal m.scheduler q) (broadcast_call_refusal m code)) p m
+    (answer_done p (with_event (Queued.To q (event_of code payload)) m))
 after_call (Call.Broadcast code payload) p m =
     refused_or (broadcast_call_refusal m code) p m (answer_done p (with_event (Queued.ToAll (event_of code payload)) m))
 after_call (Call.PostSynch q code payload) p m =
@@ -84,7 +79,7 @@ after_call (Call.TimerSet t interval) p m =
     (answer_done p (mark etimer_process (with_timers (set_timer m.clock (event_timer p t) interval m.timers) m)))
 after_call (Call.TimerStop t) p m = refused_or (timer_refusal t) p m (answer_done p (with_timers (stop_timer (event_timer p t) m.timers) m))
 after_call (Call.TimerReset t) p m =
-    refused_or (reset_refusal p t m) p m
+    refused_or (option_or (timer_refusal t) (if can_reset (event_timer p t) m.timers then None else Some Refusal.Range)) p m
     (answer_done p (mark etimer_process (with_timers (reset_timer (event_timer p t) m.timers) m)))
 after_call (Call.TimerRestart t) p m =
     refused_or (timer_refusal t) p m
@@ -104,7 +99,8 @@ after_call (Call.CallbackStop c) p m =
 after_call Call.Clock p m = answer p (Reply.Wide m.clock) m
 after_call (Call.Print chunk) p m = answer_done p m
 -- packets
-after_call Call.PacketOpen p m = refused_or (open_refusal p m) p m (answer_done p (receiver_claimed p m))
+after_call Call.PacketOpen p m = refused_or (open_refusal p m) p m
+    (answer_done p (mark packet_process (with_packets (with_receiver p m.packets) m)))
 after_call (Call.PacketRead at len) p m = refused_or (front_read_refusal p at len m) p m (answer p (front_read at len m) m)
 after_call Call.PacketDone p m = refused_or (front_refusal p m) p m (answer_done p (front_dropped (front_slot m.packets) m))
 after_call Call.PacketCount p m = answer p (Reply.Num (length m.packets.frames)) m

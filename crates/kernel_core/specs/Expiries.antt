@@ -9,6 +9,5 @@ abbrev pub cancelled_if : (ProcessNumber → TimerNumber → Bool) → Queued Bo
 cancelled_if test (Queued.Expiry p c is_cancelled) = Queued.Expiry p c (is_cancelled || test p c)
 cancelled_if test event = event
 
--- the expiries of these timers are cancelled
 abbrev pub expiries_cancelled : (ProcessNumber → TimerNumber → Bool) → Machine → Machine
 expiries_cancelled test = scheduled (λ s. record s { events = map (cancelled_if test) s.events })

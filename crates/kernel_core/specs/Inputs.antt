@@ -16,10 +16,6 @@ use Rattle.kernel_core.specs.Machine.{Machine, with_memory, with_packets, with_s
 abbrev pub ticked : Ticks → Machine → Machine
 ticked n m = mark etimer_process (record m { clock = m.clock + n })
 
--- All bytes go into the ring at once; process 2 will empty it.
-abbrev pub serial_arrived : Bytes → Machine → Machine
-serial_arrived bytes m = mark serial_line_process (with_serial (after_bytes m.serial bytes) m)
-
 -- a frame of n bytes is lost if the packet queue is full, or if managed memory or process 3's quota has no room for it
 abbrev pub frame_refusal : ℕ → Machine → Option Refusal
 frame_refusal len m =
@@ -45,7 +41,8 @@ frame_arrived bytes m = held_unless_lost (frame_refusal (length bytes) m) bytes 
 -- what an input does to the machine before any pending work is executed
 abbrev pub effect : Input → Machine → Machine
 effect (Input.Tick n) m = ticked n m
-effect (Input.Serial bytes) m = serial_arrived bytes.items m
+-- all bytes go into the ring at once; process 2 will empty it
+effect (Input.Serial bytes) m = mark serial_line_process (with_serial (after_bytes m.serial bytes.items) m)
 effect (Input.Frame bytes) m = frame_arrived bytes.items m
 
 -- the input is submitted: its entry is first, and the work counts from 0 again

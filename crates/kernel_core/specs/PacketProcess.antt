@@ -12,7 +12,6 @@ use Rattle.kernel_core.specs.Machine.{Machine, with_packets, with_event, free_pl
 use Rattle.kernel_core.specs.Repeating.{times}
 use Rattle.kernel_core.specs.TimerProcesses.{exited_application}
 
--- the frame is announced to the receiver by an event with its length, if there are both
 abbrev pub announce_to : Option ProcessNumber → Option Frame → Machine → Machine
 announce_to (Some receiver) (Some frame) m =
     with_event (Queued.To receiver (number_event PACKET frame.len)) (with_packets (with_announced m.packets) m)
@@ -30,7 +29,6 @@ announce m =
     let after = times (free_places m) announce_next m in
     if has_news after.packets then mark packet_process after else after
 
--- if the receiver has ended, there is no receiver, and no frame counts as announced
 abbrev pub forget_receiver : Option ProcessNumber → Machine → Machine
 forget_receiver None m = m
 forget_receiver (Some p) m = with_packets (forgotten p m.packets) m

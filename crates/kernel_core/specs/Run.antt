@@ -79,14 +79,11 @@ answers_after says entries p stimulus = says p (heard p entries ++ stimulus ∷ 
 -- how far a run has got
 pub record Running : Type 0 where
   pub machine : Machine
-  -- the entries made so far
   pub entries : List Entry
 
--- a step was made after these entries
 abbrev pub gone_on : List Entry → StepMade → Running
 gone_on entries step = record { machine = step.0; entries = entries ++ option_to_list step.1 }
 
--- each application's call depends on all that it received so far
 abbrev pub after_step : Applications → Running → Running
 after_step says r = gone_on r.entries (one_step (answers_after says r.entries) r.machine)
 

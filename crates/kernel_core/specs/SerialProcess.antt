@@ -12,12 +12,11 @@ use Rattle.process_core.specs.Scheduler.{has_room}
 use Rattle.kernel_core.specs.Machine.{Machine, with_serial, with_event}
 use Rattle.kernel_core.specs.Repeating.{times}
 
-abbrev pub line_event : Bytes → Event
-line_event line = record { code = SERIAL_LINE; payload = Payload.Line (line_of line) }
-
 -- the line is broadcast. It is lost if the queue is full
 abbrev pub broadcast_line : Bytes → Machine → Machine
-broadcast_line line m = if has_room m.scheduler then with_event (Queued.ToAll (line_event line)) m else m
+broadcast_line line m =
+    let event : Event = record { code = SERIAL_LINE; payload = Payload.Line (line_of line) } in
+    if has_room m.scheduler then with_event (Queued.ToAll event) m else m
 
 -- CONTINUE is posted to process 2, which waits for it. If the queue is full, it does not wait
 abbrev pub post_continue : Machine → Machine
@@ -36,12 +35,9 @@ line_served (Some line) m = post_continue (broadcast_line line m)
 abbrev pub serve_line : Machine → Machine
 serve_line m = if m.is_serial_waiting then m else line_served (next_line m.serial) (with_serial (after_line m.serial) m)
 
-abbrev pub line_count : SerialLine → ℕ
-line_count serial = length (filter is_line_end serial.ring)
-
 -- the ring is emptied: line by line, and then the bytes after the last line
 abbrev pub empty_ring : Machine → Machine
-empty_ring m = times (suc (line_count m.serial)) serve_line m
+empty_ring m = times (suc (length (filter is_line_end m.serial.ring))) serve_line m
 
 abbrev pub serial_line_polled : Machine → Machine
 serial_line_polled m = if m.is_serial_waiting then m else empty_ring m

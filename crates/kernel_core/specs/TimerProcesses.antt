@@ -23,7 +23,6 @@ abbrev pub expiry_of : Timer → Queued Bool
 expiry_of (Timer.Event p t) = Queued.To p.0 (number_event TIMER t)
 expiry_of (Timer.Callback p c) = Queued.Expiry p.0 c false
 
--- the due timer, if there is one, leaves the timer list and is posted
 abbrev pub post_expiry : Option Timer → Machine → Machine
 post_expiry None m = m
 post_expiry (Some timer) m = with_event (expiry_of timer) (with_timers (stop_timer timer m.timers) m)
@@ -40,7 +39,6 @@ post_due m =
     let after = times (free_places m) post_first_due m in
     if is_any_due after then mark etimer_process after else after
 
--- the event timers of a process that has ended leave the timer list
 abbrev pub forget_event_timers : Option ProcessNumber → Machine → Machine
 forget_event_timers None m = m
 forget_event_timers (Some p) m = with_timers (without_event_timers p m.timers) m
@@ -51,7 +49,6 @@ etimer event m =
     else if event.code == EXITED then forget_event_timers (exited_application event.payload) m
     else m
 
--- the callback timers of p leave the timer list, and their expiries are cancelled
 abbrev pub forget_callback_timers : Option ProcessNumber → Machine → Machine
 forget_callback_timers None m = m
 forget_callback_timers (Some p) m = expiries_cancelled (λ q c. q == p) (with_timers (without_callback_timers p m.timers) m)

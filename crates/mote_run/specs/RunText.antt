@@ -13,7 +13,6 @@ use Rattle.kernel_core.specs.Machine.{booted, is_bootable}
 use Rattle.kernel_core.specs.Mote.{Mote}
 use Rattle.kernel_core.specs.Run.{Running, Runs, at_start}
 
--- `count` bytes were read
 pub record HasRead (count : ℕ) (taken_old taken_new : List ℕ) : Type 0 where
   pub bytes : List ℕ
   pub taken : taken_new ≡ taken_old ++ bytes

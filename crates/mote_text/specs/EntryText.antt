@@ -110,7 +110,6 @@ entry_words (Entry.Note (Note.Lost refusal)) = codes "note" ∷ codes "lost" ∷
 entry_words (Entry.Note (Note.Sent bytes)) = codes "note" ∷ codes "sent" ∷ hex bytes.items ∷ []
 entry_words Entry.Halt = codes "halt" ∷ []
 
--- the words, a space between each two, and the line's end
 unfoldable pub line_of : List Word → Bytes
 line_of words = join_by (λ word. word) (codes " ") words ++ codes "\n"
 

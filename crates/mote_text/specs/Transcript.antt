@@ -28,6 +28,5 @@ is_shown (Entry.Note (Note.Lost refusal)) quiet = not quiet
 is_shown (Entry.Note (Note.Sent bytes)) quiet = true
 is_shown Entry.Halt quiet = true
 
--- a line for each entry that is shown, and the final one
 abbrev pub text : Bool → List Entry → End → Bytes
 text quiet entries end = flat_map entry_line (filter (λ entry. is_shown entry quiet) entries) ++ final_line end

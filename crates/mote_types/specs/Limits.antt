@@ -73,6 +73,5 @@ serial_limit = 256
 abbrev pub chunk_limit : ℕ
 chunk_limit = 64
 
--- the most bytes of a region of memory
 abbrev pub region_limit : ℕ
 region_limit = 65536

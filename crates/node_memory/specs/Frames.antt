@@ -8,14 +8,11 @@ use Rattle.mmem_core.specs.ManagedStore.{ManagedStore, block_of, bytes_of, with_
 use Rattle.node_memory.specs.BlockRefusals.{live_refusal}
 use Rattle.node_memory.specs.Memory.{Memory, with_managed}
 
-abbrev pub frame_holder : ProcessNumber
-frame_holder = packet_process
-
 abbrev pub frame_taken : Handle → Bytes → Memory → Memory
-frame_taken slot bytes m = with_managed (with_block frame_holder slot (Some bytes) m.managed) m
+frame_taken slot bytes m = with_managed (with_block packet_process slot (Some bytes) m.managed) m
 
 abbrev pub frame_dropped : Handle → Memory → Memory
-frame_dropped slot m = with_managed (freed frame_holder slot m.managed) m
+frame_dropped slot m = with_managed (freed packet_process slot m.managed) m
 
 abbrev pub send_refusal : ProcessNumber → Handle → ManagedStore → Option Refusal
 send_refusal p h store =

@@ -21,6 +21,5 @@ on_pool k call m =
     if nat_lt last_pool k then (m, Reply.Refused Refusal.BadName)
     else let asked = call (pool_in k m) in (with_pool k asked.0 m, asked.1)
 
--- a call on a list is one on its pool
 abbrev pub on_list : ℕ → (ListName → PoolWithLists → Asked PoolWithLists) → Memory → Asked Memory
 on_list l call = on_pool (l / 2) (call (list_named l))

@@ -1,9 +1,10 @@
 //! Frames, each held in a managed block of process 3, and the bytes that an application sends.
 
 ghost use Rattle.std.specs.Prelude.{◌≡◌, ◌≤◌, ◌<◌, true, false, None, Some, length, IsSome, IfOk, IfErr};
+ghost use Rattle.mote_types.specs.Limits.{packet_process};
 ghost use Rattle.mmem_core.specs.ManagedStore as store;
 ghost use Rattle.mmem_core.specs.ManagedStore.{fits, shortage};
-ghost use Rattle.node_memory.specs.Frames.{frame_holder, frame_taken, frame_dropped, send_refusal};
+ghost use Rattle.node_memory.specs.Frames.{frame_taken, frame_dropped, send_refusal};
 ghost use Rattle.node_memory.specs.Code.Conditions.{frame_in};
 ghost use Rattle.node_memory.specs.Code.Placed.{last_owner};
 ghost use Rattle.node_memory.specs.Code.Separation.{LeavesOthers, frame_block};
@@ -30,10 +31,10 @@ impl NodeMemory {
         requires some_bytes { 1 ≤ length bytes.now }
         requires few_bytes { length bytes.now ≤ 127 }
         requires unused { frame_in slot self.old.contents ≡ None }
-        ensures taken { IfOk result (λ _. (fits frame_holder (length bytes.now) self.old.contents.managed ≡ true)
+        ensures taken { IfOk result (λ _. (fits packet_process (length bytes.now) self.old.contents.managed ≡ true)
             × (self.new.contents ≡ frame_taken slot bytes.now self.old.contents)) }
         ensures refused { IfErr result (λ r. (r ≡ shortage self.old.contents.managed)
-            × (fits frame_holder (length bytes.now) self.old.contents.managed ≡ false)
+            × (fits packet_process (length bytes.now) self.old.contents.managed ≡ false)
             × (self.new ≡ self.old)) }
         ensures held { IfOk result (λ _. frame_in slot self.new.contents ≡ Some bytes.now) }
         ensures others { LeavesOthers (Some (frame_block slot)) self.old.contents self.new.contents }

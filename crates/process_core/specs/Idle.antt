@@ -6,6 +6,5 @@ abbrev pub is_empty : {A : Type 0} → List A → Bool
 is_empty [] = true
 is_empty (x ∷ xs) = false
 
--- nothing is on the agenda, no process is marked, and no event waits
 abbrev pub is_idle : {X : Type 0} → Scheduler X → Bool
 is_idle s = is_empty s.agenda && not (wants_round s)

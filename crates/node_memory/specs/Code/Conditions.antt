@@ -7,7 +7,6 @@ use Rattle.mote_types.specs.declared.reply.Reply.{Reply}
 use Rattle.mmem_core.specs.ManagedStore.{block_of}
 use Rattle.node_memory.specs.Memory.{Memory}
 use Rattle.node_memory.specs.Code.Parts.{part_called}
-use Rattle.node_memory.specs.Frames.{frame_holder}
 
 -- the processes that may make a call: the applications, and process 3
 abbrev pub MayAsk : ProcessNumber → Type 0
@@ -20,7 +19,7 @@ IfRefused _ fact = Unit {0}
 
 -- the bytes of the frame in that slot, if it holds one
 abbrev pub frame_in : Handle → Memory → Option Bytes
-frame_in slot m = block_of frame_holder slot m.managed
+frame_in slot m = block_of packet_process slot m.managed
 
 abbrev pub is_memory_call : Call → Bool
 is_memory_call call = is_some (part_called call)

@@ -19,7 +19,7 @@ use Rattle.heap_core.specs.Code.Separation.{live_block}
 use Rattle.memb_core.specs.Code.PoolBytes.{pool_of}
 use Rattle.memb_core.specs.Code.Separation as places_in_pool
 use Rattle.node_memory.specs.declared.listed_pool.ListedPool.{ListedPool}
-use Rattle.node_memory.specs.Frames.{frame_holder}
+use Rattle.mote_types.specs.Limits.{packet_process}
 use Rattle.node_memory.specs.Memory.{Memory, pool_in}
 use Rattle.node_memory.specs.declared.parts.Part.{Part}
 use Rattle.node_memory.specs.Code.Parts.{part_called}
@@ -36,7 +36,7 @@ pub data BlockName : Type 0 where
 
 -- the block of the frame in that slot
 abbrev pub frame_block : ℕ → BlockName
-frame_block slot = BlockName.Managed frame_holder slot
+frame_block slot = BlockName.Managed packet_process slot
 
 -- processes 3 to 19 have handles 0 to 15, and the same number of blocks in the heap
 abbrev pub IsBlockName : BlockName → Type 0
