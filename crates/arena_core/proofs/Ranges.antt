@@ -1,11 +1,8 @@
--- What a range reads as after a write to a range. For the allocators that keep their blocks in an arena.
---     length-range, length-written            the length of a range, which a write keeps
---     range-written                           what was written is read back
---     range-written_apart                     a range that the write does not meet is as it was
+-- Reads of a range after a write, for the allocators that keep their blocks in an arena.
+--     range-written, range-written_apart      what was written is read back, and a range apart from it is unchanged
 --     written-range                           a write within a range, seen from that range
---     written-same                            a range that is written over with its own bytes changes nothing
---     range-range                             a range of a range is a range
---     changes_only                            a write changes its range alone
+--     written-same                            a range overwritten with its own bytes changes nothing
+--     changes_only                            a write changes only its range
 --     take_past                               a prefix of two lists that reaches into the second
 use Rattle.std.proofs.Common.{◌≡◌, ℕ, ◌+◌, ◌-◌, ◌≤◌, ◌⊎◌, inl, inr, List, ◌++◌, length, take, slice_range, ap, arith, length-take, length-drop}
 use Rattle.std.proofs.lemmas.List.{drop_at, drop-drop, take-append-drop, take-take, take-append-le, take_at, append_assoc}

@@ -1,4 +1,4 @@
--- What a write to a range is, as a list.
+-- A write to a range, as a list.
 use Rattle.std.proofs.Common.{◌≡◌, ℕ, ◌+◌, ◌≤◌, List, ◌++◌, length, take, drop, sym, ap, ◌∙◌, arith, length-append, length-take, length-drop}
 use Rattle.std.proofs.lemmas.List.{drop-drop, take_all, append_assoc, take-append-le, drop-append-le, take_at, drop_at, take-append-drop, length-take-le}
 use Rattle.std.proofs.Math.Seq.{take-append-add, drop-append-add}
@@ -6,11 +6,10 @@ use Rattle.std.proofs.lemmas.Slice.{drop-put_mid}
 use borrow.Rule.Slice.PartMut.{put_mid}
 use Rattle.arena_core.specs.Code.Written.{written}
 
--- a write keeps the length
 pub length-written : (xs : List ℕ) (at : ℕ) (ws : List ℕ) → length (written xs at ws) ≡ length xs
 length-written xs at ws = grind (arith, length-take, length-append, length-drop)
 
--- where ws fits, it is between what was before it and what was after it
+-- if ws fits, it is between the bytes before and after the range
 module _ (xs : List ℕ) (at : ℕ) (ws : List ℕ) (fits : at + length ws ≤ length xs) where
   written_mid : written xs at ws ≡ put_mid at (length ws) xs ws
   written_mid = grind (arith, take_all, length-take, length-append, length-drop)
@@ -21,7 +20,6 @@ module _ (xs : List ℕ) (at : ℕ) (ws : List ℕ) (fits : at + length ws ≤ l
   pub drop-written : (n : ℕ) → at + length ws ≤ n → drop n (written xs at ws) ≡ drop n xs
   drop-written n behind = grind (arith, written_mid, drop-put_mid)
 
--- a write before qs, and one after ps
 pub written-append_left : (ps qs : List ℕ) (at : ℕ) (ws : List ℕ) → at + length ws ≤ length ps
     → written (ps ++ qs) at ws ≡ written ps at ws ++ qs
 written-append_left ps qs at ws le = grind (arith, written_is, length-append, take-append-le, drop-append-le, append_assoc)
@@ -29,7 +27,7 @@ written-append_left ps qs at ws le = grind (arith, written_is, length-append, ta
 written-append_right : (ps qs : List ℕ) (at : ℕ) (ws : List ℕ) → written (ps ++ qs) (length ps + at) ws ≡ ps ++ written qs at ws
 written-append_right ps qs at ws = simp (length-append, take-append-add, drop-append-add, append_assoc)
 
--- the bytes up to n after a write that is before n, and those from n on after one that is after n
+-- the bytes before n, or from n on, after a write on that side
 module _ (xs : List ℕ) (n : ℕ) (within : n ≤ length xs) (at : ℕ) (ws : List ℕ) where
   front : length (take n xs) ≡ n
   front = length-take-le n xs within

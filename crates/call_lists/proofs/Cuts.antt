@@ -1,4 +1,4 @@
--- Texts that are cut at their first blank, and what hex digits of either case leave of that.
+-- Texts cut at their first blank, also with hex digits in lower case.
 use Rattle.std.proofs.Common.{◌≡◌, ◌∙◌, ◌≢◌, ◌<◌, ◌==◌, ◌&&◌, ℕ, suc, Bool, true, false, not, List, [], ◌∷◌, ◌++◌, length, get_or, drop, nat_le, refl, ap, ne_eqb, arith, eq-eqb, append-nil}
 use Rattle.std.proofs.lemmas.Bool.{and_parts}
 use Rattle.std.proofs.lemmas.Bool.Decides.{nat_tests}
@@ -10,18 +10,16 @@ use Rattle.call_lists.specs.Spaced.{spaced}
 use Rattle.call_lists.specs.Calls.{hex_lowered}
 use Rattle.call_lists.specs.Code.Readings.{behind_first, first_word}
 
--- texts that begin with other bytes are not the same
 pub differ : {a b : ℕ} {front back : List ℕ} → a ∷ front ≡ b ∷ back → (a == b) ≡ false → ⊥
 differ {a} {b} same other = let is = eq-eqb a b (ap (λ text. get_or text 0 0) same) in absurd (cc)
 
--- neither a blank nor a comma
 abbrev pub is_plain : ℕ → Bool
 is_plain c = not (c == 32) && not (c == 44)
 
 abbrev pub IsPlain : List ℕ → Type 0
 IsPlain text = list_all is_plain text ≡ true
 
--- nothing, or what begins with a blank
+-- empty, or begins with a blank
 abbrev pub IsBehind : List ℕ → Type 0
 IsBehind [] = ⊤
 IsBehind (c ∷ text) = c ≡ 32
@@ -53,7 +51,7 @@ cut_of_plain word left plain is = cut_of_free word left free is
     free : (i : ℕ) → i < length word → get_or word i 0 ≢ 32
     free i inside same = let here = AllPass-from_list_all is_plain word plain i 0 inside in grind (arith, nat_tests)
 
--- what is no hex letter is unchanged in lower case
+-- no hex letter, so unchanged in lower case
 abbrev pub is_kept : ℕ → Bool
 is_kept c = not (nat_le 97 c && nat_le c 102)
 

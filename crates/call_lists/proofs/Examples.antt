@@ -1,4 +1,4 @@
--- Examples: which calls texts make, and which they don't; what has which name; what is no number.
+-- Examples: which calls texts make, and names and numbers that are refused.
 use Rattle.std.proofs.Common.{◌≡◌, ◌∙◌, ◌<◌, ◌⊎◌, ℕ, zero, suc, List, [], ◌∷◌, ◌++◌, inl, inr, refl, sym, ap, subst, drop, codes, get_or, replicate, Some, arith}
 use Rattle.std.proofs.lemmas.List.Elements.{All-replicate}
 use Rattle.std.specs.Fmt.{digits}
@@ -23,7 +23,7 @@ kill : IsCall (codes "kill 4") (Call.Kill 4)
 unfolding digits spaced
 kill = grind arith
 
--- hex digits are of either case
+-- hex digits in either case
 print : IsCall (codes "print 4A4b") (Call.Print (record { items = 74 ∷ 75 ∷ [] }))
 unfolding encode_with spaced
 print = grind arith
@@ -32,12 +32,12 @@ another_number : IsCall (codes "kill 5") (Call.Kill 4) → ⊥
 unfolding digits spaced
 another_number is = grind arith
 
--- a name has no letter in upper case, though E is a hex digit
+-- names are in lower case, though E is a hex digit
 another_name : IsCall (codes "poll 4") (Call.Kill 4) ⊎ IsCall (codes "Exit") Call.Exit → ⊥
 unfolding digits
 another_name is = grind arith
 
--- and the x before a line's digits is none either
+-- so is the x before a line's digits
 upper_x : IsCall (codes "broadcast 140 X41") (Call.Broadcast 140 (Payload.Line (record { items = 65 ∷ [] }))) → ⊥
 unfolding digits encode_with spaced
 upper_x is = grind arith
@@ -50,7 +50,7 @@ exit : IsCall (codes "exit") Call.Exit
 unfolding spaced
 exit = ([], refl, refl)
 
--- two calls of one part, then one, and then only Wait
+-- two calls of one part, then one, then only Wait
 list : IsListOf (codes "2 clock, exit") (Call.Clock ∷ Call.Clock ∷ Call.Exit ∷ Call.Wait ∷ [])
 unfolding digits
 list =
@@ -70,14 +70,13 @@ list =
       are_waits = grind arith;
     }
 
--- a part is one call, however often
+-- a part is one call, repeated
 no_two_calls : AreMade (codes "2 clock") (Call.Clock ∷ Call.Exit ∷ []) → ⊥
 unfolding digits
 no_two_calls (inl once) = let two : ◌≡◌ {A = ℕ} 2 1 = once.0 in absurd (omega arith)
 no_two_calls (inr numbered) =
     let rest : codes "clock" ≡ numbered.0 = ap (drop 2) numbered.2 in differ (rest ∙ numbered.3.1.0.1) refl
 
--- and the calls are those of the parts
 no_clock_of_exit : (first others : List Call) → Call.Clock ∷ [] ≡ first ++ others → AreMade (codes "exit") first → ⊥
 unfolding digits
 no_clock_of_exit [] others same (inl once) = let zero_is_one : ◌≡◌ {A = ℕ} 0 1 = once.0 in absurd (omega arith)
@@ -110,9 +109,9 @@ read_255 : read_number (codes "255") ≡ Some 255
 unfolding digits
 read_255 = read_decimal 255 (omega arith)
 
--- ---- the calls that there are, and what is refused
+-- ---- possible calls, and refusals
 
--- each call at its largest numbers and its most bytes is possible
+-- each call is possible at its largest numbers and most bytes
 
 byte : IsByte 255
 byte = omega arith
@@ -147,7 +146,7 @@ all : ArePossible (
     ∷ Call.PacketOpen ∷ Call.PacketRead 4294967295 255 ∷ Call.PacketDone ∷ Call.PacketCount ∷ Call.PacketSend 255 ∷ [])
 all = grind (arith, byte, wide, longest, longest_line)
 
--- a number, an offset, a length or bytes that are too much, also in a list
+-- a number, offset, length or bytes too large, also in a list
 too_much : IsPossible (Call.Kill 256) ⊎ ArePossible (Call.Wait ∷ Call.Kill 256 ∷ []) ⊎ IsPossible (Call.PacketRead 4294967296 1)
     ⊎ IsPossible (Call.PacketRead 0 256) ⊎ IsChunk (record { items = replicate 65 0 })
     ⊎ IsPayload (Payload.Line (record { items = replicate 128 0 })) ⊎ IsPayload (Payload.Num 4294967296) → ⊥
@@ -156,14 +155,14 @@ too_much is = grind arith
 no_bytes : IsChunk (record { items = 256 ∷ [] }) → ⊥
 no_bytes is = let over : 256 < 256 = is.1 0 in absurd (omega arith)
 
--- a text that is no call begins with a digit, for example, or is empty
+-- for example, a text that begins with a digit, or is empty
 no_call : IsNoCall (codes "4 kill")
 no_call call possible is = grind arith
 
 a_call : IsNoCall (codes "kill 4") → ⊥
 a_call none = none (Call.Kill 4) (omega arith) kill
 
--- a list of one call, and 127 waits after it
+-- one call and 127 waits
 waits : (n : ℕ) → ArePossible (replicate n Call.Wait)
 waits zero = tt
 waits (suc n) = (tt, waits n)
@@ -179,7 +178,6 @@ a_list none = none (Call.Exit ∷ replicate 127 Call.Wait) (tt, waits 127) refl 
   are_waits = All-replicate (λ call. call ≡ Call.Wait) 127 Call.Wait refl;
 })
 
--- and a name is one of the mote's, or the watcher's
 no_name : IsNoName (codes "nobody")
 no_name = grind arith
 
@@ -197,7 +195,7 @@ module _ (told : Bor (List ℕ)) where
   no_digits : told.now ≡ codes "-" → IsNoNumber (codes "-") 0 255 (CallFault.NoNumber told 0 255)
   no_digits is = (is, refl, refl, tt)
 
-  -- a number, another bound, another word or name, and a name that exists
+  -- not reported: a valid number, another bound, another word or name, an existing name
   not_told : IsNoNumber (codes "255") 0 255 (CallFault.NoNumber told 0 255) ⊎ IsNoNumber (codes "-") 0 255 (CallFault.NoNumber told 1 255)
       ⊎ ((told.now ≡ codes "7") × IsNoNumber (codes "-") 0 255 (CallFault.NoNumber told 0 255))
       ⊎ ((told.now ≡ codes "nobody") × TellsNoName (codes "somebody") (CallFault.NoApplication told))
@@ -205,6 +203,6 @@ module _ (told : Bor (List ℕ)) where
   not_told is = grind (arith, read_255)
 
 module _ (text : List ℕ) (calls : List Call) (list : IsListOf text calls) where
-  -- a list with no parts has no text, and only waits
+  -- no parts: an empty text, and only waits
   no_parts : list.parts ≡ [] → (text ≡ []) × AreWaits calls
   no_parts none = (grind arith, grind arith)

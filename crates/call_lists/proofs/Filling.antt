@@ -1,4 +1,4 @@
--- A list that is filled with the calls of its parts, from the front on.
+-- A list that is filled with the calls of its parts, from the front.
 use Rattle.std.proofs.Common.{◌≡◌, ◌∙◌, ◌≤◌, ◌<◌, ◌+◌, ℕ, List, [], ◌∷◌, ◌++◌, sym, ap, subst, arith, length, drop, set}
 use Rattle.std.proofs.lemmas.Grind.{common_steps}
 use Rattle.std.proofs.lemmas.List.{append-nil, append_assoc, drop-drop, drop-set-lt, length-append, take_more_set, take-append-drop}
@@ -13,7 +13,6 @@ none_put place calls fits = grind (arith, append-nil)
 one_put : (end : ℕ) (calls : List Call) (call : Call) → end < length calls → ArePut (call ∷ []) end (end + 1) calls (set calls end call)
 one_put end calls call fits = grind (arith, common_steps, take_more_set, drop-set-lt)
 
--- calls are put after those that were put
 pub put_more : (made more : List Call) (place middle end : ℕ) (old calls new : List Call) → ArePut made place middle old calls
     → ArePut more middle end calls new → ArePut (made ++ more) place end old new
 put_more made more place middle end old calls new first second =
@@ -29,7 +28,7 @@ put_more made more place middle end old calls new first second =
     }
 
 module _ (words : List ℕ) where
-  -- from the position up to the end are n calls of these words
+  -- from place to end are n calls of these words
   pub record AreCopies (count place end : ℕ) (old new : List Call) : Type 0 where
     pub made : List Call
     pub are_calls : AreCalls words made
@@ -55,7 +54,7 @@ module _ (text : List ℕ) where
   pub listed_none : (calls : List Call) → text ≡ [] → AreWaits calls → IsListOf text calls
   listed_none calls none waits = grind arith
 
-  -- the calls of a text before a list that only waits
+  -- the calls of a text, at the front of a list of waits
   pub listed_put : (old calls made : List Call) (end : ℕ) → AreWaits old → AreOfText text made
       → ArePut made 0 end old calls → IsListOf text calls
   listed_put old calls made end waits ([], is, are) put = cc is

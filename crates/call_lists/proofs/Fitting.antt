@@ -1,4 +1,4 @@
--- Which words of a text fit the words of a call, with hex digits of either case.
+-- Which words of a text fit the words of a call; hex digits are of either case.
 use Rattle.std.proofs.Common.{◌≡◌, ◌∙◌, ◌<◌, ◌^◌, ◌*◌, ◌||◌, ℕ, Bool, true, false, List, [], ◌∷◌, ◌++◌, length, get_or, drop, codes, decimal, bytes_eq, Some, None, Ok, Option, refl, sym, ap, subst, le-leb, lt-ltb, arith}
 use Rattle.std.proofs.lemmas.Bool.{and_parts}
 use Rattle.std.proofs.lemmas.Bool.Decides.{nat_tests}
@@ -23,11 +23,10 @@ use Rattle.call_lists.specs.Ranges.{AreBytes, IsByte, IsChunk, IsPayload, IsWide
 use Rattle.call_lists.specs.Code.Readings.{Test, behind_first, first_word, is_chunk, is_hex, is_payload, is_small, is_wide, left_by_all, left_by_call}
 use Rattle.call_lists.proofs.Cuts.{IsPlain, behind_spaced, is_kept, is_plain, kept, kept_lowered, lowered, lowered_cut}
 
--- the word has no blank and no comma, and a text that is it in lower case passes the test
+-- no blank, no comma, and any text equal to it in lower case passes the test
 abbrev pub Fits : Test → Word → Type 0
 Fits is_word word = IsPlain word × ((text : List ℕ) → hex_lowered text ≡ word → is_word text ≡ true)
 
--- so each of these fits its test
 abbrev pub AllFit : List Test → List Word → Type 0
 AllFit [] [] = ⊤
 AllFit [] (word ∷ words) = ⊥
@@ -161,7 +160,7 @@ module _ (word : List ℕ) where
   no_hex_fails other is = grind arith
 
   module _ (bytes : List ℕ) where
-    -- whether a word is of bytes, where it is no dash
+    -- a word of bytes, if it is no dash
     pub chunk_passes : is_hex 64 word ≡ true → decode_of word ≡ Ok bytes → 0 < length bytes → is_chunk word ≡ true
     chunk_passes is decoded some = grind (arith, decode_of-ok, or_right, bytes_eq, codes, lt-ltb)
 

@@ -1,4 +1,4 @@
--- Numbers and bytes whose hex digits are made lower case.
+-- Numbers and bytes with hex digits in lower case.
 use Rattle.std.proofs.Common.{◌≡◌, ◌<◌, ◌+◌, ◌*◌, ◌||◌, ℕ, true, List, [], ◌∷◌, decimal, nat_lt, slice_index, Option, Some, None, Result, Ok, Err, refl, ap, arith}
 use Rattle.std.proofs.lemmas.Bool.Decides.{nat_tests}
 use Rattle.std.proofs.lemmas.List.Sums.{AllPass-from_list_all}
@@ -12,7 +12,6 @@ use Rattle.mote_text.specs.Script.{read_number}
 use Rattle.mote_text.proofs.Ticks.{decimal_of_read, digits_of_read}
 use Rattle.call_lists.specs.Calls.{hex_lowered}
 
--- a digit in lower case is the one of its value
 digit : (c v : ℕ) → hex_digit_value c ≡ Some v → hex_lowered (c ∷ []) ≡ slice_index lower_digits v ∷ []
 digit c v is =
     let small : v < 16 = grind arith in

@@ -1,4 +1,4 @@
--- A text makes calls in one way: how many, which, and where its parts end.
+-- A text makes calls in one way: their number, the calls, and where its parts end.
 use Rattle.std.proofs.Common.{◌≡◌, ◌∙◌, ◌≢◌, ◌<◌, ◌≤◌, ◌⊎◌, ◌+◌, ◌^◌, ◌==◌, ℕ, Bool, true, false, not, List, [], ◌∷◌, ◌++◌, length, slice_index, get_or, drop, codes, decimal, Option, Some, None, IsSome, inl, inr, refl, sym, ap, subst, append-nil, append_assoc, length-append, drop_at, arith}
 use Rattle.std.proofs.lemmas.Bool.{and_parts, cases_lt}
 use Rattle.std.proofs.lemmas.Bool.Decides.{nat_tests}
@@ -23,7 +23,7 @@ use Rattle.call_lists.proofs.Cuts.{IsPlain, cut_of_plain, is_plain, lowered}
 use Rattle.call_lists.proofs.Fitting.{AllFit, FitsCall, all_digits, plain_digits}
 use Rattle.call_lists.proofs.Possible.{name_of, well_formed}
 
--- ---- no comma is in what a part makes
+-- ---- parts without commas
 
 abbrev is_other : ℕ → Bool
 is_other c = not (c == 44)
@@ -80,13 +80,13 @@ module _ (text : List ℕ) where
   of_calls [] possible some are = absurd (omega arith)
   of_calls (call ∷ made) possible some are = of_call call possible.0 are.0
 
-  -- where its first call is refused, no call is made of a text
+  -- no call is made of a text whose first call is refused
   pub none_made : IsNoCall text → (made : List Call) → ArePossible made → AreCalls text made → 0 < length made → ⊥
   none_made refused [] possible are some = absurd (omega arith)
   none_made refused (call ∷ made) possible are some = refused call possible.0 are.0
 
 module _ (text : List ℕ) where
-  -- the number before a text
+  -- a number, then the rest
   record IsNumbered (n : ℕ) (rest : List ℕ) : Type 0 where
     reads : read_number (first_word text) ≡ Some n
     behind : behind_first text ≡ 32 ∷ rest
@@ -108,14 +108,13 @@ module _ (text : List ℕ) where
         subst HasNoComma (sym (counted.2 ∙ append_assoc (decimal (length made)) (codes " ") counted.0))
         (both_other (decimal (length made)) (32 ∷ counted.0) digits (of_calls counted.0 made possible counted.1 counted.3).0)
 
-    -- a text with no digit at the front, or with no blank
+    -- without a digit at the front, or without a blank
     pub once_only : (has_digit text ≡ false) ⊎ (behind_first text ≡ []) → AreMade text made → (length made ≡ 1) × AreCalls text made
     once_only none (inl once) = once
     once_only (inl letter) (inr counted) =
         let digit = (numbered counted.0 (length made) (omega arith) counted.2).digit in absurd (cc)
     once_only (inr none) (inr counted) = cc (sym none ∙ (numbered counted.0 (length made) (omega arith) counted.2).behind)
 
-    -- one with a digit at the front
     counted_only : has_digit text ≡ true → AreMade text made
         → (rest : List ℕ) × (0 < length made) × IsNumbered (length made) rest × AreCalls rest made
     counted_only digit (inl once) = let letter = (of_calls text made possible (omega (arith, once.0)) once.1).1 in absurd (cc)
@@ -163,7 +162,7 @@ possible_parts [] b are = (tt, are)
 possible_parts (call ∷ a) b are = let later = possible_parts a b are.1 in ((are.0, later.0), later.1)
 
 module _ (text part : List ℕ) where
-  -- the front of a text that a comma parts
+  -- the first part of a text with commas
   abbrev pub IsFirst : Option (Bor (List ℕ)) → Type 0
   IsFirst others = (front rest : List ℕ) → text ≡ front ++ (codes ", " ++ rest) → (length part ≤ length front) × IsSome others
 
@@ -179,7 +178,7 @@ module _ (text part : List ℕ) where
       let same = same_front part first others.now rest are (leads first rest whole).0 (sym cut ∙ whole) in
       (sym same.0, ap (λ rest. codes ", " ++ rest) same.1)
 
--- the calls of a text's first part, and the text of the others
+-- the calls of the first part, and the text of the others
 pub first_part : {left : Option (Bor (List ℕ))} {text : Bor (List ℕ)} (part : List ℕ) (others : Option (Bor (List ℕ))) (place room : ℕ)
     → left ≡ Some text → text.now ≡ part ++ behind_comma others → IsFirst text.now part others → room ≤ 128
     → HasCalls (behind_comma left) place room
@@ -207,7 +206,6 @@ first_part {text = text} part others place room is cut leads few (calls, possibl
         )
 
 module _ (text : List ℕ) where
-  -- a list of calls whose text isn't empty
   pub calls_of_list : (calls : List Call) (room : ℕ) → 0 < length text → ArePossible calls → length calls ≤ room
       → IsListOf text calls → HasCalls (codes ", " ++ text) 0 room
   calls_of_list calls room some possible long list =
@@ -223,7 +221,7 @@ module _ (text : List ℕ) where
         omega (arith, ap length list.are_calls, length-append list.made list.waits, long),
       )
 
-  -- a text is not found before the n-th byte of another
+  -- a word that is not found before byte i
   pub first_at : (word : List ℕ) (i : ℕ) → ((k : ℕ) → k < i → (rest : List ℕ) → drop k text ≢ word ++ rest)
       → (front rest : List ℕ) → text ≡ front ++ (word ++ rest) → i ≤ length front
   first_at word i lacks front rest is = elim (cases_lt (length front) i) [

@@ -4,7 +4,7 @@ use denote.Ref.{Bor}
 use Rattle.call_lists.specs.Code.Lists.{AreBehind, behind_comma}
 
 module _ {T : Type 0} (AreOf : List (List ℕ) → List T → Type 0) (P : List T → Type 0) where
-  -- whatever is made of what is left, it is of the whole after what was made
+  -- whatever the rest makes, the whole makes after what was made
   abbrev pub IsOnward : Option (Bor (List ℕ)) → List T → Type 0
   IsOnward left made = (more : List T) → AreBehind AreOf (behind_comma left) more → P (made ++ more)
 

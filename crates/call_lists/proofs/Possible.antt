@@ -1,4 +1,4 @@
--- The words of each possible call are those that its name takes, so its text is accepted.
+-- The text of each possible call is accepted: its words are those that its name takes.
 use Rattle.std.proofs.Common.{◌≡◌, ◌∙◌, ◌≢◌, ℕ, false, List, [], ◌∷◌, ◌++◌, get_or, IfErr, Result, Ok, Err, Some, refl, ap, subst, rules}
 use Rattle.std.specs.Char.{is_ascii_digit}
 use Rattle.mote_text.specs.Code.CallWords.{argument_words}
@@ -12,7 +12,6 @@ use Rattle.call_lists.specs.declared.words.Words.{Words}
 use Rattle.call_lists.proofs.Cuts.{IsBehind, IsPlain, behind_lowered, behind_spaced, cut_of_plain}
 use Rattle.call_lists.proofs.Fitting.{FitsCall, call_taken, chunk_fits, payload_fits, small_fits, wide_fits}
 
--- what holds in any case holds of each error
 pub of_each : {T E : Type 0} (A : Type 0) (result : Result T E) → A → IfErr result (λ (_ : E). A)
 of_each A (Ok value) holds = tt
 of_each A (Err fault) holds = holds
@@ -45,7 +44,7 @@ well_formed call is = let words = named call in record { are_words = words.0; pl
 
 module _ (text : List ℕ) where
   module _ (call : Call) where
-    -- the name and the other words of a text that has the words of a call
+    -- a call's text is its name and its other words
     pub words_in : IsWellFormed call → IsCall text call
         → (rest : List ℕ) × (text ≡ name_of call ++ rest) × (hex_lowered rest ≡ spaced (argument_words call))
     words_in formed is = subst (HasWords text) formed.are_words is
@@ -60,7 +59,7 @@ module _ (text : List ℕ) where
         let cut = cut_of_plain (name_of call) words.0 formed.plain behind in
         rw (words.1, cut.0, cut.1) (call_taken (process_words (name_of call)) (argument_words call) words.0 formed.fit words.2)
 
-  -- so where words of it are left, or a fault was met, it is no call's
+  -- if words are left, or a fault was found, the text is no call's
   pub no_call : (old new : Words) → old.name.now ≡ first_word text → left_in old ≡ Some (behind_first text)
       → left_in new ≡ left_by_call (process_words old.name.now) (left_in old) → left_in new ≢ Some []
       → (call : Call) → IsPossible call → IsCall text call → ⊥

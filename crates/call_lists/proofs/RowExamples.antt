@@ -1,4 +1,4 @@
--- Examples: which rows are for which stimuli, calls with a received value, and what applications with rows say.
+-- Examples: rows and their stimuli, calls with a received value, what applications with rows say.
 use Rattle.std.proofs.Common.{◌≡◌, ℕ, Bool, true, false, List, [], ◌∷◌, map, Some, None, refl, codes}
 use Rattle.mote_types.specs.Codes.{number_event, plain_event}
 use Rattle.mote_types.specs.EventNumbers.{INIT, PACKET, TIMER}
@@ -28,7 +28,7 @@ refused refusal = Stimulus.Answer (Reply.Refused refusal)
 abbrev are_for : Trigger → List Stimulus → List Bool
 are_for trigger stimuli = map (is_for trigger) stimuli
 
--- an event with no number is not the one with the number 0
+-- an event without a number is not the one with number 0
 triggers : (are_for Trigger.Any (rings 0 ∷ done ∷ refused Refusal.NoRoom ∷ []) ≡ true ∷ false ∷ false ∷ [])
     × (are_for (Trigger.Event TIMER (Some 0)) (rings 0 ∷ rings 1 ∷ []) ≡ true ∷ false ∷ [])
     × (is_for (Trigger.Event INIT (Some 0)) starts ≡ false)
@@ -43,7 +43,7 @@ fillings : (filled true (Payload.Num 7) (Call.MmemAlloc 3 0) ≡ Call.MmemAlloc 
     × (filled false (Payload.Num 7) (Call.Kill 4) ≡ Call.Kill 4)
 fillings = (refl, refl, refl, refl)
 
--- a call whose words are all written
+-- a call with all words written
 abbrev fixed : Call → Step
 fixed call = record { call = call; is_told = false }
 
@@ -53,7 +53,7 @@ prints text = Call.Print (record { items = text })
 abbrev row : Trigger → List Step → Rule
 row trigger steps = record { trigger = trigger; steps = steps; place = 0; repeats = true }
 
--- what rows say when they received each of these
+-- what rows say when they receive these
 abbrev they_say : List Rule → List (List Stimulus) → List Call
 they_say rules told = map (reaction_says (record { rules = rules; current = None; told = Payload.Empty })) told
 
@@ -64,8 +64,8 @@ blinker =
     (fixed (prints (codes "on")) ∷ fixed (Call.TimerReset 0) ∷ fixed Call.Wait ∷ fixed (prints (codes "off")) ∷ [])
     ∷ []
 
--- an event gets the first call of its row; after the last one it waits; another row does not go on with the first one; a row
--- goes on where it stopped, and begins anew after its end; no row is for timer 1
+-- an event gets the first call of its row; after the last one it waits; each row continues where it stopped,
+-- and begins again after its end; no row is for timer 1
 blinking : they_say blinker (
     (starts ∷ []) ∷ (starts ∷ done ∷ []) ∷ (starts ∷ done ∷ rings 0 ∷ []) ∷ (starts ∷ done ∷ rings 0 ∷ done ∷ [])
     ∷ (starts ∷ done ∷ rings 0 ∷ done ∷ done ∷ rings 0 ∷ []) ∷ (starts ∷ done ∷ rings 0 ∷ done ∷ done ∷ rings 0 ∷ done ∷ rings 0 ∷ [])
@@ -73,7 +73,7 @@ blinking : they_say blinker (
     ≡ Call.TimerSet 0 10 ∷ Call.Wait ∷ prints (codes "on") ∷ Call.TimerReset 0 ∷ prints (codes "off") ∷ prints (codes "on") ∷ Call.Wait ∷ []
 blinking = refl
 
--- a refusal turns to its row, in which a refusal is a reply like any other; and the row that was broken off begins anew
+-- a refusal turns to its row, where further refusals are plain replies; the interrupted row begins again
 relaying : (frame : Stimulus) → frame ≡ Stimulus.Event (number_event PACKET 7) → they_say (
     row (Trigger.Event PACKET None) (record { call = Call.MmemAlloc 0 0; is_told = true } ∷ fixed (Call.PacketSend 0) ∷ [])
     ∷ row (Trigger.Refused None) (fixed (Call.MmemFree 0) ∷ fixed Call.PacketDone ∷ []) ∷ []) (

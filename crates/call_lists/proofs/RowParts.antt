@@ -1,4 +1,4 @@
--- The calls of a row that grow part by part.
+-- A row's calls, part by part.
 use Rattle.std.proofs.Common.{◌≡◌, ◌+◌, ℕ, List, [], ◌∷◌, ◌++◌, ap, arith, codes, length, drop}
 use Rattle.std.proofs.lemmas.Grind.{common_steps}
 use Rattle.std.proofs.lemmas.List.{append_assoc}
@@ -7,7 +7,7 @@ use Rattle.call_lists.specs.RowTexts.{AreCalls, AreOfParts, AreSteps, IsStep}
 use Rattle.call_lists.specs.declared.rows.row.Step.{Step}
 
 module _ (words : List ℕ) where
-  -- n calls of these words are after the others
+  -- n calls of these words after the others
   pub record AreCopies (count : ℕ) (old new : List Step) : Type 0 where
     pub made : List Step
     pub are_steps : AreSteps words made
@@ -23,7 +23,7 @@ module _ (words : List ℕ) where
       → AreCopies (count + 1) old (new ++ step ∷ [])
   copies_more count old new step copies is = grind (arith, steps_more, common_steps, append_assoc)
 
--- a text has one part at least
+-- a text has at least one part
 pub of_text : (text : List ℕ) (steps : List Step) → AreBehind AreOfParts (codes ", " ++ text) steps → AreCalls text steps
 of_text text steps ([], is, are) = cc is
 of_text text steps (part ∷ parts, is, are) = (part, parts, ap (drop 2) is, are)

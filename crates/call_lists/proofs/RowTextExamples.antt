@@ -1,4 +1,4 @@
--- Examples: which texts are which rows, and which they aren't.
+-- Examples: texts that are rows, and texts that aren't.
 use Rattle.std.proofs.Common.{◌≡◌, ◌∙◌, ◌⊎◌, ℕ, true, false, List, [], ◌∷◌, ◌++◌, inl, inr, refl, ap, arith, codes, drop, length, Some, None}
 use Rattle.std.proofs.lemmas.Grind.{common_steps}
 use Rattle.std.specs.Fmt.{digits}
@@ -16,18 +16,17 @@ stimuli : IsStimulus (codes "136 0") (Trigger.Event TIMER (Some 0)) × IsStimulu
 unfolding digits
 stimuli = (inl refl, inr (refl, inl (refl, refl)), (refl, tt), (refl, (omega arith, omega arith)))
 
--- there is no timer 4, and no refusal 0 or 19; and not each event is any
+-- no timer 4, no refusal 0 or 19; one event is not any event
 no_stimuli : IsStimulus (codes "callback 4") (Trigger.Callback (Some 4)) ⊎ IsStimulus (codes "refused 19") (Trigger.Refused (Some 19))
     ⊎ IsStimulus (codes "refused 0") (Trigger.Refused (Some 0)) ⊎ IsStimulus (codes "136") Trigger.Any → ⊥
 no_stimuli is = grind arith
 
--- a line carries no number
+-- a line has no number
 numbered_line : IsStimulus (codes "line") (Trigger.Event SERIAL_LINE (Some 3)) → ⊥
 unfolding digits
 numbered_line (inl numbered) = differ numbered refl
 numbered_line (inr (none, word)) = absurd (cc)
 
--- a line is no frame
 no_frame : IsStimulus (codes "line") (Trigger.Event PACKET None) → ⊥
 unfolding digits
 no_frame (inl numbered) = differ numbered refl
@@ -68,13 +67,13 @@ twice : AreMade (codes "2 kill told") (told (Call.Kill 0) ∷ told (Call.Kill 0)
 unfolding digits
 twice = grind (arith, codes, kills)
 
--- a call with no number is made once, and no call 0 times; after the last part there is none
+-- without a number once, never 0 times; nothing after the last part
 once_alone : AreMade (codes "wait") (fixed Call.Wait ∷ fixed Call.Wait ∷ []) ⊎ AreMade (codes "0 wait") []
     ⊎ AreOfParts [] (fixed Call.Wait ∷ []) → ⊥
 unfolding digits
 once_alone is = grind arith
 
--- a part is one call, however often
+-- a part is one call, repeated
 no_two_calls : AreMade (codes "2 wait") (fixed Call.Wait ∷ fixed Call.Exit ∷ []) → ⊥
 unfolding digits
 no_two_calls (inl once) = let two : ◌≡◌ {A = ℕ} 2 1 = once.0 in absurd (omega arith)
@@ -107,15 +106,15 @@ row = (
   refl,
 )
 
--- a row with no calls only waits
+-- a row without calls only waits
 empty : IsRow (codes "any:") (record { trigger = Trigger.Any; steps = []; place = 0; repeats = false })
 empty = grind arith
 
--- of a row that is read no call was made
+-- a row that was just read has made no call
 begun : (rule : Rule) → IsRow (codes "any: wait") rule → rule.place ≡ 0
 begun rule is = is.5
 
--- a row that doesn't say so never begins anew
+-- a row begins again only if it says so
 not_repeated : (steps : List Step) → IsBehindColon (codes " wait") steps true → ⊥
 not_repeated steps (inl nothing) = cc nothing.0
 not_repeated steps (inr some) = let sizes = ap length some.1 in absurd (grind (arith, common_steps, sizes))

@@ -1,4 +1,4 @@
--- What was taken from the front of a call's words, and the call of a text that is used up.
+-- What was taken of a call's words, and the call of a text that is used up.
 use Rattle.std.proofs.Common.{◌≡◌, ℕ, List, [], ◌∷◌, ◌++◌, None, arith}
 use Rattle.std.proofs.lemmas.Grind.{common_steps}
 use Rattle.std.proofs.lemmas.List.{append-nil}
@@ -13,7 +13,7 @@ pub word_taken : (rest word left : List ℕ) → rest ≡ word ++ left
 unfolding spaced
 word_taken rest word left parted = grind (arith, common_steps)
 
--- where nothing is left, and no fault was met, the text was the call
+-- if nothing is left, and no fault was found, the text was the call
 pub whole_call : (text : List ℕ) (old new : Words) (call : Call) → text ≡ old.name.now ++ behind old.rest → IsTaken old call new
     → new.fault ≡ None → new.rest ≡ None → IsCall text call
 unfolding spaced

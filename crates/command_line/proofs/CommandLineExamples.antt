@@ -1,4 +1,4 @@
--- Worked examples: what arguments, names and numbers on the command line mean.
+-- Examples: what arguments, names and numbers mean.
 use Rattle.std.proofs.Common.{◌≡◌, ◌<◌, ◌⊎◌, ℕ, List, true, false, ◌∷◌, map, codes, refl, sym, ap, arith, length, replicate, Option, Some, None, bytes_eq, find, if◌then◌else◌, []}
 use denote.Ref.{Bor}
 use Rattle.clap.specs.Words.{kind_of}
@@ -13,7 +13,6 @@ use Rattle.command_line.specs.declared.refusal.Refusal.{Refusal}
 abbrev table : List ℕ → Option ℕ
 table name = if bytes_eq name (codes "blink") then Some 1 else if bytes_eq name (codes "echo") then Some 2 else None
 
--- repeats are allowed, and each name is an application's; the first of two
 names : (applications_of table (codes "blink" ∷ codes "echo" ∷ codes "blink" ∷ []) ≡ 1 ∷ 2 ∷ 1 ∷ [])
     × (find (is_unknown table) (codes "blink" ∷ codes "echo" ∷ []) ≡ None)
     × (find (is_unknown table) (codes "echo" ∷ codes "hullo" ∷ codes "blank" ∷ []) ≡ Some (codes "hullo"))
@@ -31,13 +30,12 @@ used_in_words = refl
 seventeen_names : RefusesNames table (replicate 17 (codes "echo")) Refusal.TooManyApplications
 seventeen_names = (refl, omega arith)
 
--- not for sixteen, for an unknown one before too many, and only then
+-- not for sixteen names; an unknown name is reported before too many, and only then
 no_reason : RefusesNames table (replicate 16 (codes "echo")) Refusal.TooManyApplications
     ⊎ RefusesNames table (codes "hullo" ∷ replicate 16 (codes "echo")) Refusal.TooManyApplications
     ⊎ RefusesNames table (codes "hullo" ∷ []) Refusal.OutOfMemory → ⊥
 no_reason refused = grind arith
 
--- What arguments are refused with: a text that they ask for is no mistake, and no name counts where there is one.
 module _ (words : List (List ℕ)) where
   no_text_where_none_is_asked_for : AsksForText words → errors_in words ≡ [] → ⊥
   no_text_where_none_is_asked_for asks none = rw none at asks.1
@@ -51,7 +49,6 @@ module _ (words : List (List ℕ)) where
   too_many : Refuses table words Refusal.TooManyApplications → 16 < length (names_of (matches_in words))
   too_many refused = refused.1.1
 
-  -- arguments that name applications have no mistake, no unknown name, and at most sixteen names
   none_wrong : NamesApplications table words → errors_in words ≡ []
   none_wrong names = names.taken
 
@@ -80,8 +77,6 @@ module _ (words : List (List ℕ)) where
     refused_by_its_name refused = refused.1
 
 module _ (name : Bor (List ℕ)) where
-  -- What names are refused with: the first that is unknown, and only then that they are more than 16.
-
   refused_by_name : name.now ≡ codes "hullo"
       → RefusesNames table (codes "echo" ∷ codes "hullo" ∷ []) (Refusal.NoApplication name)
   refused_by_name is = ap Some (sym is)

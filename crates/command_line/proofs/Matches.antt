@@ -1,4 +1,4 @@
--- The command line as the parser knows it is a simple one, and what the getters read of matches, by their rows.
+-- The command line of the parser is a simple one; what the getters read of matches.
 use Rattle.std.proofs.Common.{◌≡◌, ◌∙◌, ℕ, Bool, true, false, refl, ap, arith, List, map, Option, Some, None, Result, Ok, Err, codes, find, option_map, option_and_then, unwrap_or, if◌then◌else◌, bytes_eq, []}
 use Rattle.command_line.proofs.Common.{ParsesUnsigned, is_simple, matches_of, fault_of, is_simple_and_free, rows_of, texts, find-map, applications_of, is_quiet, names_of, number_of, number_written, program, sizes_of}
 use Rattle.std.specs.Borrow.{Bor}
@@ -46,7 +46,7 @@ module _ (name : Text) where
     errors_in_is = refl
 
 module _ (E : Type 0) (G : List ℕ → Result ℕ E → Type 0) where
-  -- what was read of a text is the number that it writes
+  -- the number that a text writes
   number_read : ((t : List ℕ) (x : Result ℕ E) → G t x → ParsesUnsigned 32 10 t x) →
       (t : List ℕ) (r : Option ℕ) → ReadsOne G t r → r ≡ number_written t
   number_read only t (Some v) read =

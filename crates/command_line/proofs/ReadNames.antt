@@ -1,4 +1,4 @@
--- What is known while the names are read, and what their refusal says of the texts.
+-- What is known while the names are read, and what their refusal says.
 use Rattle.std.proofs.Common.{arith, rules, ◌≡◌, ◌≤◌, ◌++◌, ℕ, refl, sym, List, ◌∷◌, length, drop, min, Option, Some, None, find, filter_map, option_map, []}
 use Rattle.std.proofs.lemmas.List.{length-map}
 use Rattle.command_line.proofs.Common.{nat_tests, texts, find-map, RefusesNames, applications_of, is_unknown}
@@ -14,7 +14,7 @@ module _ {A : Type 0} (by_name : List ℕ → Option A) where
   applications_of_texts (name ∷ names) = rw (applications_of_texts names) refl
 
   module _ (names : List Name) where
-    -- n names were read, these are the first applications
+    -- n names were read, the first applications
     pub record HasRead (count : ℕ) (applications : List A) : Type 0 where
       pub unknown : find (is_strange by_name) names ≡ find (is_strange by_name) (drop count names)
       pub few : length applications ≡ min count 16

@@ -1,4 +1,4 @@
--- Worked examples: statuses and messages.
+-- Examples: statuses and messages.
 use Rattle.std.proofs.Common.{◌≡◌, ◌⊎◌, ℕ, List, [], ◌∷◌, map, codes, refl, arith, inl, inr}
 use Rattle.std.specs.Prelude.{Some, None, Ok, Err}
 use denote.Ref.{Bor}
@@ -18,7 +18,7 @@ statuses = refl
 sizes_told : reported_text (codes "mote") Failure.BadSizes ≡ Some (codes "mote: bad sizes\n")
 sizes_told = refl
 
--- the message of each failure; the parser writes its own texts
+-- the parser writes its own texts
 told : map failure_text (Failure.Read ∷ Failure.Write ∷ Failure.NotText ∷ Failure.TooManyApplications ∷ Failure.OutOfMemory ∷ [])
     ≡ map (λ text. Some text) (codes "read failed" ∷ codes "write failed" ∷ codes "a word is not text" ∷ codes "too many applications"
     ∷ codes "out of memory" ∷ [])
@@ -35,30 +35,30 @@ module _ (text : ParserText) where
   nothing_told : map failure_text (Failure.Request text ∷ Failure.Words text ∷ []) ≡ None ∷ None ∷ []
   nothing_told = refl
 
-  -- only a text that the arguments ask for is written on standard output
+  -- only a requested text goes to standard output
   streams : map stream_of_failure (Failure.Request text ∷ Failure.Words text ∷ Failure.BadSizes ∷ Failure.OutOfMemory ∷ [])
       ≡ Stream.Output ∷ Stream.Error ∷ Stream.Error ∷ Stream.Error ∷ []
   streams = refl
 
-  -- where that text can't be written, it is a failed write; no other outcome changes
+  -- a requested text that can't be written is a failed write; no other outcome changes
   not_shown : IsStatusOf (Err (Failure.Request text)) 6
   not_shown = record { shown = Err Failure.Write; is_shown = inr refl; is_status = refl }
 
   shown : IsStatusOf (Err (Failure.Request text)) 0
   shown = record { shown = Err (Failure.Request text); is_shown = inl refl; is_status = refl }
 
-  -- and it is no run
+  -- it is no run
   no_run : IsShown (Err (Failure.Request text)) (Ok End.Finished) → ⊥
   no_run (inl is) = absurd (cc)
   no_run (inr is) = absurd (cc)
 
   module _ (name : Bor (List ℕ)) where
-    -- a text that the arguments ask for is no failure; all other invalid arguments end with 64
+    -- a requested text is no failure; all other invalid arguments end with 64
     refused : map status_of_outcome (Err (Failure.Request text) ∷ Err (Failure.Words text) ∷ Err (Failure.NoApplication name) ∷ [])
         ≡ 0 ∷ 64 ∷ 64 ∷ []
     refused = refl
 
-    -- what arguments and sizes are refused with is reported under the same names
+    -- invalid arguments and sizes are reported under the same names
     same_names : map failure_in_words (Refusal.Words text ∷ Refusal.NoApplication name ∷ [])
         ≡ Failure.Words text ∷ Failure.NoApplication name ∷ []
     same_names = refl

@@ -1,4 +1,4 @@
--- Re-exports the names that most proofs here cite. Declares nothing.
+-- Re-exports the names that most proofs here cite.
 pub use Rattle.device_core.specs.Code.Taking.{takes_all}
 unfoldable pub use Rattle.device_core.specs.PacketQueue.{free_slot}
 pub use Rattle.device_core.specs.PacketQueue.{PacketQueue, is_held, no_packets, with_frame}

@@ -1,4 +1,4 @@
--- Queues of frames that are none.
+-- Packet queues that never occur.
 use Rattle.std.proofs.Common.{ℕ, List, [], ◌∷◌, replicate, Option, Some, None, arith}
 use Rattle.device_core.proofs.Common.{PacketQueue, IsWellFormed, Frame}
 
@@ -12,7 +12,7 @@ in_slot slot = record { slot = slot; len = 1 }
 more_told : IsWellFormed (held (in_slot 0 ∷ []) 2 None) → ⊥
 more_told queue = absurd (omega (arith, queue.told))
 
--- the receiver is a process of the kernel, or one that no mote has
+-- the receiver is a kernel process, or one that no mote has
 kernel_receives : IsWellFormed (held [] 0 (Some 3)) → ⊥
 kernel_receives queue = absurd (omega (arith, queue.receiver.0))
 

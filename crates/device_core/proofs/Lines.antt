@@ -6,12 +6,11 @@ use Rattle.circular_buffer.specs.Buffer.{keep_last}
 abbrev pub state : List ℕ → Bool → List ℕ → SerialLine
 state ring overflow line = record { ring = ring; overflow = overflow; line = line }
 
--- the next line of the two is the same, and so is what stays after it
+-- both have the same next line, and the same bytes after it
 pub record ServesAlike (s t : SerialLine) : Type 0 where
   pub line : next_line s ≡ next_line t
   pub rest : after_line s ≡ after_line t
 
--- what is cut off stays cut off
 take_take_append : (n : ℕ) (xs ys : List ℕ) → take n (take n xs ++ ys) ≡ take n (xs ++ ys)
 take_take_append zero xs ys = refl
 take_take_append (suc n) [] ys = refl
@@ -51,19 +50,18 @@ module _ (byte : ℕ) where
     serves_alike_past overflow line h =
         grind (arith, nat_tests, before_first_past, with_bytes_one_more, after_first_past)
 
--- a buffer that has room keeps all it held
 pub keep_last_all : (n : ℕ) (xs : List ℕ) (x : ℕ) → length xs < n → keep_last n (xs ++ x ∷ []) ≡ xs ++ x ∷ []
 keep_last_all n xs x room = grind (arith, nat_tests, length-append)
 
 module _ (ring : List ℕ) where
-  -- where the ring has room, a byte that isn't ignored is taken, but in the overflow state only a line end
+  -- if the ring has room, a byte that isn't ignored is taken; in overflow only a line end is
   pub byte_taken : (overflow : Bool) (line : List ℕ) (byte : ℕ) → (byte ≡ 13 → ⊥) → length ring < 127
       → (overflow ≡ false) ⊎ ((overflow ≡ true) × (byte ≡ 10))
       → after_byte (state ring overflow line) byte ≡ state (ring ++ byte ∷ []) false line
   byte_taken overflow line byte other room is = grind (arith, nat_tests, other)
 
   module _ (line : List ℕ) where
-    -- a byte that ends no line goes into the line that began
+    -- a byte that is no line end goes into the current line
     pub alike_one_more : (kept : List ℕ) (overflow : Bool) (byte : ℕ) (s : SerialLine) → ServesAlike (state ring overflow line) s
         → slice_get ring 0 ≡ Some byte → (byte ≡ 10 → ⊥) → kept ≡ with_bytes line (byte ∷ [])
         → ServesAlike (state (drop 1 ring) overflow kept) s

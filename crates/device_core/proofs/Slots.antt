@@ -1,4 +1,4 @@
--- Slots of frames: which are held, and which is the least free one.
+-- Slots of frames: which are held, and the least free one.
 use Rattle.std.proofs.Common.{◌≡◌, ℕ, zero, suc, ◌+◌, ◌-◌, ◌≤◌, ◌<◌, Bool, true, false, List, [], ◌∷◌, ◌++◌, length, drop, map, refl, ◌∙◌, arith, eqb, Option, Some, None, All, not, ◌==◌}
 use Rattle.device_core.proofs.Common.{nat_tests, list_any, PacketQueue, free_slot, IsWellFormed, find, range_with_len, IsDistinct, length-map, length_push, map_push, no_packets, is_held, with_frame, Frame}
 use Rattle.std.proofs.lemmas.Bool.{eqb-true}
@@ -8,14 +8,13 @@ use Rattle.std.proofs.lemmas.List.FromFn.{get_or-range_with_len}
 use Rattle.std.proofs.lemmas.Map.Keys.{IsDistinct-push, IsDistinct-tail}
 use Rattle.std.proofs.lemmas.Map.Steps.{length-le_from_distinct_below, le-length_from_below}
 
--- the least slot from this one on that no held frame has
+-- the least free slot from this one on
 abbrev pub free_slot_from : ℕ → PacketQueue → Option ℕ
 free_slot_from slot queue = find (λ s. not (is_held queue s)) (drop slot (range_with_len 0 8))
 
 abbrev slots_of : List Frame → List ℕ
 slots_of frames = map (λ frame. frame.slot) frames
 
--- the two ways to say that a frame has the slot
 member_where_held : (frames : List Frame) (slot : ℕ) → list_any (eqb slot) (slots_of frames) ≡ list_any (λ frame. frame.slot == slot) frames
 member_where_held [] slot = refl
 member_where_held (frame ∷ frames) slot = rw (member_where_held frames slot, nat_eq_equiv.symm slot frame.slot) refl
@@ -65,7 +64,7 @@ module _ (queue : PacketQueue) where
     unfolding free_slot
     all_held_where_none_free h below = grind arith
 
-    -- the free slot is one more slot below 8, beside those of the frames
+    -- the free slot is below 8, and no frame has it
     pub well_formed_with_frame : (len : ℕ) → IsWellFormed queue → free_slot queue ≡ Some slot
         → IsWellFormed (with_frame slot len queue)
     well_formed_with_frame len well h =

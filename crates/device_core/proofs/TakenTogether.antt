@@ -12,7 +12,7 @@ after_bytes_all_taken ring (byte ∷ bytes) line overflow all =
     ap (λ s. after_bytes s bytes) first ∙ after_bytes_all_taken (ring ++ byte ∷ []) bytes line overflow later
     ∙ ap (λ r. state r overflow line) (append_assoc ring (byte ∷ []) bytes)
 
--- the ring then has room, so that no byte is left out
+-- the ring then has room for all bytes
 pub none_left : (ring bytes line : List ℕ) (overflow : Bool) (count : ℕ) → takes_all (state ring overflow line) bytes ≡ true
     → count ≡ min (length bytes) (127 - length ring) → take count bytes ≡ bytes
 none_left ring bytes line overflow count all is_count = grind (arith, nat_tests, take_all)

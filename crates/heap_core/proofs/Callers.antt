@@ -1,7 +1,6 @@
 -- For those that keep a heap and its arena together.
---     KeepsToSpan-then         two calls, one after the other
---     IsLaidOut-apart          the live blocks are apart, headers included, and are read from after their headers
---     heap_of-, IsLaidOut-elsewhere      what the heap shows, and whether it is laid out, depends only on the span's bytes
+--     IsLaidOut-apart          the live blocks are apart, headers included
+--     heap_of-, IsLaidOut-elsewhere      what the heap shows depends only on the span's bytes
 use Rattle.heap_core.proofs.Lemmas.Words.{◌≡◌, ℕ, ◌+◌, ◌≤◌, ◌⊎◌, List, ap, ◌∙◌, arith, Contents, ChangesOnly, Region, Tell, blocks_in, chunks_of, store_of, heap_of, IsLaidOut, KeepsToSpan, BlocksLieApart}
 use Rattle.heap_core.proofs.Lemmas.Bodies.{blocks_lie_apart}
 use Rattle.heap_core.proofs.Lemmas.ChunkHeaders.{store_with, framed, walked}
@@ -12,7 +11,6 @@ KeepsToSpan-then a b c x y z first second = grind arith
 pub IsLaidOut-apart : (heap : Region) (bytes : List ℕ) → IsLaidOut heap bytes → BlocksLieApart heap bytes
 IsLaidOut-apart heap bytes laid = blocks_lie_apart laid
 
--- only bytes of another span changed
 module _ (heap : Region) (at len : ℕ) (old new : List ℕ) (changes : ChangesOnly at len old new) (apart : (heap.span.at + heap.span.len ≤ at)
     ⊎ (at + len ≤ heap.span.at)) (laid : IsLaidOut heap old) where
   side : (heap.span.at + heap.footprint ≤ at) ⊎ (at + len ≤ heap.span.at + 0)

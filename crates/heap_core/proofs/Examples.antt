@@ -1,4 +1,4 @@
--- Blocks that are in order, blocks that aren't, and blocks that are apart.
+-- Blocks in order, blocks out of order, and blocks that are apart.
 use Rattle.heap_core.proofs.Lemmas.Words.{◌≡◌, ◌≢◌, ℕ, ◌+◌, ◌≤◌, ◌⊎◌, inl, inr, List, [], ◌∷◌, length, sym, subst, arith, IsName, Span, Contents, Extent, AreApart, heap_of, KeepsToSpan, Block, HeapStore, LieApart, live_block, BlocksLieApart, Some}
 use Rattle.heap_core.specs.declared.heap.Heap.{Heap}
 
@@ -18,7 +18,7 @@ more_bytes_than_room : LieApart (region (block_at 0 2 (1 ∷ 2 ∷ 3 ∷ []) ∷
 unfolding region block_at
 more_bytes_than_room lie = omega (arith, lie)
 
--- the second one begins within the extent of the first
+-- the second begins within the first
 overlapping : LieApart (region (block_at 0 8 [] ∷ block_at 12 8 [] ∷ [])) → ⊥
 unfolding region block_at
 overlapping lie = omega (arith, lie)
@@ -35,7 +35,7 @@ past_the_end lie = omega (arith, lie)
 abbrev behind_header : Heap → Block → Extent
 behind_header heap block = record { at = heap.span.at + block.at + heap.header; len = length block.bytes }
 
--- those of two blocks share none
+-- two blocks share no byte
 bytes_apart : (heap : Heap) (bytes : List ℕ) → BlocksLieApart heap bytes → (p h q k : ℕ) (one other : Block) → IsName p h → IsName q k
     → (p ≢ q) ⊎ (h ≢ k)
     → live_block p h (heap_of heap bytes) ≡ Some one → live_block q k (heap_of heap bytes) ≡ Some other
@@ -47,7 +47,7 @@ bytes_apart heap bytes lie p h q k one other name name' differ live live' =
       | inr behind ↦ inr (omega (arith, behind, room'))
     ]
 
--- a span that was handed out stays handed out: what is handed out later is after it
+-- a span stays handed out: later spans are after it
 stays_handed_out : (old new : Heap) (before after : Contents) → KeepsToSpan old new before after
     → old.span.at + old.span.len ≤ before.carved → new.span.at + new.span.len ≤ after.carved
 stays_handed_out old new before after keeps within =

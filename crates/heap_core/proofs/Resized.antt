@@ -1,7 +1,7 @@
--- The bytes of a block that got another length.
+-- The bytes of a resized block.
 use Rattle.heap_core.proofs.Lemmas.Words.{◌≡◌, ℕ, ◌+◌, ◌-◌, ◌≤◌, List, [], ◌++◌, length, take, slice_range, arith, append-nil, take-append-le, take-take, take-replicate, drop-replicate, cases_lt, zeros, resized, written, length-range, take_past, written-range, written_is}
 
--- the front of a range
+-- a prefix of a range
 pub front_range : (xs : List ℕ) (at m n : ℕ) → n ≤ m → take n (slice_range xs at (at + m)) ≡ slice_range xs at (at + n)
 front_range xs at m n le = grind (arith, take-take)
 

@@ -1,4 +1,4 @@
--- That the measure of what is on the agenda falls with each item that is worked off.
+-- The measure of the agenda falls with each executed item.
 use Rattle.kernel_core.proofs.Common.{decide, length-map, Event, Stimulus, Origin, Queued, Item, Job, Process, starts, present, cost, costs, IsPaid, Scheduler, after_front, job, after_item, delivery, job_of_item, after_items, ComesTo}
 use Rattle.std.proofs.Common.{◌≡◌, ℕ, ◌+◌, ◌*◌, ◌≤◌, Bool, List, [], ◌∷◌, ◌++◌, length, refl, arith, Option, Some, map, flat_map, filter}
 use Rattle.kernel_core.proofs.Repeating.{after_items-keep}
@@ -9,7 +9,7 @@ pub length-without : (keep : Process → Bool) (list : List Process) → length 
 length-without keep [] = omega arith
 length-without keep (process ∷ list) = grind (arith, length-without keep list)
 
--- no item makes more processes than it stands for
+-- an item adds at most the processes that `starts` counts
 after_item-present : {X : Type 0} (item : Item) (s : Scheduler X) → present (after_item item s) ≤ starts (item ∷ []) + present s
 after_item-present = grind (decide, total-append, length-map, length-without, total-none, total-nowhere)
 
@@ -53,7 +53,7 @@ module _ (bound : ℕ) where
       → IsPaid bound (job s) (costs bound s.agenda) (costs bound (after_front s).agenda)
   paid = grind (decide, costs-cons, costs-nil, paid_item)
 
-  -- what is on the agenda after a job, against what was there before
+  -- the cost of the agenda after a job, against the cost before
   pub job_is_paid : {X : Type 0} (s after : Scheduler X) (next : Job X) → present s ≤ bound → ComesTo s next after →
       IsPaid bound (Some next) (costs bound s.agenda) (costs bound after.agenda) × (present after ≤ present s)
   job_is_paid s after next h (n, asks, works) =

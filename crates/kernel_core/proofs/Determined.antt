@@ -1,4 +1,4 @@
--- Steps determine a run: what follows from a step is what follows from the start.
+-- Runs are determined: from one start there is one run.
 use Rattle.std.proofs.Common.{◌≡◌, ◌+◌, ℕ, zero, suc, true, List, [], ◌∷◌, refl, sym, zero-add, suc-add, arith}
 use Rattle.mote_types.specs.declared.entry.Input.{Input}
 use Rattle.kernel_core.specs.Run.{Runs, ComesToRest}
@@ -10,12 +10,12 @@ module _ (says : Applications) where
   steps_plus zero k r = rw zero-add refl
   steps_plus (suc n) k r = rw suc-add (steps_plus n k (after_step says r))
 
-  -- where nothing more happens, a run is at rest
+  -- if nothing more happens, a run is at rest
   pub still_rest : (a w : Running) → is_still a.machine ≡ true → ComesToRest says a w → w ≡ a
   still_rest = grind (decide, still_after_steps)
 
   module _ (a b : Running) where
-    -- a still run that a run reaches is what each of its later steps reaches
+    -- each later step reaches the same still run
     pub rest_from : (w : Running) (n : ℕ) → after_steps says n a ≡ b → ComesToRest says a w → ComesToRest says b w
     rest_from w n e (k, f, still) =
         let both : n + k ≡ k + n = omega arith in
@@ -29,7 +29,6 @@ module _ (says : Applications) where
     pub rest_one : (c : Running) → ComesToRest says a b → ComesToRest says a c → b ≡ c
     rest_one c (n, e, still) r = sym (still_rest b c still (rest_from c n e r))
 
-  -- there is one run
   pub runs_one : (inputs : List Input) (a b c : Running) → Runs says a inputs b → Runs says a inputs c → b ≡ c
   runs_one [] a b c x y = rest_one a b c x y
   runs_one (input ∷ later) a b c (m, e, stop, go) (k, h, stop', go') =

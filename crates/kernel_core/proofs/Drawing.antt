@@ -9,7 +9,6 @@ draws_of_event-none : (p : ℕ) (event : Event) → (event.code == EXITED) ≡ f
 draws_of_event-none = grind decide
 
 module _ (drawn : ℕ) where
-  -- an event that waits in the queue draws nothing
   draws-delivery : (ns : List ℕ) (events : List (Queued ℕ)) → All (IsQueueable drawn) events
       → draws (delivery ns (slice_get events 0)) ≡ 0
   draws-delivery ns [] fit = refl
@@ -28,7 +27,7 @@ module _ (drawn : ℕ) where
   draws_asked None = 0
   draws_asked (Some next) = draws_of_job next
 
-  -- an item draws no more than it stands for
+  -- an item draws at most what it is counted for
   after_item-draws : (item : Item) (items : List Item) (s : Scheduler ℕ) → All (IsQueueable drawn) s.events
       → draws (after_item item (record s { agenda = items })).agenda + draws_asked (job_of_item item s) ≤ draws (item ∷ []) + draws items
   after_item-draws Item.Deliver items s fit = grind (decide, total-append, draws-delivery (numbers s.processes) s.events fit)
@@ -77,7 +76,7 @@ module _ (p : ℕ) where
   none_told k [] none one = refl
   none_told k (process ∷ list) none one = grind (decide, none.0, draws, none_told k list none.1 one)
 
-  -- ctimer is on the list once, and is notified once
+  -- ctimer is on the list once, so it is notified once
   pub one_told : (list : List Process) → IsDistinct eqb (numbers list) → draws (told list) ≤ 4
   one_told [] distinct = omega arith
   one_told (process ∷ list) distinct =

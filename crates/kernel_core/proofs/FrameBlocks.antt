@@ -1,4 +1,4 @@
--- The held frames, and the blocks that have their bytes.
+-- Held frames, and the blocks with their bytes.
 use Rattle.kernel_core.proofs.Common.{decide, list_any, list_any-append, AllByRecursion, IsDistinct, option_map, get_or-replicate, IsDistinct-head, Call, Memory, fresh_memory, HoldsFrames}
 use Rattle.std.proofs.Common.{◌≡◌, ◌≢◌, ◌∙◌, ℕ, Bool, true, false, List, [], ◌∷◌, ◌++◌, ap, arith, refl, if◌then◌else◌, ◌<◌, ◌≤◌, Option, Some, None, eqb, map, is_some, ◌==◌, slice_get, drop}
 use Rattle.device_core.specs.declared.frame.Frame.{Frame}
@@ -12,7 +12,6 @@ use Rattle.node_memory.specs.Code.Separation.{BlockName, LeavesOthers, changed_b
 abbrev has_slot : ℕ → Frame → Bool
 has_slot slot frame = frame.slot == slot
 
--- the front frame's block is live
 pub front_is_live : (memory : Memory) (frames : List Frame) (slot : ℕ) → HoldsFrames memory frames → slot < 8
     → option_map (λ (frame : Frame). frame.slot) (slice_get frames 0) ≡ Some slot → is_some (frame_in slot memory) ≡ true
 front_is_live memory [] slot holds below e = absurd (cc)
@@ -34,7 +33,7 @@ frames_after_ask call p old new frames least leaves holds = record {
       ∙ holds.live slot below;
 }
 
--- a change of one of its managed blocks, as of the call that frees it
+-- a managed block of an application changes
 pub frames_after_block : (h p : ℕ) (old new : Memory) (frames : List Frame) → 4 ≤ p
     → LeavesOthers (Some (BlockName.Managed p h)) old new → HoldsFrames old frames → HoldsFrames new frames
 frames_after_block h p old new frames least leaves holds = frames_after_ask (Call.MmemFree h) p old new frames least leaves holds
@@ -55,13 +54,13 @@ none_has : (slot s : ℕ) (frames : List Frame) → AllByRecursion (λ y. eqb sl
 none_has slot s [] apart is = refl
 none_has slot s (frame ∷ frames) apart is = grind (decide, apart.0, none_has slot s frames apart.1 is)
 
--- a call on one frame's block
+-- the block of one frame changes
 module _ (slot : ℕ) (old new : Memory) (leaves : LeavesOthers (Some (frame_block slot)) old new) where
   frame_now : (s : ℕ) (test : Bool) → s < 8 → (slot == s) ≡ test → frame_in s new ≡ (if test then frame_in slot new else frame_in s old)
   frame_now s true few e = let here : slot ≡ s = grind (arith, e) in rw here refl
   frame_now s false few e = same_frame (Some (frame_block slot)) old new s leaves few (other_slot slot s e)
 
-  -- the frame was stored
+  -- a frame was stored
   pub frames_after_taken : (len : ℕ) (bytes : List ℕ) (frames : List Frame) → frame_in slot new ≡ Some bytes → HoldsFrames old frames
       → HoldsFrames new (frames ++ record { slot = slot; len = len } ∷ [])
   frames_after_taken len bytes frames held holds = record {
@@ -78,6 +77,5 @@ module _ (slot : ℕ) (old new : Memory) (leaves : LeavesOthers (Some (frame_blo
         (decide, none_has front.slot s frames (IsDistinct-head eqb front.slot (slots_of frames) distinct), holds.live s few));
   }
 
--- fresh memory holds no frame
 pub no_frames : (sizes : Sizes) → HoldsFrames (fresh_memory sizes) []
 no_frames sizes = grind (decide, get_or-replicate)

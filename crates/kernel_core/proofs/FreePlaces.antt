@@ -7,7 +7,6 @@ use Rattle.kernel_core.specs.Code.View.{PostsOne}
 places_of : (k : KernelFields) → length (machine_of k).scheduler.events ≡ length k.scheduler.state.events
 places_of = grind (arith, length-map)
 
--- an event takes one
 place_taken : (k new : KernelFields) → has_room k.scheduler.state ≡ true
     → length new.scheduler.state.events ≡ length k.scheduler.state.events + 1
     → free_places (machine_of k) ≡ suc (free_places (machine_of new))
@@ -16,7 +15,7 @@ place_taken = grind (arith, places_of)
 pub room_of : (k : KernelFields) → has_room (machine_of k).scheduler ≡ has_room k.scheduler.state
 room_of = grind (arith, places_of)
 
--- a change that is made once for each of them
+-- a change, made once for each free slot
 abbrev pub for_each : (Machine → Machine) → KernelFields → Machine
 for_each change k = times (free_places (machine_of k)) change (machine_of k)
 

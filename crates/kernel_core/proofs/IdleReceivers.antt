@@ -1,22 +1,22 @@
--- The kernel's processes that do nothing with an event are passed by steps that make no entry.
+-- Kernel processes that ignore an event are passed without an entry.
 use Rattle.std.proofs.Common.{◌≡◌, ℕ, ◌≤◌, Bool, true, false, List, ◌∷◌, refl, ap, arith}
 use Rattle.kernel_core.proofs.Common.{decide, Event, Origin, Stimulus, Item, is_any_marked, is_kernel_process, Scheduler, KernelFields, starts, present, draws, machine_of, no_pending_entries, IsInOrder, serve, Machine, scheduled, Answers, silent, GoesSilently}
 use Rattle.process_core.specs.Code.KernelReceivers.{behind_kernel_receivers, is_other_than, kernel_receivers_passed}
 use Rattle.kernel_core.specs.Code.IdleReceivers.{kernel_events}
 use Rattle.kernel_core.proofs.Silent.{goes_on, silent_step, silently_here}
 
--- what the kernel's processes do with other events
+-- kernel processes ignore other events
 serve_idle : (p : ℕ) (event : Event) (m : Machine) → is_other_than kernel_events event.code ≡ true → serve p event m ≡ m
 serve_idle = grind decide
 
 abbrev with_agenda : List Item → Machine → Machine
 with_agenda items = scheduled (λ s. record s { agenda = items })
 
--- these items, after a receiver of the event
+-- a receiver's items, before these
 abbrev receiver_first : ℕ → Origin → Event → List Item → List Item
 receiver_first p origin event items = Item.Polls ∷ Item.Give p origin (Stimulus.Event event) ∷ items
 
--- the poll round before a receiver does nothing, nor does the event
+-- neither the poll round before a receiver nor the event does anything
 module _ (answers : Answers) (m : Machine) (running : m.is_halted ≡ false)
     (unmarked : is_any_marked m.scheduler.processes ≡ false) where
   abbrev IsPassed : List Item → Type 0
@@ -52,7 +52,7 @@ receivers_passed answers k running shown = split (is_any_marked k.scheduler.stat
         rw (e, shown) (passed_silently answers (machine_of (record k { pending = no_pending_entries })) running e k.scheduler.state.agenda)
 
 module _ (codes : List ℕ) where
-  -- no process is started, and no more is drawn than without
+  -- passing receivers starts no process and draws no more
 
   starts_behind : (items : List Item) → starts (behind_kernel_receivers codes items) ≡ starts items
   starts_behind (Item.Polls ∷ Item.Give p origin (Stimulus.Event event) ∷ items) =

@@ -1,4 +1,4 @@
--- A round in which only etimer acts: it looks for due timers, and finds none.
+-- A round in which only etimer acts, and finds no due timer.
 use Rattle.std.proofs.Common.{◌≡◌, ℕ, ◌+◌, ◌==◌, Bool, true, false, refl, ap, arith, subst, is_some}
 use Rattle.kernel_core.proofs.Common.{decide, IsInOrder, length-map, POLL, plain_event, Job, is_idle, unmarked, IsLonePoll, Scheduler, carrying, awaiting_nothing, first_due, KernelFields, machine_of, no_pending_entries, is_cancelled, serve, Machine, free_places, Answers, silent, work_limit, ComesTo, GoesSilently, polled_alone, post_first_due, is_any_due, Entry}
 use Rattle.kernel_core.specs.Code.IdleRound.{RestsAfter}
@@ -10,7 +10,7 @@ use Rattle.kernel_core.proofs.Reaching.{entry_comes_first, fields_go, fields_rea
 use Rattle.kernel_core.proofs.Silent.{goes_on}
 use Rattle.kernel_core.proofs.Repeating.{times_same}
 
--- where no timer is due, a POLL of etimer changes nothing
+-- if no timer is due, etimer's POLL changes nothing
 nothing_posted : (m : Machine) → is_any_due m ≡ false → serve 0 (plain_event POLL) m ≡ m
 nothing_posted m none = rw (times_same (free_places m) post_first_due m (due_stops m none), none) refl
 
@@ -33,7 +33,7 @@ order_polled k order room = record {
 }
 
 module _ (answers : Answers) where
-  -- such a poll round is passed: the delivery is left
+  -- such a round is passed: only the delivery is left
   pub poll_passed : (k : KernelFields) → k.halted ≡ false → k.pending ≡ no_pending_entries → (k.work == work_limit) ≡ false
       → is_some (first_due k.clock k.timers.value.timers) ≡ false → IsLonePoll 0 k.scheduler.state
       → GoesSilently answers (machine_of k)
@@ -48,7 +48,7 @@ module _ (answers : Answers) where
       (ap silent (nothing_posted (machine_of served) none))) (fields_go answers served
       (awaiting_nothing (polled_alone 0 k.scheduler.state)) running shown lone.over)
 
-  -- at rest a tick that leaves no timer due is accepted: its entry is made, and such a round follows
+  -- a tick at rest that makes no timer due: its entry, then such a round
   pub idle_tick : (k : KernelFields) (n : ℕ) → k.halted ≡ false → k.pending ≡ no_pending_entries
       → is_some (first_due (k.clock + n) k.timers.value.timers) ≡ false → IsLonePoll 0 (marked 0 k.scheduler.state)
       → ComesTo (polled_alone 0 (marked 0 k.scheduler.state)) Job.Rest (unmarked 0 (marked 0 k.scheduler.state))

@@ -1,4 +1,4 @@
--- Where something is left that should have been posted, every free slot of the queue was taken.
+-- If something is left to post, every free slot of the queue was taken.
 use Rattle.kernel_core.proofs.Common.{decide, has_room, KernelFields, Machine, free_places, machine_of, times, post_first_due, is_any_due, post_due, announce_next, has_news, announce}
 use Rattle.std.proofs.Common.{◌≡◌, ℕ, zero, suc, ◌+◌, Bool, true, false, length, ap, sym, ◌∙◌, arith, length-append}
 use Rattle.kernel_core.proofs.FreePlaces.{room_of}
@@ -7,7 +7,7 @@ use Rattle.kernel_core.proofs.Repeating.{times_none, times_next, times_same}
 abbrev waiting : Machine → ℕ
 waiting m = length m.scheduler.events
 
--- A change that takes a slot wherever something is left, and changes nothing elsewhere, takes a slot each time
+-- a change takes a slot if something is left, and otherwise changes nothing
 module _ (change : Machine → Machine) (is_left : Machine → Bool) (takes : (m : Machine) → is_left m ≡ true
     → waiting (change m) ≡ suc (waiting m))
     (stops : (m : Machine) → is_left m ≡ false → change m ≡ m) where
@@ -28,7 +28,7 @@ due_stops = grind decide
 pub due_or_full : (m : Machine) → is_any_due (post_due m) ≡ true → has_room (post_due m).scheduler ≡ false
 due_or_full m = grind (decide, full post_first_due is_any_due due_takes due_stops m)
 
--- where a slot is free, nothing due is left
+-- if a slot is free, nothing due is left
 pub posted_all : (m : Machine) (k : KernelFields) → machine_of k ≡ times (free_places m) post_first_due m
     → has_room k.scheduler.state ≡ true
     → machine_of k ≡ post_due m

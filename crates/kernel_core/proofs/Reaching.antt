@@ -21,7 +21,7 @@ pub fields_reach : (answers : Answers) (k : KernelFields) (view : SchedulerView)
 fields_reach answers k view next running bare comes =
     rw bare (job_reached k.timers.value.armings answers (machine_of k) running k.scheduler.state view.state next comes)
 
--- items that are no jobs, as silent steps of the kernel's machine
+-- items that are no jobs are silent steps
 pub fields_go : (answers : Answers) (k : KernelFields) (view : SchedulerView) → k.halted ≡ false → k.pending ≡ no_pending_entries
     → Yields k.scheduler.state None view.state → GoesSilently answers (machine_of k) (machine_of (record k { scheduler = view }))
 fields_go answers k view running bare yields =
@@ -29,33 +29,28 @@ fields_go answers k view running bare yields =
 
 module _ {answers : Answers} where
   module _ {armings : Armings} {next : Job ℕ} {a b : Machine} where
-    -- steps that make no entry, and then a job
     pub then_job : {c : Machine} → GoesSilently answers a b → ComesToJob armings answers b next c → ComesToJob armings answers a next c
     then_job first reached = record { last = reached.last; before = goes_on first reached.before; asked = reached.asked }
 
     module _ {d : Machine} (reached : ComesToJob armings answers a next b) where
-      -- a job that makes no entry
       pub job_silently : job_done answers (Some (job_carrying (is_cancelled armings) next)) b ≡ silent d → GoesSilently answers a d
       job_silently e = goes_on reached.before (silent_step (reached.asked ∙ e))
 
-      -- a job that makes an entry
       pub job_makes : {entry : Entry} → job_done answers (Some (job_carrying (is_cancelled armings) next)) b ≡ (d, Some entry)
           → MakesEntry answers a entry d
       job_makes e = record { last = reached.last; before = reached.before; makes = reached.asked ∙ e }
 
-  -- an entry that must be shown before anything else
+  -- a pending entry is shown first
   pub entry_is_shown : {entry : Entry} (k : KernelFields) (left : Pending) → k.halted ≡ false
       → pending_items k.pending ≡ Item.Show entry ∷ pending_items left →
       MakesEntry answers (machine_of k) entry (machine_of (record k { pending = left }))
   entry_is_shown k left running e = record { last = machine_of k; before = silently_here (machine_of k); makes = rw (running, e) refl }
 
-  -- an entry that was put before all that a machine does
   pub entry_comes_first : (entry : Entry) (m new : Machine) → new ≡ m → new.is_halted ≡ false
       → MakesEntry answers (shown_first entry m) entry new
   entry_comes_first entry m new same running =
       record { last = shown_first entry m; before = silently_here (shown_first entry m); makes = rw (← same, running) refl }
 
-  -- silent steps before what makes an entry, or rests
   pub makes_after : {a b c : Machine} {entry : Entry} → GoesSilently answers a b → MakesEntry answers b entry c → MakesEntry answers a entry c
   makes_after first later = record { last = later.last; before = goes_on first later.before; makes = later.makes }
 
@@ -76,7 +71,7 @@ left_from : (halted : Bool) (less more pending : ℕ) → less ≤ more
 left_from true less more pending h = omega arith
 left_from false less more pending h = omega (arith, h)
 
--- work that goes on from where only the scheduler and the count of work have changed
+-- work that continues after only the scheduler and the work count changed
 pub worked_after : {outcome : StepOutcome} {turn : Turn} {before other : Entry} (old between new : KernelFields)
     → between ≡ record old { work = between.work; scheduler = between.scheduler }
     → between.scheduler.state.applications ≡ old.scheduler.state.applications → old.work ≤ between.work

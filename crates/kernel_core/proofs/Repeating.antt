@@ -1,4 +1,4 @@
--- What is done again and again.
+-- Repeated changes and items.
 use Rattle.std.proofs.Common.{◌≡◌, ℕ, zero, suc, refl, ap, ◌∙◌, Option, Some, None}
 use Rattle.kernel_core.proofs.Common.{times, Job, Scheduler, job, after_front, after_items}
 
@@ -10,12 +10,11 @@ pub times_next : {A : Type 0} (n : ℕ) (change : A → A) (a : A) → times (su
 unfolding times
 times_next n change a = refl
 
--- where it changes nothing, it never does
 pub times_same : {A : Type 0} (n : ℕ) (change : A → A) (a : A) → change a ≡ a → times n change a ≡ a
 times_same zero change a same = times_none change a
 times_same (suc n) change a same = times_next n change a ∙ ap (times n change) same ∙ times_same n change a same
 
--- what each item keeps that is no job
+-- what every item that is no job preserves
 pub after_items-keep : {X : Type 0} (P : Scheduler X → Type 0) → ((s : Scheduler X) → job s ≡ None → P s → P (after_front s))
     → (n : ℕ) (s : Scheduler X) → P s → P (after_items n s)
 after_items-keep P keeps zero s p = p

@@ -1,4 +1,4 @@
--- The scheduler's items that are no jobs, as steps of the machine that make no entry.
+-- Items that are no jobs, as silent steps of the machine.
 use Rattle.std.proofs.Common.{◌≡◌, ℕ, zero, suc, false, refl, subst, None}
 use Rattle.process_core.specs.Code.Yields.{Yields}
 use Rattle.kernel_core.proofs.Common.{option_map, Job, job_carrying, carrying, Scheduler, job, after_front, after_items, ComesTo, ComesToJob, Armings, is_cancelled, Machine, Answers, silent, one_step, job_done, Silently, GoesSilently}
@@ -16,21 +16,19 @@ silently_on answers zero a b c same later = rw same later
 silently_on answers (suc n) a b c (next, first, rest) later =
     let on = silently_on answers n next b c rest later in record { count = suc on.count; steps = (next, first, on.steps) }
 
--- one run of silent steps after another
 pub goes_on : {answers : Answers} {a b c : Machine} → GoesSilently answers a b → GoesSilently answers b c → GoesSilently answers a c
 goes_on {answers} {a} {b} {c} first later = silently_on answers first.count a b c first.steps later
 
--- a machine, with these schedulers
+-- one machine, with different schedulers
 module _ (armings : Armings) (answers : Answers) (m : Machine) (running : m.is_halted ≡ false) where
   abbrev at : Scheduler ℕ → Machine
   at s = record m { scheduler = carrying (is_cancelled armings) s }
 
-  -- a step of the machine is one of the scheduler, and the job that it asks for
+  -- a step of the machine: a step of the scheduler, and its job
   one_step_at : (s : Scheduler ℕ)
       → one_step answers (at s) ≡ job_done answers (option_map (job_carrying (is_cancelled armings)) (job s)) (at (after_front s))
   one_step_at s = rw (running, job-carrying (is_cancelled armings) s, after_front-carrying (is_cancelled armings) s) refl
 
-  -- items that are no jobs
   after_items_silently : (n : ℕ) (s : Scheduler ℕ) → GoesSilently answers (at s) (at (after_items n s))
   after_items_silently n s =
       after_items-keep (λ t. GoesSilently answers (at s) (at t))
@@ -39,7 +37,6 @@ module _ (armings : Armings) (answers : Answers) (m : Machine) (running : m.is_h
   pub items_silently : (s after : Scheduler ℕ) → Yields s None after → GoesSilently answers (at s) (at after)
   items_silently s after (n, same) = subst (λ t. GoesSilently answers (at s) (at t)) same (after_items_silently n s)
 
-  -- up to this job
   pub job_reached : (s after : Scheduler ℕ) (next : Job ℕ) → ComesTo s next after → ComesToJob armings answers (at s) next (at after)
   job_reached s after next (n, asks, works) = record {
     last = at (after_items n s);

@@ -1,4 +1,4 @@
--- Where nothing more happens, a machine stays as it is.
+-- If nothing more happens, a machine stays as it is.
 use Rattle.kernel_core.proofs.Common.{decide, Applications, Running, after_step, after_steps, is_still}
 use Rattle.std.proofs.Common.{◌≡◌, ℕ, zero, suc, true, refl, append-nil}
 

@@ -1,4 +1,4 @@
--- Totals over lists that are put together.
+-- Totals over concatenated lists.
 use Rattle.std.proofs.Common.{◌≡◌, ℕ, ◌+◌, List, [], ◌∷◌, ◌++◌, refl, arith, map, flat_map}
 use Rattle.kernel_core.specs.Code.Totals.{total}
 

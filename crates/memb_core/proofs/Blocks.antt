@@ -1,5 +1,4 @@
--- What the flags of a pool's blocks, each of which says whether its block is used, say of the pool, where f has the bytes of
--- each block.
+-- What the flags of a pool's blocks say of the pool; f has the bytes of each block.
 use Rattle.memb_core.proofs.Words.{◌≡◌, ◌≢◌, ℕ, zero, suc, ◌+◌, ◌≤◌, ◌<◌, Bool, true, false, not, List, [], ◌∷◌, length, get_or, set, refl, ap, arith, Some, None, is_none, filter, if◌then◌else◌, position, position_or_len, get_or-set_same, get_or-set_other, get_or_past, false≢true, BlockPool, PoolTable, is_live, first_unused, unused_count, with_block, blocks_from, usable_bytes, region_of, pool_of, is_used, replicate}
 
 abbrev pub told : ℕ → (ℕ → List ℕ) → List Bool → BlockPool
@@ -43,7 +42,7 @@ module _ (usable : ℕ) (f : ℕ → List ℕ) (us : List Bool) where
     pub live_told : is_live b (told usable f us) ≡ get_or us b false
     live_told = grind (arith, get_or-blocks)
 
-    -- block b is used or not from now on, and the bytes of the others are as they were
+    -- block b is used or not from now on, and the others keep their bytes
     pub told_set : (g : ℕ → List ℕ) (u : Bool) → b < length us → ((c : ℕ) → c ≢ b → g c ≡ f c)
         → told usable g (set us b u) ≡ with_block b (if u then Some (g b) else None) (told usable f us)
     told_set g u below same = let blocks = blocks-set f g 0 us b b u (omega arith) below same in cc
@@ -55,11 +54,9 @@ module _ (usable : ℕ) (f : ℕ → List ℕ) (us : List Bool) where
   unused_count_told = (unused_from f 0 us).2
 
 module _ (us : List Bool) (b : ℕ) where
-  -- a used block is one of the pool's
   pub used_below : get_or us b false ≡ true → b < length us
   used_below used = grind (arith, false≢true, get_or_past)
 
-  -- a block that was used still is when another one, or the same, is allocated
   pub still_used : (c : ℕ) → get_or us c false ≡ true → get_or (set us b true) c false ≡ true
   still_used c used = grind (arith, get_or-set_same, used_below, get_or-set_other)
 

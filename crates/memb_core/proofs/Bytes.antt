@@ -5,7 +5,6 @@ use Rattle.arena_core.proofs.Rows.{written_is}
 use Rattle.memb_core.proofs.Blocks.{told, told_set, get_or-blocks, used_below, live_is}
 
 module _ (pool : PoolTable) where
-  -- each block is in the span, and before or after each other one
   pub block_inside : FillsSpan pool → (b : ℕ) → b < length pool.used → place_of pool b + 4 + pool.usable ≤ pool.span.len
   block_inside fills b below = grind arith
 
@@ -22,17 +21,14 @@ module _ (pool : PoolTable) where
       ]
 
   module _ (B : List ℕ) (b : ℕ) where
-    -- block b is freed
     pub pool_freed : b < length pool.used → pool_of (with_used b false pool) B ≡ freed b (pool_of pool B)
     unfolding pool_of
     pool_freed below = let f = usable_bytes pool (region_of pool B) in told_set pool.usable f pool.used b f false below (λ c ne. refl)
 
-    -- what number b stands for
     pub block_is : is_used b pool ≡ true → block_of b (pool_of pool B) ≡ Some (usable_bytes pool (region_of pool B) b)
     unfolding pool_of
     block_is used = grind (arith, get_or-blocks)
 
-    -- a block that is said to be used, or to have these bytes
     pub live_below : is_live b (pool_of pool B) ≡ true → b < length pool.used
     live_below live = grind (arith, used_below, live_is)
 
@@ -70,7 +66,6 @@ module _ (pool : PoolTable) (fills : FillsSpan pool) (B : List ℕ) (within : Is
         × (n ≤ pool.usable)
     room_of n h = grind (arith, used_if_room, block_is, length-usable, used_below)
 
-  -- a write within the span
   module _ (x : ℕ) (ws : List ℕ) (inside : x + length ws ≤ pool.span.len) where
     abbrev B' : List ℕ
     B' = written B (pool.span.at + x) ws
@@ -119,7 +114,7 @@ module _ (pool : PoolTable) (fills : FillsSpan pool) (B : List ℕ) (within : Is
     pub pool_written : is_used c pool ≡ true → pool_of pool C ≡ with_bytes c at ws (pool_of pool B)
     pool_written used = grind (arith, block_is, set-get_or pool.used c false, told_written)
 
-  -- block c is allocated, its usable bytes all 0
+  -- block c is allocated, with bytes 0
   pub pool_allocated : (c : ℕ) → c < count
       → pool_of (with_used c true pool) (written B (pool.span.at + (place_of pool c + 4 + 0)) (zeros pool.usable))
       ≡ allocated c (pool_of pool B)

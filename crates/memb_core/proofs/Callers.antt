@@ -1,5 +1,5 @@
--- For those that keep a pool, its lists and their arena together: after a call the span is still in the arena, and what the pool
--- and the lists show depends only on the span's bytes, so it is unchanged when only bytes of another span changed.
+-- For those that keep a pool, its lists and their arena together: the span stays in the arena, and what the pool and the
+-- lists show depends only on the span's bytes.
 use Rattle.memb_core.proofs.Words.{◌≡◌, ℕ, ◌+◌, ◌≤◌, ◌⊎◌, List, arith, Contents, PoolTable, ListHeads, ListName, region_of, pool_of, IsWithin, KeepsToSpan, link_of, list_of, AreLinked}
 use Rattle.arena_core.specs.Code.Outside.{ChangesOnly}
 

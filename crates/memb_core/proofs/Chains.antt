@@ -1,4 +1,4 @@
--- Links that name the blocks of a list: what is read along them, and how a change of links changes the list.
+-- Links that name the blocks of a list: reads along them, and how a change of links changes the list.
 use Rattle.memb_core.proofs.Words.{◌≡◌, ◌≢◌, ℕ, zero, suc, ◌≤◌, inl, inr, true, false, List, [], ◌∷◌, ◌++◌, length, take, refl, sym, ◌∙◌, arith, Option, Some, None, IfSome, length-append, take_all, take_more, cases_lt, slice_get, slice_get-get_or, slice_get_within, get_or_from_slice_get, eq-eqb, ne_eqb, cases_eq, has_number, without, head_of, next_of, put_behind, along, all_along, Names, AreDistinct}
 use Rattle.memb_core.proofs.Numbers.{has_first, has_later, has_cases, none_parts, differ, without_head, has_at, behind_here, behind_later}
 
@@ -15,7 +15,7 @@ length-along zero link start = omega arith
 length-along (suc n) link None = omega arith
 length-along (suc n) link (Some b) = omega (arith, length-along n link (link b))
 
--- so far these items were passed, and here the links go on
+-- these items were passed, and here the links go on
 pub record IsWalked (here : Option ℕ) (items list : List ℕ) : Type 0 where
   pub passed : items ≡ take (length items) list
   pub next : here ≡ slice_get list (length items)
@@ -40,7 +40,6 @@ module _ (link : ℕ → Option ℕ) where
     unfolding all_along
     length-all_along = length-along 16 link start
 
-    -- the head, and what follows a block
     pub head_named : (list : List ℕ) → Names link start list → start ≡ head_of list
     head_named [] names = names
     head_named (b ∷ list) names = names.0
@@ -77,7 +76,6 @@ module _ (link : ℕ → Option ℕ) where
       )
 
   module _ (new : ℕ → Option ℕ) where
-    -- links that are the same at each block of the list
     pub names_agree : (start : Option ℕ) (list : List ℕ) → ((c : ℕ) → has_number c list ≡ true → new c ≡ link c)
         → Names link start list → Names new start list
     names_agree start [] same names = names

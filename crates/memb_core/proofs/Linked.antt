@@ -1,4 +1,4 @@
--- The two lists of a pool after a change of links, of heads or of what is used.
+-- A pool's two lists after a change of links, of heads or of used blocks.
 use Rattle.memb_core.proofs.Words.{◌≡◌, ◌≢◌, ℕ, suc, ◌≤◌, ◌<◌, ◌⊎◌, true, false, List, [], ◌∷◌, length, sym, ◌∙◌, arith, Option, Some, None, IfSome, slice_get, PoolTable, ListHeads, ListName, has_number, without, put_behind, popped, pool_of, IsWithin, start_of, link_of, list_of, Names, AreDistinct, is_used, IsLinked, AreLinked, KeepsLists, LeavesOthers, with_start}
 use Rattle.memb_core.proofs.Blocks.{used_below}
 use Rattle.memb_core.proofs.Numbers.{has_at, has_cases, differ, at_most, has_left, distinct_left, had_behind, distinct_behind, without_head}
@@ -24,7 +24,6 @@ module _ (name : ListName) where
       let few : length list ≤ 16 = grind (arith, at_most, used_below) in
       grind (arith, all_along_is)
 
--- the links of the lists' blocks are as they were, and these blocks are used
 pub still_linked : {lists : ListHeads} {old : PoolTable} (new : PoolTable) {before : List ℕ} (after : List ℕ) → AreLinked lists old before
     → IsWithin new after
     → length new.used ≤ 16
@@ -101,7 +100,6 @@ module _ (name : ListName) {lists : ListHeads} {pool : PoolTable} {bytes : List 
   pub link_small : IfSome (link_of pool bytes b) (λ next. next < 256)
   link_small = grind (arith, link_listed, used_below)
 
--- what becomes of a list
 module _ (name : ListName) {pool : PoolTable} {old : ListHeads} {before : List ℕ} (linked : AreLinked old pool before) where
   abbrev list : List ℕ
   list = list_of name old pool before
@@ -113,7 +111,6 @@ module _ (name : ListName) {pool : PoolTable} {old : ListHeads} {before : List �
     apart_before : (other : ListName) → other ≢ name → has_number b list ≡ true → has_number b (list_of other old pool before) ≡ false
     apart_before other ne h = grind arith
 
-    -- the head is removed
     pub head_out : (new : ListHeads) → start_of name old ≡ Some b → new ≡ with_start name (link_of pool before b) old
         → Changes name pool old new before before (popped list)
     head_out new e same = grind arith
@@ -123,7 +120,6 @@ module _ (name : ListName) {pool : PoolTable} {old : ListHeads} {before : List �
     first_out new at same = rw (without_head b list was.distinct at)
         (head_out new (head_named (link_of pool before) (start_of name old) list was.ends ∙ at) same)
 
-    -- the block at position i + 1 is removed
     pub later_out : (i prev : ℕ) (after : List ℕ) → IsWithin pool after → slice_get list i ≡ Some prev → slice_get list (suc i) ≡ Some b
         → link_of pool after prev ≡ link_of pool before b
         → ((c : ℕ) → c ≢ prev → link_of pool after c ≡ link_of pool before c)
@@ -143,20 +139,17 @@ module _ (name : ListName) {pool : PoolTable} {old : ListHeads} {before : List �
 
   module _ (b : ℕ) (used : is_used b pool ≡ true) (free : (other : ListName) → has_number b (list_of other old pool before) ≡ false)
       (after : List ℕ) (within : IsWithin pool after) where
-    -- a block of no list is put at the front
     pub front_in : (new : ListHeads) → new ≡ with_start name (Some b) old → link_of pool after b ≡ start_of name old
         → ((c : ℕ) → c ≢ b → link_of pool after c ≡ link_of pool before c)
         → Changes name pool old new before after (b ∷ list)
     front_in new same here rest = grind (arith, names_agree, differ, start_same, has_cases, apart_before, start_other)
 
-    -- a block of no list is put after one of the list
     pub behind_in : (prev : ℕ) → has_number prev list ≡ true → link_of pool after b ≡ link_of pool before prev
         → link_of pool after prev ≡ Some b
         → ((c : ℕ) → c ≢ b → c ≢ prev → link_of pool after c ≡ link_of pool before c)
         → Changes name pool old old before after (put_behind prev b list)
     behind_in prev listed' here at_prev rest = grind (arith, names_behind, differ, distinct_behind, had_behind, apart_before)
 
--- lists without a block
 pub none_listed : (name : ListName) (lists : ListHeads) (pool : PoolTable) (bytes : List ℕ) → start_of name lists ≡ None
     → list_of name lists pool bytes ≡ []
 none_listed name lists pool bytes e = grind (arith, all_along_none)
@@ -170,7 +163,7 @@ pub empty_linked : (lists : ListHeads) (pool : PoolTable) (bytes : List ℕ) →
     → length pool.used ≤ 16 → IsWithin pool bytes → AreLinked lists pool bytes
 empty_linked lists pool bytes none few within = grind (arith, none_listed)
 
--- a block that was taken out of one list, and is not in the other
+-- a block removed from one list, and not in the other
 pub absent_after : {name : ListName} {pool : PoolTable} {old new : ListHeads} {before after : List ℕ} (b : ℕ)
     → LeavesOthers name pool old new before after → list_of name new pool after ≡ without b (list_of name old pool before)
     → ((other : ListName) → other ≢ name → has_number b (list_of other old pool before) ≡ false) → (other : ListName)

@@ -1,12 +1,11 @@
--- Which numbers a list has, before and after a change of it.
+-- The numbers in a list, before and after a change.
 use Rattle.memb_core.proofs.Words.{◌≡◌, ◌≢◌, ℕ, zero, suc, ◌≤◌, ◌<◌, ◌⊎◌, inl, inr, true, false, List, [], ◌∷◌, ◌++◌, length, eqb, refl, sym, arith, Some, None, slice_get, slice_get-get_or, position, position_or_len, position-Some, eqb-true, cases_Bool, cases_eq, cond-true, lt-ltb, false≢true, if◌then◌else◌, has_number, without, tail_of, put_behind, head_of, popped, chopped, AreDistinct}
 
 module _ (b : ℕ) where
-  -- a list with a number at the front
   pub has_first : (list : List ℕ) → has_number b (b ∷ list) ≡ true
   has_first list = grind arith
 
-  -- two numbers of which a list has one and not the other
+  -- numbers differ if a list has only one of them
   pub differ : (c : ℕ) (list : List ℕ) → has_number b list ≡ true → has_number c list ≡ false → b ≢ c
   differ c list had none e = grind arith
 
@@ -24,7 +23,6 @@ module _ (b : ℕ) where
       pub none_from : x ≢ b → has_number b list ≡ false → has_number b (x ∷ list) ≡ false
       none_from ne none = grind arith
 
--- the tail
 tail_later : (x y : ℕ) (list : List ℕ) → tail_of (x ∷ (y ∷ list)) ≡ tail_of (y ∷ list)
 tail_later x y list = grind arith
 
@@ -45,19 +43,17 @@ module _ (b : ℕ) where
 
   module _ (x : ℕ) where
     module _ (list : List ℕ) where
-      -- a list without a number
       without_first : x ≡ b → without b (x ∷ list) ≡ without b list
       without_first e = grind arith
 
       without_later : x ≢ b → without b (x ∷ list) ≡ x ∷ without b list
       without_later ne = grind arith
 
-  -- the head is removed
   pub without_head : (list : List ℕ) → AreDistinct list → head_of list ≡ Some b → without b list ≡ popped list
   without_head [] distinct e = refl
   without_head (x ∷ list) distinct e = grind (arith, without_none)
 
-  -- a number is left if it was there, and is another one
+  -- a number stays if it was there, and is another one
   pub has_left : (c : ℕ) (list : List ℕ) → has_number c (without b list) ≡ (if eqb b c then false else has_number c list)
   has_left c [] = grind arith
   has_left c (x ∷ list) = grind (arith, has_left c list)
@@ -88,7 +84,6 @@ has_at zero b (x ∷ list) at = grind arith
 has_at (suc i) b (x ∷ list) at = has_later b x list (has_at i b list at)
 
 module _ (b : ℕ) where
-  -- the position of a number
   place_below : (list : List ℕ) → has_number b list ≡ true → position_or_len (λ other. eqb other b) list < length list
   place_below [] had = absurd (cc)
   place_below (x ∷ list) had = grind (arith, place_below list)
@@ -102,7 +97,6 @@ module _ (b : ℕ) where
 module _ (prev : ℕ) where
   module _ (b : ℕ) where
     module _ (x : ℕ) (list : List ℕ) where
-      -- a list with b after prev
       pub behind_here : x ≡ prev → put_behind prev b (x ∷ list) ≡ x ∷ (b ∷ list)
       behind_here e = grind arith
 

@@ -1,5 +1,4 @@
--- For those that keep managed memory and its arena together: what the handles stand for is unchanged when only bytes of
--- another span changed.
+-- For those that keep managed memory and its arena together: the handles depend only on the span's bytes.
 use Rattle.mmem_core.proofs.Words.{◌≡◌, ℕ, ◌+◌, ◌≤◌, ◌⊎◌, List, arith, ChangesOnly, HandleTable, store_of}
 
 pub store_of-elsewhere : (table : HandleTable) (at len : ℕ) (old new : List ℕ) → ChangesOnly at len old new

@@ -1,13 +1,12 @@
--- A call that keeps to its span, and counts the bytes that it moves.
+-- Calls that keep to their span, and the count of moved bytes.
 use Rattle.mmem_core.proofs.Words.{◌+◌, ◌≤◌, ℕ, [], ◌∷◌, Some, None, refl, arith, Span, Contents, HandleTable, KeepsToSpan, CountsMoved}
 
--- a span that was handed out stays handed out: what is handed out later is after it
+-- a span stays handed out: later spans are after it
 stays_handed_out : (old new : HandleTable) (before after : Contents) → KeepsToSpan old new before after
     → old.span.at + old.span.len ≤ before.carved → new.span.at + new.span.len ≤ after.carved
 stays_handed_out old new before after keeps within = grind arith
 
 module _ (span : Span) where
-  -- three handles: blocks of 5 and of 6 bytes, the second one at this offset, and n bytes moved so far
   abbrev table : ℕ → ℕ → HandleTable
   table at slid =
       record {
@@ -24,7 +23,7 @@ module _ (span : Span) where
   counts_no_lengths : CountsMoved (table 20 3) (table 8 9) → ⊥
   counts_no_lengths counts = grind arith
 
-  -- what stays counts for nothing
+  -- a block that stays adds nothing
   counts_none : CountsMoved (table 8 3) (table 8 3)
   counts_none = refl
 

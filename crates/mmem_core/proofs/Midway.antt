@@ -1,4 +1,4 @@
--- What holds of the table and of the arena while the blocks slide together, one after the other.
+-- The table and the arena while the blocks slide together, one after the other.
 use Rattle.mmem_core.proofs.Words.{◌≡◌, ℕ, ◌+◌, ◌-◌, ◌≤◌, ◌<◌, ◌^◌, inl, inr, min, length, get_or, slice_set, slice_range, Option, Some, None, sym, ap, ◌∙◌, arith, IfSome, IsSome, cases_eq, cases_lt, get_or-set_same, get_or-set_other, length-set, up4, Contents, contents, written, Place, unused, place_in, last_end, room_moved, AreShared, at_of, room_of, end_at, LieApart, Names, IsEntry, IsNext, IsLinked, IsLaidOut, HandleTable, store_of, KeepsToSpan, CountsMoved}
 use Rattle.mmem_core.specs.declared.mmem.Mmem.TheInside.{Inside}
 use Rattle.mmem_core.proofs.PlaceLemmas.{placed, len_le_room, live_from_room, live_below, bytes_moved-same, bytes_moved-set, room_moved-same}
@@ -16,7 +16,7 @@ pub record IsMidway (old now : Inside) (before after : Contents) (next : Option 
   pub same_rooms : (i : ℕ) → room_of (place_in now.places i) ≡ room_of (place_in old.places i)
   pub laid_out : IsLaidOut now.places now.order now.used now.span.len
   pub sliding : AreSliding now.span.len now.used end now.places
-  -- the entry of the last block that slid
+  -- the last block that slid
   pub last : ℕ
   pub entry : IsEntry now.places last
   pub ended : end ≡ end_at now.places last
@@ -68,7 +68,6 @@ module _ {old now : Inside} {before after : Contents} {next : Option ℕ} {numbe
     pub some_room : 0 < up4 place.len
     some_room = grind arith
 
-    -- one block has slid down
     pub midway_more : (slid : ℕ) (after' : Contents) (next' : Option ℕ)
         → slid ≡ min (now.slid + room_moved (Some place) (placed end place.len)) (2 ^ 64 - 1)
         → after' ≡ contents (written after.bytes (now.span.at + end)

@@ -1,15 +1,12 @@
 -- How the positions change, and the space that the blocks take.
 use Rattle.mmem_core.proofs.Words.{◌≡◌, ◌≢◌, ℕ, zero, suc, ◌+◌, ◌≤◌, ◌<◌, ◌⊎◌, List, [], ◌∷◌, length, get_or, slice_set, replicate, Option, Some, None, refl, ap, arith, IsSome, IsSomeAnd, get_or-set_at, get_or-set_same, get_or-set_other, get_or_past, set-get_or, set-set, cases_eq, cases_lt, inl, inr, up4, Place, place_in, end_of, last_end, room_moved, bytes_moved, at_of, room_of, LieApart}
 
--- a live name's position
 abbrev pub placed : ℕ → ℕ → Option Place
 placed at len = Some (record { at = at; len = len })
 
--- a block's length is not above what it takes
 pub len_le_room : (n : ℕ) → n ≤ up4 n
 len_le_room n = omega arith
 
--- a list of one value has no other one
 pub get_or-same : {X : Type 0} (x : X) (n i : ℕ) → get_or (replicate n x) i x ≡ x
 get_or-same x zero i = refl
 get_or-same x (suc n) zero = refl
@@ -22,7 +19,6 @@ pub LieApart-none : (n size : ℕ) → LieApart (replicate n None) size
 LieApart-none n size = grind (arith, place_in-none)
 
 module _ (places : List (Option Place)) (i : ℕ) where
-  -- a name that is live has its number in the list
   pub room_below : 0 < room_of (place_in places i) → i < length places
   room_below some = grind (arith, cases_lt, get_or_past)
 
@@ -32,7 +28,7 @@ module _ (places : List (Option Place)) (i : ℕ) where
 pub live_from_room : (p : Option Place) → 0 < room_of p → IsSome p
 live_from_room p h = grind arith
 
--- a list of positions after a change of one: where that meets no other block, they are apart
+-- after a change of one position the blocks are apart if it meets no other
 module _ (xs : List (Option Place)) (i : ℕ) (p : Option Place) (below : i < length xs) where
   entry : (j : ℕ) → ((j ≡ i) × (place_in (slice_set xs i p) j ≡ p)) ⊎ ((j ≢ i) × (place_in (slice_set xs i p) j ≡ place_in xs j))
   entry j = elim (cases_eq j i) [
@@ -50,7 +46,6 @@ module _ (xs : List (Option Place)) (i : ℕ) (p : Option Place) (below : i < le
     no_empty = λ j live. grind (arith, some, lie.no_empty j, entry j);
   }
 
--- where the last block ends
 end_is : (p : Option Place) → end_of p ≡ at_of p + room_of p
 end_is p = grind arith
 
@@ -64,7 +59,7 @@ pub last_le : (places : List (Option Place)) (n : ℕ) → ((i : ℕ) → at_of 
 last_le [] n each = omega arith
 last_le (x ∷ xs) n each = omega (arith, end_is x, each 0, last_le xs n (λ i. each (suc i)))
 
--- a block that is put after the last one is the last one, and meets no other one
+-- a block put after the last one is the last one, and meets no other
 module _ (places : List (Option Place)) (i n : ℕ) (below : i < length places) where
   abbrev fresh : Option Place
   fresh = placed (last_end places) n
@@ -88,18 +83,18 @@ module _ (places : List (Option Place)) (size i : ℕ) (place : Place) (lie : Li
   pub some_size : 0 < up4 place.len
   some_size = grind arith
 
-  -- each other block is before it, or after it
+  -- each other block is before or after it
   pub sides : (j : ℕ) → j ≢ i → (at_of (place_in places j) + room_of (place_in places j) ≤ place.at)
       ⊎ (place.at + up4 place.len ≤ at_of (place_in places j))
   sides j ne = grind arith
 
--- a block that is put after the last one begins where the last of the others ends
+-- it begins where the last of the others ends
 pub begins_behind : (xs : List (Option Place)) (i n : ℕ) → i < length xs → place_in xs i ≡ None
     → (ys : List (Option Place)) → ys ≡ slice_set xs i (placed (last_end xs) n)
     → IsSomeAnd (place_in ys i) (λ (place : Place). place.at ≡ last_end (slice_set ys i None))
 begins_behind xs i n below none ys is = grind (arith, get_or-set_same, set-set, set-get_or xs i None)
 
--- the number of bytes that a change of the positions moves
+-- the number of bytes that a change of positions moves
 pub room_moved-same : (p : Option Place) → room_moved p p ≡ 0
 room_moved-same p = grind arith
 
@@ -118,7 +113,6 @@ bytes_moved-set (x ∷ xs) [] i p below = absurd (omega arith)
 bytes_moved-set (x ∷ xs) (y ∷ ys) zero p below = omega arith
 bytes_moved-set (x ∷ xs) (y ∷ ys) (suc i) p below = omega (arith, bytes_moved-set xs ys i p (omega arith))
 
--- freeing a block moves nothing
 pub bytes_moved-freed : (xs : List (Option Place)) (i : ℕ) → i < length xs → bytes_moved xs (slice_set xs i None) ≡ 0
 bytes_moved-freed xs i below = omega (
   arith,

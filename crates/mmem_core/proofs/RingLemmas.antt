@@ -1,4 +1,4 @@
--- What an append, a removal and a slide make of the ring of links.
+-- The ring of links after an append, a removal and a slide.
 use Rattle.mmem_core.proofs.Words.{◌≡◌, ◌≢◌, ℕ, ◌+◌, ◌≤◌, ◌<◌, ◌⊎◌, inl, inr, List, length, get_or, slice_set, replicate, Option, None, refl, sym, ap, ◌∙◌, arith, cases_eq, cases_lt, get_or_past, get_or-set_same, get_or-set_other, get_or-replicate, length-set, Place, place_in, last_end, at_of, room_of, end_at, LieApart, subst, Order, IsEntry, IsNext, IsLinked, AreLinked, IsLaidOut, appended, removed}
 use Rattle.mmem_core.proofs.PlaceLemmas.{placed, place_in-none, room_below, end_le_last, last_le}
 
@@ -23,7 +23,7 @@ no_links = record {
     ends : get_or {A = ℕ} (replicate 273 272) 272 0 ≡ 272
     ends = get_or-replicate 273 272 272 0 (omega arith)
 
--- the links of the stored order, into which proof searches don't look
+-- hides the links of the stored order from proof searches
 pub shown : {places : List (Option Place)} {order : Order} {used size : ℕ} → IsLaidOut places order used size → IsLinked places order
 unfolding AreLinked
 shown laid_out = laid_out.linked
@@ -45,7 +45,7 @@ module _ {places : List (Option Place)} {order : Order} (linked : IsLinked place
   pub last_below : get_or order.before 272 0 ≤ 272
   last_below = grind (arith, entry_below)
 
-  -- the last block ends where the entry before both ends does
+  -- the last block ends at the greatest end
   pub last_is : (size : ℕ) → LieApart places size → last_end places ≡ end_at places (get_or order.before 272 0)
   last_is size lie =
       let last = get_or order.before 272 0 in let forth = linked.forth 272 (inl refl) in
@@ -60,7 +60,7 @@ module _ {places : List (Option Place)} {order : Order} (linked : IsLinked place
       ) in
       grind (arith, last_le, end_le_last)
 
--- blocks that slide, in the order that they have
+-- blocks that slide keep their order
 module _ {xs ys : List (Option Place)} {size size' : ℕ} (lie : LieApart xs size) (lie' : LieApart ys size')
     (same : length ys ≡ length xs) (rooms : (i : ℕ) → room_of (place_in ys i) ≡ room_of (place_in xs i))
     (keeps : (i j : ℕ) → 0 < room_of (place_in xs i) → at_of (place_in xs i) < at_of (place_in xs j)
@@ -152,7 +152,7 @@ module _ {xs : List (Option Place)} {order : Order} (links : IsLinked xs order) 
   is_entry : (i : ℕ) → IsEntry xs i → IsEntry added i
   is_entry i entry = grind (arith, place_other, cases_eq)
 
-  -- except for the last one, the next entry is one of a block, and not the new one's
+  -- except for the last one, the next entry is a block's, and not the new one's
   next_other : (i : ℕ) → IsEntry xs i → i ≢ last → (get_or order.behind i 0 ≢ 272) × (get_or order.behind i 0 ≢ x)
   next_other i entry ne = grind arith
 
@@ -284,7 +284,7 @@ module _ {xs : List (Option Place)} {order : Order} {size : ℕ} (chain : IsLink
     same_end : end_at left i ≡ end_at xs i
     same_end = ap (λ p. at_of p + room_of p) (place_else i was.0)
 
-    -- the next one of those that were left is the one that was the next of all after `low`
+    -- the next block of those left is the one that was next of all after `low`
     next_of_left : (low n : ℕ) → n ≢ x → IsNext xs low n
         → ((j : ℕ) → j ≢ x → 0 < room_of (place_in xs j) → end_at xs i ≤ at_of (place_in xs j) → low ≤ at_of (place_in xs j))
         → end_at xs i ≤ low → IsNext left (end_at left i) n

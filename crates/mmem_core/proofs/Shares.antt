@@ -3,19 +3,17 @@ use Rattle.mmem_core.proofs.Words.{rules, ◌≡◌, ◌≢◌, ℕ, zero, suc, 
 use Rattle.std.proofs.lemmas.Bool.Decides.{nat_tests}
 use Rattle.mmem_core.proofs.PlaceLemmas.{get_or-same, place_in-none}
 
--- sums over numbers one after the other, of functions that agree on these
+-- sums of functions that agree on these numbers
 pub same_sum : (f g : ℕ → ℕ) (from n : ℕ) → ((i : ℕ) → from ≤ i → i < from + n → f i ≡ g i)
     → sum_by f (range_with_len from n) ≡ sum_by g (range_with_len from n)
 same_sum f g from zero same = refl
 same_sum f g from (suc n) same = grind (arith, sum_by-cons, same_sum f g (from + 1) n)
 
--- and that agree on all of these but one
 sum_changed : (f g : ℕ → ℕ) (h from n : ℕ) → from ≤ h → h < from + n → ((i : ℕ) → i ≢ h → f i ≡ g i)
     → sum_by f (range_with_len from n) + g h ≡ sum_by g (range_with_len from n) + f h
 sum_changed f g h from zero low high same = absurd (omega (arith, low, high))
 sum_changed f g h from (suc n) low high same = grind (arith, sum_by-cons, cases_eq, same_sum, sum_changed f g h (from + 1) n)
 
--- no block is live
 room_by-none : (n p : ℕ) → room_by p (replicate n None) ≡ 0
 room_by-none n p = grind (arith, same_sum, place_in-none)
 
@@ -24,12 +22,10 @@ pub none_shared : (quotas : Quotas) (size : ℕ) → ((quota : ℕ) → quotas.e
 unfolding AreShared
 none_shared quotas size fit = search (rules, get_or-same {X = ℕ} 0, room_by-none)
 
--- the position of another process's block makes no difference
 room_by-other : (p q h : ℕ) (places : List (Option Place)) (x : Option Place) → 3 ≤ p → IsName q h → p ≢ q
     → room_by p (slice_set places (number_of q h) x) ≡ room_by p places
 room_by-other p q h places x low named other = grind (arith, same_sum, get_or-set_other)
 
--- that of its own block does
 room_by-own : (p h : ℕ) (places : List (Option Place)) (x : Option Place) → IsName p h → number_of p h < length places
     → room_by p (slice_set places (number_of p h) x) + room_of (place_in places (number_of p h)) ≡ room_by p places + room_of x
 room_by-own p h places x named below = grind (arith, get_or-set_same, sum_changed, get_or-set_other)
@@ -41,7 +37,7 @@ module _ (quota : ℕ) where
   later_share : (owners i : ℕ) → share quota (suc owners) (suc i) ≡ share quota owners i
   later_share owners i = grind (arith, nat_tests)
 
-  -- what all take is at most what all may take
+  -- the total is at most what all may take
   sum_within : (taken : List ℕ) (owners : ℕ) → ((i : ℕ) → get_or taken i 0 ≤ share quota owners i)
       → sum_by (λ n. n) taken ≤ quota * owners
   sum_within [] owners each = omega arith
@@ -111,7 +107,7 @@ module _ (quotas : Quotas) (places : List (Option Place)) (taken : List ℕ) (us
     room_le_taken = omega (arith, room_by-own p h places None named below, shared.told p named.0 named.1)
 
     module _ (x : Option Place) where
-      -- the position of one block changes, and so what its process takes
+      -- one position changes, and so what its process takes
       place_shared : (rest left : ℕ) → rest + room_of (place_in places (number_of p h)) ≡ get_or taken (p - 3) 0 + room_of x
           → left + room_of (place_in places (number_of p h)) ≡ used + room_of x
           → ((quota : ℕ) → quotas.each ≡ Some quota → rest ≤ share quota quotas.owners (p - 3))
@@ -120,7 +116,7 @@ module _ (quotas : Quotas) (places : List (Option Place)) (taken : List ℕ) (us
       place_shared rest left is count most =
           grind (arith, shared, length-set, cases_eq, get_or-set_same, room_by-own, get_or-set_other, room_by-other, sum_by-set)
 
-      -- a new block of an owner, for which there is room
+      -- a new block of an owner, with room for it
       pub block_shared : place_in places (number_of p h) ≡ None → p ≤ 2 + quotas.owners
           → ((quota : ℕ) → quotas.each ≡ Some quota → get_or taken (p - 3) 0 + room_of x ≤ quota)
           → AreShared quotas (slice_set places (number_of p h) x) (slice_set taken (p - 3) (get_or taken (p - 3) 0 + room_of x))
@@ -128,7 +124,6 @@ module _ (quotas : Quotas) (places : List (Option Place)) (taken : List ℕ) (us
       block_shared none owner most = let room = ap room_of none in place_shared (get_or taken (p - 3) 0 + room_of x) (used + room_of x)
           (omega arith) (omega arith) (λ quota each. grind (arith, share_of_owner, most quota each))
 
-    -- a block is freed
     pub freed_shared : (n : ℕ) → room_of (place_in places (number_of p h)) ≡ n
         → AreShared quotas (slice_set places (number_of p h) None) (slice_set taken (p - 3) (get_or taken (p - 3) 0 - n)) (used - n) size
     freed_shared n room = let mine = room_le_taken in let all = taken_le_used (p - 3) (omega (arith, named)) in

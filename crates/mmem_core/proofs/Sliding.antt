@@ -1,13 +1,13 @@
--- What holds of the positions while blocks slide together: the lowest of those that begin at the end of the others, or after it, slides
+-- The positions while blocks slide together: of the blocks that begin at the end of the others, or after it, the lowest slides
 -- down.
 use Rattle.mmem_core.proofs.Words.{◌≡◌, ◌≢◌, ℕ, ◌+◌, ◌≤◌, ◌<◌, ◌⊎◌, inl, inr, List, [], ◌∷◌, length, slice_set, Option, Some, None, if◌then◌else◌, nat_le, nat_tests, refl, ap, arith, sum_by, sum_by-cons, sum_by-set, get_or-set_at, get_or-set_other, cases_eq, up4, Place, place_in, last_end, at_of, room_of, LieApart}
 use Rattle.mmem_core.proofs.PlaceLemmas.{placed, LieApart-set, live_below, end_le_last, last_le}
 
--- what the block takes, if it has not slid yet: it begins at the end of the others, or after it
+-- what the block takes, if it has not slid yet
 abbrev to_slide : ℕ → Option Place → ℕ
 to_slide end place = if nat_le end (at_of place) then room_of place else 0
 
--- those that begin before `end` are together before it, and those that begin after it have not slid yet
+-- blocks before `end` are together, and the others have not slid yet
 pub record AreSliding (size total end : ℕ) (xs : List (Option Place)) : Type 0 where
   pub apart : LieApart xs size
   pub parted : (j : ℕ) → (at_of (place_in xs j) + room_of (place_in xs j) ≤ end) ⊎ (end ≤ at_of (place_in xs j))
@@ -23,7 +23,7 @@ sliding_first size xs lie = grind (arith, ap (λ f. sum_by f xs) (λ k p. to_sli
 none_to_slide : (end : ℕ) → to_slide end None ≡ 0
 none_to_slide end = grind (arith, nat_tests)
 
--- after a later end no more has to slide
+-- a later end leaves no more to slide
 fewer_to_slide : (end more : ℕ) (p : Option Place) → to_slide (end + more) p ≤ to_slide end p
 fewer_to_slide end more p = grind (arith, nat_tests)
 
@@ -101,7 +101,6 @@ module _ {size total end : ℕ} {xs : List (Option Place)} (sliding : AreSliding
     pub lowered_room : (j : ℕ) → room_of (place_in ys j) ≡ room_of (place_in xs j)
     lowered_room j = grind (arith, cases_eq, at_here, elsewhere, room_i)
 
-    -- what all take is unchanged
     pub same_total : sum_by room_of ys ≡ sum_by room_of xs
     same_total = omega (arith, sum_by-set room_of xs i lowered None below, room_i)
 

@@ -7,12 +7,11 @@ use Rattle.mmem_core.proofs.PlaceLemmas as places
 abbrev pub block_in : List ℕ → Option Place → Option (List ℕ)
 block_in region = option_map (bytes_at region)
 
--- a new block takes its rounded size of what is unused
 pub unused-added : (store : ManagedStore) (i n : ℕ) → i < length store.blocks → get_or store.blocks i None ≡ None
     → unused (record store { blocks = slice_set store.blocks i (Some (zeros n)) }) ≡ unused store - up4 n
 unused-added store i n below none = grind (arith, length-replicate, sum_by-set)
 
--- bytes are written where they meet no block but i's, whose position is another one from now on
+-- the written bytes meet no block but i's, whose position changes
 module _ (region : List ℕ) (at : ℕ) (ws : List ℕ) (fits : at + length ws ≤ length region) where
   abbrev Misses : Option Place → Type 0
   Misses p = (at_of p + room_of p ≤ at) ⊎ (at + length ws ≤ at_of p)
@@ -35,7 +34,6 @@ module _ (region : List ℕ) (at : ℕ) (ws : List ℕ) (fits : at + length ws �
   blocks-set (x ∷ xs) (suc i) p apart =
       λ k. block_apart x (apart 0 (omega arith)) k ∷ blocks-set xs i p (λ j ne. apart (suc j) (omega arith)) k
 
-  -- what was written is the block at that position
   pub block_written : after (places.placed at (length ws)) ≡ Some ws
   block_written = ap Some (range-written region at ws fits)
 
@@ -44,7 +42,6 @@ module _ (region : List ℕ) where
       → get_or (map (block_in region) xs) i None ≡ block_in region (place_in xs i)
   get_or-blocks xs i = get_or-map (block_in region) xs i None
 
-  -- a name without a block has no position
   pub no_place : (p : Option Place) → block_in region p ≡ None → p ≡ None
   no_place None e = refl
   no_place (Some place) e = absurd (cc)
@@ -53,7 +50,7 @@ module _ (region : List ℕ) where
   size_same None h = refl
   size_same (Some place) h = ap up4 (length-range region place.at place.len (omega (arith, places.len_le_room place.len)))
 
-  -- what all blocks take is what their positions take
+  -- the blocks' total is that of their positions
   pub sum_same : (xs : List (Option Place)) → ((i : ℕ) → at_of (place_in xs i) + room_of (place_in xs i) ≤ length region)
       → sum_by size_of (map (block_in region) xs) ≡ sum_by room_of xs
   sum_same [] h = refl

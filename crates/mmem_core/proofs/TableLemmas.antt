@@ -1,4 +1,4 @@
--- What the handles of a table stand for, after each kind of change of the table and of the arena's bytes.
+-- What the handles of a table stand for, after each change of the table and the bytes.
 use Rattle.mmem_core.proofs.Words.{subst, ◌≡◌, ◌≢◌, ℕ, ◌+◌, ◌-◌, ◌≤◌, ◌⊎◌, inl, List, [], length, get_or, unwrap_or, slice_set, slice_range, sum_by, Option, Some, None, refl, sym, ap, ◌∙◌, arith, append_assoc, length-replicate, map-set, set-get_or, number_of, up4, zeros, overwritten, contents, written, length-range, written-range, range-range, changes_only, Place, ManagedStore, size_of, block_of, unused, taken_by, free, place_in, last_end, at_of, room_of, LieApart, room_by, HandleTable, store_of, region_of, IsWithin, bytes_at, KeepsToSpan}
 use Rattle.arena_core.proofs.Rows.{written_is}
 use Rattle.mmem_core.proofs.Shares.{same_sum}
@@ -8,11 +8,10 @@ use Rattle.mmem_core.proofs.PlaceLemmas as places
 abbrev pub with_slot : ℕ → Option (List ℕ) → ManagedStore → ManagedStore
 with_slot i block store = record store { blocks = slice_set store.blocks i block }
 
--- the same table with another position of name i
 abbrev pub with_place : HandleTable → ℕ → ℕ → Option Place → HandleTable
 with_place table slid i p = record table { places = slice_set table.places i p; slid = slid }
 
--- what the code keeps of the positions, said of the table that is seen
+-- the code's facts on positions, for the table that is seen
 pub seen_apart : {kept seen : HandleTable} → kept ≡ seen → LieApart kept.places kept.span.len → LieApart seen.places seen.span.len
 seen_apart is lie = subst (λ (t : HandleTable). LieApart t.places t.span.len) is lie
 
@@ -42,7 +41,7 @@ module _ (table : HandleTable) (lie : LieApart table.places table.span.len) (B :
       → free p (store_of table B) ≡ table.span.len - used
   free_of_all p used each total = grind (arith, unused_is)
 
-  -- a write in the span gives the handles these blocks, by this table
+  -- a write in the span, by this table
   pub record Writes (new : HandleTable) (at : ℕ) (ws : List ℕ) (store : ManagedStore) : Type 0 where
     pub stored : store_of new (written B at ws) ≡ store
     pub rest : (carved : ℕ) → KeepsToSpan table new (contents B carved) (contents (written B at ws) carved)
@@ -57,7 +56,7 @@ module _ (table : HandleTable) (lie : LieApart table.places table.span.len) (B :
     bytes = changes_only B at ws (omega arith) table.span.at table.span.len low high;
   }
 
-  -- bytes are written where they meet no block but i's, whose position is another one from now on
+  -- the written bytes meet no block but i's, whose position changes
   changed : (slid' at : ℕ) (ws : List ℕ) (i : ℕ) (p : Option Place) → at + length ws ≤ table.span.len
       → ((j : ℕ) → j ≢ i → (at_of (place_in table.places j) + room_of (place_in table.places j) ≤ at)
       ⊎ (at + length ws ≤ at_of (place_in table.places j)))

@@ -1,4 +1,4 @@
--- What rows stand for, before and after one of them is added, removed or changed.
+-- What rows stand for, before and after one is added, removed or changed.
 use Rattle.std.proofs.Common.{◌≡◌, ◌≢◌, ℕ, zero, suc, ◌+◌, ◌-◌, ◌≤◌, ◌<◌, ◌⊎◌, inl, inr, not, List, [], ◌∷◌, ◌++◌, length, map, filter, take, drop, set, slice_set, Some, None, refl, sym, ap, ◌∙◌, arith}
 use Rattle.std.specs.Prelude.{find}
 use Rattle.std.specs.List.{copy_within}
@@ -15,7 +15,6 @@ use Rattle.modules_c.specs.Heapmem.Heaps.{block_told, room_of, LieFrom, IsTable,
 use Rattle.modules_c.specs.Code.HeapmemRows.{row_of, with_row, without_row, IsFree, BeginBelow}
 use Rattle.modules_c.proofs.HeapmemTables.{lie_le, lie_append, between, among, with_row_between}
 
--- the rows after the number move down by one
 pub without_is : (i : ℕ) (rows : List Row) → i < length rows → without_row i rows ≡ take i rows ++ drop (i + 1) rows
 without_is i [] l = absurd (omega arith)
 without_is zero (row ∷ rows) l = refl
@@ -28,7 +27,7 @@ removed rows i l = grind (arith, length-drop, take_all, length-append, take_at, 
 pub free_inside : (rows : List Row) (capacity at len : ℕ) → IsTable rows capacity → IsFree 0 rows capacity at len → at + len ≤ capacity
 free_inside rows capacity at len lie free = let b = between 0 rows capacity at len lie free in lie_le (at + len) b.behind capacity b.back
 
--- a row for a block at such a position keeps the table
+-- a row for a block there keeps the table
 pub table_with : (rows : List Row) (capacity : ℕ) (row : Row) → 1 ≤ room_of row → IsTable rows capacity
     → IsFree 0 rows capacity row.place (room_of row) → IsTable (with_row row rows) capacity
 table_with rows capacity row some lie free = let b = between 0 rows capacity row.place (room_of row) lie free in
@@ -38,7 +37,7 @@ table_with rows capacity row some lie free = let b = between 0 rows capacity row
       with_row_between 0 b.before b.behind (row.place + room_of row) capacity row b.front b.back (omega arith),
     )
 
--- bytes that are written between the blocks are no block's
+-- bytes written between the blocks are no block's
 module _ (bytes : List ℕ) (at : ℕ) (ws : List ℕ) (inside : at + length ws ≤ length bytes) where
   kept_beside : (from : ℕ) (rows : List Row) (capacity : ℕ) → LieFrom from rows capacity → (capacity ≤ at) ⊎ (at + length ws ≤ from)
       → map (block_told (written bytes at ws)) rows ≡ map (block_told bytes) rows
@@ -64,7 +63,6 @@ module _ (bytes : List ℕ) (at : ℕ) (ws : List ℕ) (inside : at + length ws 
       )
 
 module _ (bytes : List ℕ) where
-  -- blocks and their order
   pub told_with : (row : Row) (rows : List Row)
       → map (block_told bytes) (with_row row rows) ≡ placed (block_told bytes row) (map (block_told bytes) rows)
   told_with row [] = refl
@@ -125,7 +123,6 @@ module _ (bytes : List ℕ) where
         )
 
 module _ (row : Row) where
-  -- a new row, by its number
   pub with_row_at : (rows : List Row) (i : ℕ) → i ≤ length rows → BeginBelow rows row.place i
       → (i < length rows → row.place < (row_of rows i).place)
       → with_row row rows ≡ take i rows ++ (row ∷ drop i rows)

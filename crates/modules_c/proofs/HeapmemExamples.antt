@@ -1,4 +1,4 @@
--- Rows and what they stand for, rows that are no table, positions, and outcomes.
+-- Examples: rows, positions and outcomes.
 use Rattle.std.proofs.Common.{◌≡◌, ℕ, ◌+◌, ◌-◌, ◌*◌, ◌≤◌, inl, inr, List, [], ◌∷◌, length, refl, arith}
 use Rattle.std.specs.Prelude.{Some, None, map}
 use Rattle.mote_types.specs.Bytes.{zeros}
@@ -12,7 +12,6 @@ use Rattle.modules_c.specs.Code.HeapmemRows.{with_row, without_row, next_place, 
 abbrev block_row : ℕ → ℕ → ℕ → Row
 block_row place room size = record { place = place; extent = size * 32 + (room - size) }
 
--- of 10 bytes the first two and those from 4 to 6
 abbrev small : HeapStore
 small = heap_of (block_row 0 2 1 ∷ block_row 4 3 3 ∷ []) (1 ∷ 2 ∷ 3 ∷ 4 ∷ 5 ∷ 6 ∷ 7 ∷ 8 ∷ 9 ∷ 10 ∷ [])
 
@@ -60,7 +59,7 @@ shortest_that_is_long_enough : place 20 heap ≡ Some (record { at = 64; room = 
 unfolding size_of rest_of
 shortest_that_is_long_enough = refl
 
--- 48 less 36 is a rest that goes along
+-- the rest of 48 less 36 is allocated too
 with_its_rest : place 33 heap ≡ Some (record { at = 0; room = 48 })
 unfolding size_of rest_of
 with_its_rest = refl
@@ -92,7 +91,7 @@ new_block : with_new (record { at = 0; room = 4 }) 2
 unfolding size_of rest_of
 new_block = refl
 
--- a block of one byte that is moved to 4 and has three then
+-- a block of one byte, moved to 4 and resized to three
 resized_block : with_resized (record { at = 4; room = 4 }) 3 (record { name = 0; at = 0; room = 2; bytes = 7 ∷ [] })
     (heap_of (block_row 0 2 1 ∷ []) (7 ∷ 8 ∷ 9 ∷ 9 ∷ 9 ∷ 9 ∷ 9 ∷ 9 ∷ []))
     ≡ heap_of (block_row 4 4 3 ∷ []) (7 ∷ 8 ∷ 9 ∷ 9 ∷ 7 ∷ 0 ∷ 0 ∷ 9 ∷ [])
@@ -106,7 +105,7 @@ numbers = refl
 no_such_number : outcome_numbered 5 ≡ None
 no_such_number = refl
 
--- A row that is none, and the same after a sound one; a heap of 4 bytes whose block has all of them
+-- A malformed row, also after a sound one; a block with all 4 bytes of a heap
 abbrev spoilt : List Row
 spoilt = block_row 0 0 0 ∷ []
 
@@ -121,12 +120,12 @@ a_row_is_there : AllocTold Outcome.NoRow 1 spoilt (zeros 4) → ⊥
 unfolding size_of rest_of
 a_row_is_there told = omega (arith, told)
 
--- the spare row need not be one
+-- the spare row may be malformed
 no_rows_but_the_spare_one : AllocTold Outcome.NoTable 1 spoilt (zeros 4) → ⊥
 unfolding size_of rest_of
 no_rows_but_the_spare_one told = omega (arith, told.1 (omega arith))
 
--- a heap that is too large for numbers of 32 bits is refused, whatever its rows
+-- a heap too large for 32 bits is refused, whatever its rows
 too_large_for_rows : (bytes : List ℕ) → row_limit ≤ length bytes → AllocTold Outcome.NoTable 1 spoilt bytes
 unfolding size_of rest_of
 too_large_for_rows bytes large = (omega arith, λ table. large)

@@ -13,7 +13,6 @@ use Rattle.modules_c.proofs.HeapmemEdits.{block_found}
 pub some_and : {X : Type 0} (o : Option X) (x : X) (P : X → Type 0) → o ≡ Some x → P x → IsSomeAnd o P
 some_and o x P e p = subst (λ q. IsSomeAnd q P) (sym e) p
 
--- the block that begins there
 pub found_at : (rows : List Row) (bytes : List ℕ) (i at : ℕ) → IsTable rows (length bytes) → i < length rows → (row_of rows i).place ≡ at
     → find_block at (heap_of rows bytes) ≡ Some (block_told bytes (row_of rows i))
 found_at rows bytes i at lie below there = grind (arith, block_found bytes rows (length bytes) i lie below)
@@ -30,7 +29,7 @@ module _ (block : Block) (n : ℕ) (heap : HeapStore) where
       → new_place (place_of block) n heap ≡ found
   new_elsewhere found e f = ap (λ (o : Option ℕ). option_or (option_map at_room o) (place n heap)) (sym e) ∙ sym f
 
--- where it has no room where it is, and none elsewhere
+-- no room in place, and none elsewhere
 pub resize_refused : (outcome : Outcome) (rows : List Row) (bytes : List ℕ) (at n : ℕ) (block : Block)
     → find_block at (heap_of rows bytes) ≡ Some block
     → None ≡ room_in_place (place_of block) n (heap_of rows bytes) → HasNoPlace outcome n rows (length bytes)

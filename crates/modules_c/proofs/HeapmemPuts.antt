@@ -11,14 +11,13 @@ use Rattle.modules_c.proofs.HeapmemEdits.{told_with, told_without, free_inside, 
 
 module _ (rows : List Row) where
   module _ (bytes : List ℕ) where
-    -- a row goes
     pub gone_is : (capacity i : ℕ) → IsTable rows capacity → i < length rows
         → heap_of (without_row i rows) bytes ≡ without_block (row_of rows i).place (heap_of rows bytes)
     gone_is capacity i lie below = grind (arith, told_without bytes rows capacity i lie below)
 
     module _ (row : Row) where
       module _ (ws : List ℕ) where
-        -- bytes that are written where nothing is, and a row for them
+        -- bytes written to free memory, and a row for them
         pub put_is : length ws ≡ size_of row
             → IsTable rows (length bytes) → IsFree 0 rows (length bytes) row.place (room_of row)
             → let block : Block = record { name = row.place; at = row.place; room = room_of row; bytes = ws } in

@@ -1,4 +1,4 @@
--- What a block becomes that is resized, where it is or elsewhere.
+-- A resized block, in place or elsewhere.
 use Rattle.std.proofs.Common.{◌≡◌, ◌≢◌, ℕ, zero, suc, ◌+◌, ◌-◌, ◌≤◌, ◌<◌, ◌⊎◌, inl, inr, List, [], ◌∷◌, ◌++◌, length, map, fold, take, slice_set, Option, Some, None, refl, sym, ap, ◌∙◌, subst, arith}
 use Rattle.std.specs.Prelude.{find, ◌==◌, nat_le, if◌then◌else◌}
 use Rattle.std.specs.Option.{option_map_or}
@@ -31,7 +31,7 @@ written_behind bytes at xs ys behind e fits =
     let size : length (take at bytes ++ xs) ≡ behind = grind (arith, length-append) in
     grind (arith, written_is, append_assoc, drop-drop, drop_at, take_at)
 
--- a block's row is its new one instead of the old one
+-- a block's row is replaced
 pub set_is : (rows : List Row) (capacity i : ℕ) (row : Row) → IsTable rows capacity → i < length rows → row.place ≡ (row_of rows i).place
     → slice_set rows i row ≡ with_row row (without_row i rows)
 set_is rows capacity i row lie below e = let a = among 0 rows capacity i lie below in let old = row_of rows i in
@@ -43,7 +43,6 @@ set_is rows capacity i row lie below e = let a = among 0 rows capacity i lie bel
           (omega arith),
     )
 
--- what is free stays so where a block is removed
 without_either : (xs ys : List Row) (i : ℕ)
     → (without_row i (xs ++ ys) ≡ without_row i xs ++ ys) ⊎ ((j : ℕ) × (without_row i (xs ++ ys) ≡ xs ++ without_row j ys))
 without_either [] ys i = inr (i, refl)
@@ -66,7 +65,7 @@ free_without rows capacity at len i lie free =
           (first_between (at + len) (without_row late.0 b.behind) capacity (lie_without (at + len) b.behind capacity late.0 b.back)).0)
     ]
 
--- a block's own range is free without it, up to the next block
+-- a block's range is free without it, up to the next block
 pub own_free : (rows : List Row) (capacity i len : ℕ) → IsTable rows capacity → i < length rows
     → (row_of rows i).place + len ≤ next_place i rows capacity
     → IsFree 0 (without_row i rows) capacity (row_of rows i).place len
@@ -105,7 +104,6 @@ module _ (bytes : List ℕ) where
   other_gap : (at from to : ℕ) (gaps : List Gap) → from ≢ at → len_at at (gap_between from to gaps) ≡ len_at at gaps
   other_gap at from to gaps ne = grind arith
 
-  -- no gap begins there
   none_there : (from : ℕ) (rows : List Row) (capacity at : ℕ) → LieFrom from rows capacity → at < from
       → len_at at (gaps_behind from rows) ≡ 0
   none_there from [] capacity at lie less = refl
@@ -119,7 +117,7 @@ module _ (bytes : List ℕ) where
   gaps_passed from (x ∷ xs) row ys at lie less =
       grind (arith, gaps_passed (x.place + room_of x) xs row ys at lie.2 less, lie_le (x.place + room_of x) xs row.place lie.2)
 
--- the room that a block has that is resized where it is
+-- the room of a block that is resized in place
 module _ (rows : List Row) (bytes : List ℕ) (i n : ℕ) (lie : IsTable rows (length bytes)) (below : i < length rows) where
   abbrev here : Row
   here = row_of rows i

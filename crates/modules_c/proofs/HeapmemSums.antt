@@ -27,7 +27,6 @@ module _ (bytes : List ℕ) where
       let later = in_order (row.place + room_of row) rows capacity lie.2 in
       let few : length (range_of row.place (size_of row) bytes) ≤ room_of row = omega (arith, length-take {A = ℕ}) in grind arith
 
-  -- what the blocks take and what they leave below the last one's end
   pub all_is : (from : ℕ) (rows : List Row) (capacity : ℕ) → LieFrom from rows capacity
       → (ended from rows ≤ capacity) × (from + (gap_total from rows + room_total rows) ≡ ended from rows)
   all_is from rows capacity lie =
@@ -36,7 +35,6 @@ module _ (bytes : List ℕ) where
   pub ended_above : (from : ℕ) (rows : List Row) (capacity : ℕ) → LieFrom from rows capacity → from ≤ ended from rows
   ended_above from rows capacity lie = omega (arith, (all_is from rows capacity lie).1)
 
-  -- the gap before a row is first
   gap_first : (from : ℕ) (row : Row) (rows : List Row) (capacity : ℕ) → LieFrom from (row ∷ rows) capacity
       → gap_total from (row ∷ rows) ≡ row.place - from + gap_total (row.place + room_of row) rows
   gap_first from row rows capacity lie =
@@ -52,7 +50,7 @@ module _ (bytes : List ℕ) where
 
 module _ (rows : List Row) where
   module _ (capacity : ℕ) where
-    -- on a walk over the rows n bytes were between them
+    -- after some rows n free bytes were counted
     pub record IsCounted (free from : ℕ) (left : List Row) : Type 0 where
       pub lie : LieFrom from left capacity
       pub small : free ≤ from
@@ -66,7 +64,6 @@ module _ (rows : List Row) where
         → IsCounted (free + (row.place - from)) (row.place + room_of row) left
     counted_more free from row left counted = grind (arith, gap_first)
 
--- what the blocks take is the rest
 pub taken_is : (rows : List Row) (bytes : List ℕ) (capacity free : ℕ) → IsTable rows capacity → length bytes ≡ capacity
     → free ≡ gap_total bytes 0 rows + (length bytes - footprint (heap_of rows bytes)) → capacity - free ≡ room_total bytes rows
 taken_is rows bytes capacity free lie size is = let all = all_is bytes 0 rows capacity lie in omega arith

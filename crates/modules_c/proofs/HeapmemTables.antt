@@ -1,4 +1,4 @@
--- What rows that are a table keep, and what is free between them.
+-- Rows that are a table, and the free memory between them.
 use Rattle.std.proofs.Common.{◌≡◌, ℕ, zero, suc, ◌+◌, ◌≤◌, ◌<◌, inl, inr, List, [], ◌∷◌, ◌++◌, length, slice_index_or, refl, ap, arith}
 use Rattle.std.specs.List.Sorted.{IsNonDecreasingBy}
 use Rattle.heap_core.specs.HeapStore.{least_room, room_taken}
@@ -19,13 +19,11 @@ pub lie_append : (from mid : ℕ) (xs ys : List Row) (capacity : ℕ) → LieFro
 lie_append from mid [] ys capacity h k = lie_lower mid from ys capacity h k
 lie_append from mid (row ∷ xs) ys capacity h k = (h.0, h.1, lie_append (row.place + room_of row) mid xs ys capacity h.2 k)
 
--- a row goes
 pub lie_without : (from : ℕ) (rows : List Row) (capacity i : ℕ) → LieFrom from rows capacity → LieFrom from (without_row i rows) capacity
 lie_without from [] capacity i lie = lie
 lie_without from (row ∷ rows) capacity zero lie = grind (arith, lie_lower)
 lie_without from (row ∷ rows) capacity (suc i) lie = (lie.0, lie.1, lie_without (row.place + room_of row) rows capacity i lie.2)
 
--- the positions ascend
 above : (from : ℕ) (rows : List Row) (capacity j : ℕ) (d : Row) → LieFrom from rows capacity → j < length rows
     → from ≤ (slice_index_or rows j d).place
 above from [] capacity j d lie l = absurd (omega arith)
@@ -52,7 +50,7 @@ pub first_between : (from : ℕ) (rows : List Row) (capacity : ℕ) → LieFrom 
 first_between from [] capacity lie = (lie, omega arith)
 first_between from (row ∷ rows) capacity lie = (lie.0, omega (arith, lie_le (row.place + room_of row) rows capacity lie.2))
 
--- a row by its number: the others are below its position, and from its end on
+-- a row by its number: the others end before it, or begin after it
 pub record Among (from : ℕ) (rows : List Row) (capacity i : ℕ) : Type 0 where
   pub before : List Row
   pub behind : List Row
@@ -91,7 +89,7 @@ among from (row ∷ rows) capacity (suc i) lie below =
       next = let e : suc i + 1 ≡ suc (i + 1) = omega arith in let next = a.next in grind arith;
     }
 
--- its room ends where the next one begins, or below
+-- its room ends before the next one begins
 pub row_lies : (rows : List Row) (capacity i : ℕ) → IsTable rows capacity → i < length rows
     → ((row_of rows i).place + room_of (row_of rows i) ≤ next_place i rows capacity) × (next_place i rows capacity ≤ capacity)
 row_lies rows capacity i lie below =
@@ -99,7 +97,7 @@ row_lies rows capacity i lie below =
     let first = first_between ((row_of rows i).place + room_of (row_of rows i)) a.behind capacity a.rest.2 in
     (omega arith, omega arith)
 
--- bytes that are free: the rows are below them, and from their end on
+-- free bytes: the rows are before or after them
 pub record Between (from : ℕ) (rows : List Row) (capacity at len : ℕ) : Type 0 where
   pub before : List Row
   pub behind : List Row
@@ -121,7 +119,6 @@ free_between from [] [] capacity at len lie le = (lie, le)
 free_between from [] (row ∷ ys) capacity at len lie le = inl (lie, le)
 free_between from (row ∷ xs) ys capacity at len lie le = inr (free_between (row.place + room_of row) xs ys capacity at len lie.2 le)
 
--- a row is put between
 pub with_row_between : (from : ℕ) (xs ys : List Row) (low capacity : ℕ) (row : Row) → LieFrom from xs row.place → LieFrom low ys capacity
     → row.place < low → with_row row (xs ++ ys) ≡ xs ++ (row ∷ ys)
 with_row_between from [] [] low capacity row h k less = refl
@@ -142,7 +139,7 @@ free_shorter from (row ∷ rows) capacity at len fewer le (inl here) = inl (here
 free_shorter from (row ∷ rows) capacity at len fewer le (inr later) =
     inr (free_shorter (row.place + room_of row) rows capacity at len fewer le later)
 
--- what a block takes of a gap is enough, no more than the gap, and no more than 16 above what is enough
+-- what a block takes of a gap is enough, at most the gap, and at most 16 more than enough
 pub taken_between : (least most : ℕ) → least ≤ most
     → (least ≤ room_taken least most) × (room_taken least most ≤ most) × (room_taken least most ≤ least + 16)
 taken_between least most le = grind arith

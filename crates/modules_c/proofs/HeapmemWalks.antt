@@ -1,4 +1,4 @@
--- What holds on a walk over the rows, from the lowest on.
+-- A walk over the rows, from the lowest on.
 use Rattle.std.proofs.Common.{◌≡◌, ℕ, ◌+◌, ◌-◌, ◌≤◌, ◌<◌, ◌⊎◌, List, ◌∷◌, map, fold, Option, Some, IfSome, arith}
 use Rattle.std.specs.Option.{option_map}
 use Rattle.heap_core.specs.HeapStore.{better, best_gap, gaps, gaps_from, end_of, footprint}
@@ -8,7 +8,7 @@ use Rattle.modules_c.specs.Heapmem.Heaps.{block_told, heap_of, room_of, LieFrom}
 use Rattle.modules_c.specs.Code.HeapmemRows.{gap_of, IsFree}
 
 module _ (rows : List Row) where
-  -- these rows are left, from this position on, and this is the best gap so far
+  -- the rows left, the position, and the best gap so far
   pub record IsMidway (capacity need : ℕ) (best : Option Hole) (from : ℕ) (left : List Row) : Type 0 where
     pub lie : LieFrom from left capacity
     pub best_is : (bytes : List ℕ) → fold (better need) (option_map gap_of best) (gaps_from 0 from (map (block_told bytes) left))
@@ -26,7 +26,6 @@ module _ (rows : List Row) (capacity need : ℕ) (best : Option Hole) (from : �
     abbrev hole : Hole
     hole = record { at = from; len = row.place - from }
 
-    -- a gap does
     pub midway_gap : option_map gap_of new ≡ better need (option_map gap_of best) (gap_of hole) → (new ≡ best)
         ⊎ ((new ≡ Some hole) × (need ≤ hole.len)) → IsMidway rows capacity need new end left
     midway_gap is chosen = grind arith

@@ -1,4 +1,4 @@
--- The pool of some flags, and pools that are not.
+-- The pool of some flags, and malformed pools.
 use Rattle.std.proofs.Common.{◌≡◌, true, false, [], ◌∷◌, ap, sym, refl}
 use Rattle.std.specs.Prelude.{Some, None}
 use Rattle.std.proofs.lemmas.Bool.{false≢true}
@@ -25,7 +25,6 @@ no_such_block = refl
 none_used : flagged 2 (λ b. b ∷ b ∷ []) (false ∷ false ∷ []) ≡ unused_pool 2 2
 none_used = refl
 
--- a flag that is true is no unused block's
 used_is_not_unused : flagged 2 (λ b. b ∷ b ∷ []) (false ∷ true ∷ []) ≡ unused_pool 2 2 → ⊥
 used_is_not_unused e = absurd (used (ap (is_live 1) e))
   where

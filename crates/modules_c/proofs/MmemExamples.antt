@@ -1,4 +1,4 @@
--- Tables and what they stand for, tables that are none, and results.
+-- Examples: tables and what they stand for, malformed tables, results.
 use Rattle.std.proofs.Common.{◌≡◌, ℕ, zero, suc, inl, inr, List, [], ◌∷◌, true, false, refl, ap, arith}
 use Rattle.std.specs.Prelude.{Some, None, map, ◌<◌, ◌≤◌}
 use Rattle.mmem_core.specs.ManagedStore.{ManagedStore}
@@ -13,7 +13,7 @@ use Rattle.modules_c.proofs.MmemRows.{table_from}
 abbrev block_row : ℕ → ℕ → Block
 block_row place size = record { place = place; size = size }
 
--- handle 0 has 3 bytes from 4 on, handle 1 none, handle 2 two from 0 on
+-- handle 0: 3 bytes from 4 on; handle 1: none; handle 2: two from 0 on
 abbrev table : List Block
 table = block_row 4 3 ∷ block_row 9 0 ∷ block_row 0 2 ∷ []
 
@@ -72,7 +72,7 @@ sharing_bytes sound = elim
       | inr behind ↦ omega (arith, behind)
     ]
 
--- a block with 3 bytes from 0 on ends after a block's front at 2, and before one at 4
+-- a block with 3 bytes from 0 on overlaps one at 2, not one at 4
 reaches_into : EndsBefore (block_row 0 3) (block_row 2 1) → ⊥
 reaches_into ends = grind arith
 
@@ -88,7 +88,7 @@ not_sound sound = grind arith
 outside_is_not_sound : AreSound (block_row 4 5 ∷ []) 8 1 → ⊥
 outside_is_not_sound sound = grind arith
 
--- of the blocks at 4 and 0 that at 0 is the next one from 0 on, and there is none from 5 on
+-- from 0 on, the block at 0 is next; from 5 on there is none
 the_higher_one_is_not_next : IsNext table 0 3 (Some 0) → ⊥
 the_higher_one_is_not_next next = grind arith
 
@@ -104,7 +104,6 @@ one_of_the_others_is_not_next next = omega (arith, next.0)
 none_is_left : IsNext table 0 3 None → ⊥
 none_is_left next = grind arith
 
--- a block that slid from 4 to 0, and one that rose
 one_lower : LieNoHigher (block_row 4 3 ∷ []) (block_row 0 3 ∷ [])
 one_lower zero old new was is = omega (arith, ap at_of was, ap at_of is)
 one_lower (suc i) old new was is = absurd (let none : None ≡ Some old = was in cc)
@@ -120,8 +119,8 @@ changed_places keep = omega (
       (record { at = 0; len = 3 }) refl refl refl refl (omega arith),
 )
 
--- A block of 4 bytes is added to a table of two blocks of 4 in 16 bytes, the second of which ends there: both slide down, and the new
--- one is put after them. Where the first stays, 4 bytes are lost to the hole.
+-- A block of 4 bytes is added to two blocks of 4 in 16 bytes, the second at the end: both slide down, and the new one is after
+-- them. If the first stays, the hole takes 4 bytes.
 abbrev rows : ℕ → ℕ → ℕ → List Block
 rows first second third = block_row first 4 ∷ block_row second 4 ∷ block_row third 4 ∷ []
 

@@ -1,4 +1,4 @@
--- What holds of the table and of the buffer while blocks slide together.
+-- The table and the buffer while blocks slide together.
 use Rattle.mmem_core.proofs.Words.{◌≡◌, ℕ, ◌+◌, ◌≤◌, ◌<◌, List, length, map, slice_set, slice_range, set-get_or, sum_by, Some, None, sym, ap, ◌∙◌, subst, arith, up4, written, place_in, last_end, at_of, room_of}
 use Rattle.mmem_core.specs.declared.place.Place.{Place}
 use Rattle.arena_core.proofs.Ranges.{length-range, length-written}

@@ -1,4 +1,4 @@
--- What the rows of a table say of the positions, and what the positions say of the rows.
+-- What a table's rows say of the positions, and the positions of the rows.
 use Rattle.mmem_core.proofs.Words.{◌≡◌, ◌≢◌, ℕ, ◌+◌, ◌≤◌, ◌<◌, ◌⊎◌, inl, inr, List, length, Option, Some, None, ap, arith, cases_eq, cases_lt, up4, number_of, place_in, at_of, room_of, LieApart}
 use Rattle.mmem_core.specs.declared.place.Place.{Place}
 use Rattle.std.proofs.Math.ListN.{get_or-map}
@@ -9,7 +9,6 @@ use Rattle.modules_c.specs.declared.mmem.block.Block.{Block}
 use Rattle.modules_c.specs.Mmem.Stored.{place_told, places_told, IsTable, process_of, handle_of}
 use Rattle.modules_c.specs.Code.MmemRows.{row_of, EndsBefore, AreSound}
 
--- a handle's name has the handle for its number
 pub number_is : (handle : ℕ) → number_of (process_of handle) (handle_of handle) ≡ handle
 number_is handle = omega arith
 
@@ -40,7 +39,6 @@ module _ (table : List Block) where
       | inr past ↦ absurd (grind (arith, get_or_past table i (record { place = 0; size = 0 }) past))
     ]
 
-    -- a row with a block has a position, and one without has none
     pub live_is : 0 < (row_of table i).size
         → place_in (places_told table) i ≡ placed (row_of table i).place (row_of table i).size
     live_is some = grind (arith, place_in-told)
@@ -48,7 +46,7 @@ module _ (table : List Block) where
     pub unused_is : (row_of table i).size ≡ 0 → place_in (places_told table) i ≡ None
     unused_is none = grind (arith, place_in-told)
 
--- what mmem_core's lemmas require of the positions of a table, and what follows
+-- what mmem_core's lemmas require of a table's positions, and what follows
 module _ (table : List Block) (capacity : ℕ) where
   abbrev xs : List (Option Place)
   xs = places_told table
@@ -86,7 +84,7 @@ module _ (table : List Block) where
           → (row_of table i).place + up4 (row_of table i).size ≤ capacity
       row_inside sound some = omega (arith, at_is table i some, room_is table i, (table_lies table capacity sound).inside i)
 
-      -- a block whose row has a position outside ends after n bytes
+      -- a block with a position outside ends after n bytes
       pub row_outside : (place : Place) → 0 < (row_of table i).size
           → capacity < (row_of table i).place + up4 (row_of table i).size → place_in (places_told table) i ≡ Some place
           → capacity < place.at + up4 place.len

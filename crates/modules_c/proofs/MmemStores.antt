@@ -1,4 +1,4 @@
--- What a table and a buffer stand for, before and after each kind of change.
+-- What a table and a buffer stand for, before and after each change.
 use Rattle.mmem_core.proofs.Words.{◌≡◌, ◌≢◌, ℕ, zero, suc, ◌+◌, true, false, IsSomeAnd, option_map, length-range, ◌-◌, ◌≤◌, ◌<◌, inl, inr, List, ◌∷◌, length, map, get_or, replicate, slice_set, sum_by, Option, Some, None, refl, sym, ap, ◌∙◌, arith, cases_eq, get_or-set_same, get_or-set_other, map-set, length-replicate, length-map, subst, up4, zeros, written, ManagedStore, block_of, unused, allocated, freed, place_in, last_end, at_of, room_of, LieApart}
 use Rattle.std.specs.Prelude.{is_some}
 use Rattle.std.proofs.lemmas.Bool.{false≢true}
@@ -14,14 +14,12 @@ use Rattle.modules_c.specs.Mmem.Answers.{is_live}
 use Rattle.modules_c.specs.Code.MmemRows.{row_of, LiesBehind}
 use Rattle.modules_c.proofs.MmemRows.{table_lies, table_of, number_is, told_some, live_is, unused_is}
 
--- two stores of one capacity with the same blocks
 pub same_store : (size size' : ℕ) (blocks blocks' : List (Option (List ℕ))) → size ≡ size' → blocks ≡ blocks'
     → let one : ManagedStore = record { capacity = size; quota = None; blocks = blocks } in let other : ManagedStore =
     record { capacity = size'; quota = None; blocks = blocks' } in one ≡ other
 same_store size size' blocks blocks' e f = cc
 
 module _ (table : List Block) where
-  -- a table of which one row changed
   pub told-set : (i : ℕ) (row : Block)
       → places_told (slice_set table i row) ≡ slice_set (places_told table) i (place_told row)
   told-set i row = map-set place_told table i row
@@ -32,7 +30,7 @@ module _ (table : List Block) where
     block_is handle = ap (λ i. get_or (stored table buffer).blocks i None) (number_is handle)
         ∙ get_or-blocks buffer (places_told table) handle
 
-    -- what is free: what the positions leave
+    -- the free bytes are those that the positions leave
     pub unused_left : IsTable table (length buffer)
         → unused (stored table buffer) ≡ length buffer - sum_by room_of (places_told table)
     unused_left sound =
@@ -89,7 +87,6 @@ map-replicate f (suc n) x = ap (λ l. f x ∷ l) (map-replicate f n x)
 abbrev no_row : Block
 no_row = record { place = 0; size = 0 }
 
--- whether a handle has a block
 pub live_some : (table : List Block) (buffer : List ℕ) (i : ℕ) → 0 < (row_of table i).size → is_live i (stored table buffer) ≡ true
 live_some table buffer i some = ap is_some (block_is table buffer i ∙ ap (block_in buffer) (live_is table i some))
 
@@ -99,13 +96,13 @@ table_freed {table = table} {capacity = capacity} i sound below = table_of (slic
     (subst (λ places. LieApart places capacity) (sym (told-set table i no_row))
     (LieApart-freed (places_told table) capacity i (omega (arith, length-map table place_told)) (table_lies table capacity sound)))
 
--- where blocks moved down, and a handle that had none got one, none is higher
+-- if blocks moved down, and an unused handle got one, none is higher
 pub no_higher : (old now : List Block) (i : ℕ) (row : Block) → (row_of old i).size ≡ 0
     → ((j : ℕ) → at_of (place_in (places_told now) j) ≤ at_of (place_in (places_told old) j)) → LieNoHigher old (slice_set now i row)
 no_higher old now i row none down j before after e f =
     grind (arith, unused_is old i none, told-set, get_or-set_other)
 
--- nor do they change their order
+-- the order is unchanged
 pub same_order : (old now : List Block) (i : ℕ) (row : Block) → (row_of old i).size ≡ 0
     → ((j : ℕ) → place_in (places_told old) j ≢ None → 0 < room_of (place_in (places_told old) j))
     → ((j k : ℕ) → 0 < room_of (place_in (places_told old) j) → at_of (place_in (places_told old) j) < at_of (place_in (places_told old) k)
@@ -118,7 +115,6 @@ module _ (table : List Block) where
   pub live_none : (buffer : List ℕ) (i : ℕ) → (row_of table i).size ≡ 0 → is_live i (stored table buffer) ≡ false
   live_none buffer i none = ap is_some (block_is table buffer i ∙ ap (block_in buffer) (unused_is table i none))
 
-  -- a handle without a block has none in any table that stands for the same
   pub still_unused : (table' : List Block) (buffer buffer' : List ℕ) (i : ℕ) → stored table' buffer' ≡ stored table buffer
       → (row_of table i).size ≡ 0 → (row_of table' i).size ≡ 0
   still_unused table' buffer buffer' i same none = elim (cases_eq (row_of table' i).size 0) [
@@ -128,7 +124,6 @@ module _ (table : List Block) where
 
   module _ (buffer : List ℕ) where
     module _ (i : ℕ) where
-      -- a block is freed
       pub store_freed : stored (slice_set table i no_row) buffer ≡ freed (process_of i) (handle_of i) (stored table buffer)
       store_freed =
           same_store _ _ _ _ refl
@@ -136,7 +131,6 @@ module _ (table : List Block) where
           ∙ map-set (block_in buffer) (places_told table) i None
           ∙ ap (λ k. slice_set (stored table buffer).blocks k None) (sym (number_is i)))
 
-      -- a block that is in the buffer is read from there
       pub block_read : (capacity : ℕ) → 0 < (row_of table i).size
           → (row_of table i).place + up4 (row_of table i).size ≤ capacity → length buffer ≡ capacity
           → IsSomeAnd (length_of (process_of i) (handle_of i) (stored table buffer)) (λ len. ((row_of table i).place + len ≤ capacity)
@@ -154,7 +148,6 @@ module _ (table : List Block) where
           → block_of (process_of i) (handle_of i) (stored table buffer) ≡ None
       no_block none = block_is table buffer i ∙ ap (block_in buffer) (unused_is table i none)
 
-      -- a new block takes its rounded size of what is free
       pub unused_after : (size : ℕ) → i < length table → (row_of table i).size ≡ 0
           → unused (allocated (process_of i) (handle_of i) size (stored table buffer)) ≡ unused (stored table buffer) - up4 size
       unused_after size below none =
@@ -166,7 +159,6 @@ module _ (table : List Block) where
           )
 
 module _ (count : ℕ) where
-  -- a table of such rows
   told_unused : places_told (replicate count no_row) ≡ replicate count None
   told_unused = map-replicate place_told count no_row
 

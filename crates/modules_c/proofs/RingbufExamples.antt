@@ -1,4 +1,4 @@
--- Rings and the queues that they stand for, and rings that are none.
+-- Rings and the queues that they stand for, and malformed rings.
 use Rattle.std.proofs.Common.{◌≡◌, ℕ, List, [], ◌∷◌, replicate, refl, arith}
 use Rattle.modules_c.specs.Ringbuf.Queues.{IsRing, queued, room}
 

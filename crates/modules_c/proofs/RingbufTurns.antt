@@ -11,7 +11,7 @@ module _ (xs : List ℕ) (put get : ℕ) where
   pub around : put < get → queued xs put get ≡ drop get xs ++ take put xs
   around lt = ap (λ b. if b then take (put - get) (drop get xs) else drop get xs ++ take put xs) (lt-leb get put lt)
 
--- a byte was put at the end of these
+-- a byte was put at their end
 at_end : (xs : List ℕ) (put get byte : ℕ) → put < length xs → get ≤ put
     → take (put - get + 1) (drop get (set xs put byte)) ≡ take (put - get) (drop get xs) ++ (byte ∷ [])
 at_end xs put get byte inside le =

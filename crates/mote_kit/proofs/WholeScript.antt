@@ -1,4 +1,4 @@
--- Where nothing was read and where all was: parts of runs that are runs of a whole script.
+-- If nothing was read, or all was: parts of runs that are runs of a whole script.
 use Rattle.std.proofs.Common.{◌≡◌, ◌++◌, ◌∙◌, ℕ, Bool, true, List, [], length, take, drop, ap, sym, arith}
 use Rattle.std.specs.Prelude.{Ok}
 use Rattle.std.proofs.lemmas.List.{length-drop, nil_from_length, take-append-drop}
@@ -7,7 +7,7 @@ use Rattle.mote_text.specs.declared.script.End.{End}
 use Rattle.kernel_core.specs.declared.config.Config.{Config}
 use Rattle.mote_run.specs.RunText.{Exchanged, HasRunTo, IsRunText}
 
--- where a result says how a run ended, that is a run of the whole script: after its end it has nothing more
+-- a run that ended is a run of the whole script
 pub text_of_script : {Fault : Type 0} {failed : Fault} {config : Config} {says : Applications} {quiet : Bool}
     (script text : List ℕ) (place : ℕ) {taken_old given_old given_new : List ℕ} {is_ended : Bool} {end : End} →
     Exchanged taken_old (take place text) is_ended given_old given_new (HasRunTo config says quiet failed (Ok end)) →

@@ -1,4 +1,4 @@
--- Strings of data, lines, titles and statuses at small values.
+-- Examples: strings of data, lines, titles and statuses.
 use Rattle.std.proofs.Common.{◌≡◌, List, ◌∷◌, [], length, true, false, Some, codes, refl, arith}
 use Rattle.clap.specs.Walk.{Row}
 use Rattle.command_line.specs.CommandLine.{names_of}
@@ -21,14 +21,14 @@ quoted = refl
 control : json_string (7 ∷ []) ≡ codes "\"\\ufffd\""
 control = refl
 
--- JSON of numbers ends nothing, and a tag may
+-- JSON of numbers ends nothing; a tag may
 numbers : has_no_opening (codes "[1,null]") ≡ true
 numbers = refl
 
 tag : has_no_opening (codes "[</script>") ≡ false
 tag = refl
 
--- of a line that is none of a transcript, of clocks that go back, and what other programs have, too
+-- an invalid line, clocks that go back, and statuses of other programs
 no_line : status_of (Undrawn.NoLine 3) ≡ 2
 no_line = refl
 
@@ -41,7 +41,7 @@ no_sizes = refl
 sizes_told : text_of (Undrawn.Program Failure.BadSizes) ≡ Some (codes "bad sizes")
 sizes_told = refl
 
--- the last line may have an end or not, and an empty line is one
+-- the last line may have no end, and may be empty
 lines : parts_of (codes "halt\n\ntoo") ≡ codes "halt" ∷ [] ∷ codes "too" ∷ []
 lines = refl
 
@@ -54,7 +54,7 @@ no_lines = (refl, refl)
 title : title_of (codes "mote_picture" ∷ codes "--page" ∷ codes "relay" ∷ []) ≡ codes "mote relay"
 title = refl
 
--- what is told of the words only where it holds
+-- facts on the words, reported only if they hold
 module _ (rows : List Row) where
   sixteen : length (names_of rows) ≡ 16 → MayTell rows (Undrawn.Program Failure.TooManyApplications) → ⊥
   sixteen is many = omega (arith, is, many)

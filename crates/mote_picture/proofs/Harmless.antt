@@ -1,4 +1,4 @@
--- Texts in which no `<` stands.
+-- Texts without `<`.
 use Rattle.std.proofs.Common.{◌≡◌, ◌+◌, ◌%◌, ◌^◌, ◌<◌, ℕ, Bool, true, false, not, List, [], ◌∷◌, ◌++◌, flat_map, codes, decimal, if◌then◌else◌, ◌==◌, nat_lt, refl, sym, subst, arith}
 use Rattle.std.proofs.lemmas.List.Folds.{list_all-append}
 use Rattle.std.proofs.lemmas.List.Concat.{flat_map-cons}
@@ -6,18 +6,16 @@ use Rattle.std.proofs.lemmas.Bool.Decides.{nat_tests}
 use Rattle.std.proofs.lemmas.Fmt.{decimal_by_steps}
 use Rattle.mote_picture.specs.Data.{IsHarmless, has_no_opening, string_byte, string_bytes_of, json_string}
 
--- one behind the other
 pub harmless-append : (first second : List ℕ) → IsHarmless first → IsHarmless second → IsHarmless (first ++ second)
 harmless-append first second f s =
     record { no_opening = rw (list_all-append (λ (byte : ℕ). not (byte == 60)) first second, f.no_opening, s.no_opening) refl }
 
--- what was appended, or refused
+-- appended, or refused
 pub grown : (old more new : List ℕ) (done : Bool) → new ≡ (if done then old ++ more else old) → IsHarmless old → IsHarmless more
     → IsHarmless new
 grown old more new true e o m = subst IsHarmless (sym e) (harmless-append old more o m)
 grown old more new false e o m = subst IsHarmless (sym e) o
 
--- a number
 digit : (n : ℕ) → n < 10 → IsHarmless ((48 + n) ∷ [])
 digit n small = let other : (48 + n == 60) ≡ false = grind (arith, nat_tests) in record { no_opening = rw other refl }
 

@@ -1,4 +1,4 @@
--- What boxed applications say, by the list of what each one says.
+-- Boxed applications say what the applications inside say.
 use Rattle.std.proofs.Common.{◌≡◌, ◌∙◌, ◌-◌, ◌++◌, ℕ, zero, suc, refl, sym, ap, List, ◌∷◌, map, length, nat_lt, if◌then◌else◌, []}
 use Rattle.std.proofs.Math.Path.{fun_ext}
 use Rattle.std.proofs.lemmas.List.{append_assoc, append-nil, length-map, map-append}
@@ -20,7 +20,7 @@ says_of_listed says xs = fun_ext
     (λ p. fun_ext (λ l. ap (λ call. if nat_lt p 4 then Call.Wait else call) (nth_says_listed says xs (p - 4) l)))
 
 module _ {B A : Type 0} (says : B → Says) (others : A → Says) where
-  -- a box for each application so far, which says what that one says, and the others are still to come
+  -- each application so far has a box that says what it says; the rest follows
   abbrev pub AreBoxed : List B → List A → List A → List A → Type 0
   AreBoxed boxes yielded rest all = (map says boxes ≡ map others yielded) × (yielded ++ rest ≡ all)
 
@@ -33,7 +33,6 @@ module _ {B A : Type 0} (says : B → Says) (others : A → Says) where
     rw (append_assoc yielded (application ∷ []) later, ← next) boxed.1,
   )
 
-  -- all are boxed
   pub record Boxes (lent : List B) (all : List A) : Type 0 where
     pub same : says_of says lent ≡ says_of others all
     pub as_many : length lent ≡ length all

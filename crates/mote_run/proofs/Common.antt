@@ -1,4 +1,4 @@
--- The names that most proofs here cite, passed on from one place. Declares nothing.
+-- Re-exports the names that most proofs here cite.
 pub use Rattle.kernel_core.specs.Code.Steps.{GoesOn, Silently, entry_of, made}
 pub use Rattle.kernel_core.specs.Inputs.{fed}
 pub use Rattle.kernel_core.specs.Machine.{Machine, booted, is_bootable}

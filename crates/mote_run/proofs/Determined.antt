@@ -1,4 +1,4 @@
--- There is one text of a script, and one end.
+-- A script has one text and one end.
 use Rattle.std.proofs.Common.{◌≡◌, ℕ, Bool, List, ap, sym, ◌∙◌}
 use Rattle.mote_run.proofs.Common.{Applications, End, inputs, end_of, text, Config, IsRunText, at_start}
 use Rattle.kernel_core.proofs.Determined.{runs_one}

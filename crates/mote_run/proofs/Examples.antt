@@ -1,14 +1,13 @@
--- Worked examples: what counts as read, and a run on a script that was read to its end.
+-- Worked examples: what counts as read, and a run on a whole script.
 use Rattle.std.proofs.Common.{◌≡◌, ℕ, Bool, true, false, List, ◌∷◌, ◌++◌, codes, length, Result, Ok, Err, refl, sym, ap, subst, append-nil, arith, []}
 use Rattle.mote_run.proofs.Common.{Applications, End, Config, Exchange, HasRead, HasRunTo, Input, IsRunText, OnWholeLines, ReadsNoFurther, RunPromise, RunFault, Running, Runs, at_start, inputs, is_halt, list_any, read_line}
 use Rattle.kernel_core.specs.Laws.RunLaws.{IsAnsweredAlike}
 use Rattle.kernel_core.specs.Laws.RunLaws.{BlocksAreOwn, EventsArriveInOrder, ProcessesAreIsolated, TimersAreKept}
 
--- two bytes, behind one that was read before
+-- two bytes, after one that was read before
 two_read : HasRead 2 (116 ∷ []) (116 ∷ 105 ∷ 99 ∷ [])
 two_read = record { bytes = 105 ∷ 99 ∷ []; taken = refl; size = refl }
 
--- of two bytes not one was read, nor three
 not_one_read : HasRead 1 (116 ∷ []) (116 ∷ 105 ∷ 99 ∷ []) → ⊥
 not_one_read read = let size = ap length read.taken in omega (arith, size, read.size)
 
@@ -25,7 +24,7 @@ module _ (config : Config) (says : Applications) where
   abbrev GoesOnAfter : List ℕ → Type 0
   GoesOnAfter read = OnWholeLines config says read (λ entries. list_any is_halt entries ≡ false)
 
-  -- the run doesn't go on after a malformed line
+  -- no run continues after a malformed line
   malformed : GoesOnAfter (codes "x\n") → ⊥
   unfolding read_line
   malformed on = no_end_of_another_kind (ap (λ (reading : List Input × End). reading.1) on.have_form)
@@ -38,7 +37,6 @@ module _ (config : Config) (says : Applications) where
   nothing_read_yet : ReadsNoFurther config says []
   nothing_read_yet = record { before = []; piece = []; parts = refl; size = omega arith; goes_on = λ some. absurd (some refl) }
 
--- all of a script was read
 abbrev all_of : List ℕ → List ℕ → Exchange
 all_of script out = record { read = script; is_ended = true; written = out }
 
@@ -46,7 +44,7 @@ module _ (config : Config) (says : Applications) (quiet : Bool) (script out : Li
   abbrev HasRunSo : Result End RunFault → Type 0
   HasRunSo answer = HasRunTo config says quiet RunFault.Read answer (all_of script out)
 
-  -- where the text of its run was written, that is a run
+  -- if the text of its run was written, that is a run
   whole_run : (end : End) → IsRunText config says quiet script out end → HasRunSo (Ok end)
   whole_run end run = record {
     text = λ more none.
@@ -56,12 +54,12 @@ module _ (config : Config) (says : Applications) (quiet : Bool) (script out : Li
     after_read_fault = λ failed. absurd (cc);
   }
 
-  -- and no other text is
+  -- and only that text is
   text_of_run : (end : End) → HasRunSo (Ok end) → IsRunText config says quiet script out end
   text_of_run end run =
       subst (λ (bytes : List ℕ). IsRunText config says quiet bytes out end) (append-nil script) (run.text [] (λ ended. refl))
 
-  -- where a device failed behind the end of a script, what was written begins its text
+  -- if a device fails after the end of a script, the output is a prefix of its text
   front_of_text : (whole : List ℕ) (end : End) (fault : RunFault)
       → HasRunSo (Err fault) → IsRunText config says quiet script whole end →
       (rest : List ℕ) × (whole ≡ out ++ rest)
@@ -69,7 +67,7 @@ module _ (config : Config) (says : Applications) (quiet : Bool) (script out : Li
       run.front [] (λ ended. refl) whole end
       (subst (λ (bytes : List ℕ). IsRunText config says quiet bytes whole end) (sym (append-nil script)) text)
 
-  -- where the promise of a run was kept on a script, the machine's run on it keeps each law
+  -- if the promise was kept, the machine's run on the script keeps each law
   keeps_each_law : (end : End)
       → RunPromise config says quiet (Ok end) (all_of script out) →
       (last : Running) × Runs says (at_start config) (inputs (script ++ [])).0 last × BlocksAreOwn last.entries

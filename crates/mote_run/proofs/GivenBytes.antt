@@ -1,23 +1,21 @@
--- A line that is read as a frame gives at least one byte, and one that is read as a tick a number below 2 ^ 32.
-use Rattle.std.proofs.Common.{◌≡◌, ℕ, Bool, true, false, List, length, refl, ap, sym, arith, Option, Some, None, ◌==◌, ◌||◌, slice_index, Result, Ok, Err, option_map, option_and_then, if◌then◌else◌, nat_lt, unwrap_or, codes, IfOk}
+-- A frame line has at least one byte, and a tick line a number below 2 ^ 32.
+use Rattle.std.proofs.Common.{◌≡◌, ℕ, Bool, true, false, List, length, refl, sym, arith, Option, Some, None, ◌==◌, ◌||◌, slice_index, Result, Ok, Err, option_map, option_and_then, if◌then◌else◌, nat_lt, codes, IfOk}
 use Rattle.std.specs.Option.{option_or}
 use Rattle.mote_run.proofs.Common.{Input, argument_of, read_behind, read_bytes, read_number, read_line, read_words, line_limit, Taken, BadLine, CanBeFed, ReadPart, said}
 use Rattle.std.proofs.lemmas.Bool.{and_parts}
-use Rattle.std.proofs.lemmas.Bool.Decides.{nat_tests}
 use Rattle.hex.proofs.HexLemmas.{decode_of-ok}
 
--- what a choice gives, one of the two gives
 one_of : {A P : Type 0} (a b : Option A) (x : A) → option_or a b ≡ Some x → (a ≡ Some x → P) → (b ≡ Some x → P) → P
 one_of (Some y) b x e first second = first e
 one_of None b x e first second = second e
 
 some_bytes : (most : ℕ) (digits bytes : List ℕ) → read_bytes most digits ≡ Some bytes → nat_lt 0 (length bytes) ≡ true
-some_bytes most digits bytes e = grind (arith, nat_tests, and_parts, decode_of-ok)
+some_bytes most digits bytes e = grind (arith, and_parts, decode_of-ok)
 
 framed : (given : Option (List ℕ)) (input : Input) → ((bytes : List ℕ) → given ≡ Some bytes → nat_lt 0 (length bytes) ≡ true)
     → option_map (λ bytes. Input.Frame (record { items = bytes })) given ≡ Some input → CanBeFed input
 framed None input some e = absurd (cc)
-framed (Some bytes) input some e = let here = some bytes refl in grind (arith, nat_tests)
+framed (Some bytes) input some e = let here = some bytes refl in grind arith
 
 frame_fits : (argument : Option (List ℕ)) (input : Input)
     → option_map (λ bytes. Input.Frame (record { items = bytes })) (option_and_then (read_bytes 127) argument) ≡ Some input → CanBeFed input
@@ -26,11 +24,11 @@ frame_fits (Some digits) input e = framed (read_bytes 127 digits) input (some_by
 
 module _ (argument : Option (List ℕ)) (input : Input) where
   tick_fits : option_map (λ n. Input.Tick n) (option_and_then read_number argument) ≡ Some input → CanBeFed input
-  tick_fits e = grind (arith, nat_tests)
+  tick_fits e = grind arith
 
   serial_fits : option_map (λ bytes. Input.Serial (record { items = bytes })) (option_and_then (read_bytes 256) argument) ≡ Some input
       → CanBeFed input
-  serial_fits e = grind (arith, nat_tests)
+  serial_fits e = grind arith
 
 module _ (line : List ℕ) where
   abbrev tick : Option Input
@@ -47,7 +45,7 @@ module _ (line : List ℕ) where
 
 words_give : (wide nothing : Bool) (words : Option Input) (input : Input)
     → (if wide then None else if nothing then Some None else option_map (λ x. Some x) words) ≡ Some (Some input) → words ≡ Some input
-words_give wide nothing words input e = grind (arith, nat_tests)
+words_give wide nothing words input e = grind arith
 
 pub input_can_be_fed : (line : List ℕ) (input : Input) → read_line line ≡ Some (Some input) → CanBeFed input
 unfolding read_line
@@ -58,10 +56,10 @@ input_can_be_fed line input e =
     (λ other. one_of (serial line) (frame line) input other (serial_fits (argument_of (codes "serial ") line) input)
     (frame_fits (argument_of (codes "frame ") line) input))
 
--- and so can the input of a line that a take ended
+-- also if a take ended the line
 said_can_be_fed : (last : Taken) (bytes : List ℕ) (input : Input) → said last bytes ≡ Some (Some input) → CanBeFed input
 said_can_be_fed Taken.Line bytes input says = input_can_be_fed bytes input says
-said_can_be_fed Taken.More bytes input says = absurd (let e : None ≡ Some input = ap (λ o. unwrap_or o None) says in cc)
+said_can_be_fed Taken.More bytes input says = absurd (cc)
 said_can_be_fed Taken.TooWide bytes input says = absurd (cc)
 
 pub part_can_be_fed : {line piece line_later : List ℕ} {used number number_later : ℕ} {input : Input} (says : Result Bool BadLine) →

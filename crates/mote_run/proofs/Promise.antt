@@ -13,7 +13,7 @@ pub boots_so : {kernel : Mote} {applications : ℕ} (config : Config) → WasBoo
 boots_so config was is = grind arith
 
 not_halted : (halted : Bool) → (if halted then End.Halted else End.Finished) ≡ End.Finished → halted ≡ false
-not_halted true is = absurd (cc)
+not_halted true is = cc
 not_halted false is = refl
 
 abbrev pub booting : List ℕ → Config → Applications → Place
@@ -35,13 +35,13 @@ module _ {config : Config} {says : Applications} {quiet : Bool} {read : List ℕ
   abbrev exchange : Exchange
   exchange = record { read = read; is_ended = is_ended; written = ran.out }
 
-  -- what follows from boot is the text of a run, behind what was written before
+  -- from boot on, the text of a run follows what was written before
   follows : (later : Reading) (last : Running) (whole : List ℕ) (end : End) → Runs says (at_start config) later.0 last
       → end ≡ end_of last.entries later.1 → whole ≡ text quiet last.entries end →
       Follows quiet (booting given_old config says) later (given_old ++ whole) end
   follows later last whole end runs ends is = grind arith
 
-  -- what was written begins it
+  -- the output is a prefix of it
   written_of : OfEachScript exchange (λ script. (whole : List ℕ) (end : End) → IsRunText config says quiet script whole end →
       (rest : List ℕ) × (whole ≡ ran.out ++ rest) × IfOk answer (λ answered. (rest ≡ []) × (answered ≡ end)))
   written_of more limits whole end run =
@@ -72,8 +72,8 @@ module _ {config : Config} {says : Applications} {quiet : Bool} {read : List ℕ
       let run = laws.exists says w.whole in
       let end : End = end_of run.0.entries End.Finished in
       let whole : List ℕ = text quiet run.0.entries end in
-      let all = w.all (given_old ++ whole) end (follows (w.whole, End.Finished) run.0 whole end run.1 refl refl) in
-      let same = append_cancel_left given_old ran.out whole (sym ran.is_given ∙ sym all) in
+      let same = append_cancel_left given_old ran.out whole
+      (sym ran.is_given ∙ sym (w.all (given_old ++ whole) end (follows (w.whole, End.Finished) run.0 whole end run.1 refl refl))) in
       record {
         inputs = w.whole;
         have_form = w.have_form;
@@ -82,20 +82,19 @@ module _ {config : Config} {says : Applications} {quiet : Bool} {read : List ℕ
         holds = grind (arith, no_last_line);
       }
 
-  -- where no text that follows ends in a halt, the machine's run has none
+  -- if no text that follows ends in a halt, the machine's run has none
   goes_on_after : {before : List ℕ} → GoesOnFrom quiet (booting given_old config says) before
       → OnWholeLines config says before (λ entries. list_any is_halt entries ≡ false)
   goes_on_after from =
       let run = laws.exists says from.whole in
-      let end : End = end_of run.0.entries End.Finished in
-      let whole : List ℕ = text quiet run.0.entries end in
-      let ends = from.ends (given_old ++ whole) end (follows (from.whole, End.Finished) run.0 whole end run.1 refl refl) in
+      let end = end_of run.0.entries End.Finished in
+      let whole = text quiet run.0.entries end in
       record {
         inputs = from.whole;
         have_form = from.have_form;
         last = run.0;
         runs = run.1;
-        holds = not_halted _ ends;
+        holds = not_halted _ (from.ends (given_old ++ whole) end (follows (from.whole, End.Finished) run.0 whole end run.1 refl refl));
       }
 
   reads_no_further : {taken_old taken_new : List ℕ} → taken_new ≡ taken_old ++ read
@@ -130,7 +129,7 @@ module _ {config : Config} {says : Applications} {quiet : Bool} {read : List ℕ
   }
 
 module _ {quiet : Bool} {read : List ℕ} {is_ended : Bool} {start : Place} {given : List ℕ} where
-  -- the last line was written behind all that was due
+  -- the last line was written after all pending text
   pub closed : {due given_later left : List ℕ} {end : End} {answer : Result End RunFault} →
       Ran quiet read is_ended start given (λ end. due ++ final_line end) (Ok end) → WritesOn given due given_later left (final_line end) →
       (IsErrOf answer RunFault.Read → ⊥) → IfOk answer (λ answered. (left ≡ []) × (answered ≡ end)) →
@@ -139,18 +138,17 @@ module _ {quiet : Bool} {read : List ℕ} {is_ended : Bool} {start : Place} {giv
     out = ran.out ++ w.out;
     is_given = grind (arith, append_assoc);
     text = λ more limits text ends f.
-        let a = ran.text more limits text ends f in
-        grind (arith, append_assoc);
+        grind (arith, append_assoc, ran.text more limits text ends f);
     after_read_fault = grind arith;
   }
 
-  -- a `?` hands on a fault
+  -- a `?` passes on a fault
   pub ran_failed : {left_at : End → List ℕ} {fault : RunFault} {answer : Result End RunFault}
       → IsErr answer → IsErrAnd answer (λ x. x ≡ fault)
       → Ran quiet read is_ended start given left_at (Err fault) → Ran quiet read is_ended start given (λ end. []) answer
   ran_failed is_err is_fault ran = record {
     out = ran.out;
     is_given = ran.is_given;
-    text = λ more limits text end f. let a = ran.text more limits text end f in grind arith;
+    text = λ more limits text end f. grind (arith, ran.text more limits text end f);
     after_read_fault = grind arith;
   }

@@ -1,23 +1,24 @@
 -- Steps of the kernel, as steps of a run that begins there.
 use Rattle.std.proofs.Common.{arith, ◌≡◌, ◌+◌, ℕ, zero, suc, Bool, true, false, List, ◌∷◌, ◌++◌, refl, ap, sym, ◌∙◌, append_assoc, option_to_list, []}
-use Rattle.mote_run.proofs.Common.{nat_tests, filter_map-append, Applications, Stimulus, Entry, Input, Step, Machine, Answers, Running, Runs, ComesToRest, after_step, after_steps, answers_after, gone_on, heard, one_step, stimulus_of, with_input, GoesOn, Silently, made, IsTold}
+use Rattle.mote_run.proofs.Common.{filter_map-append, Applications, Stimulus, Entry, Input, Step, Machine, Answers, Running, Runs, ComesToRest, after_step, after_steps, answers_after, gone_on, heard, one_step, stimulus_of, with_input, GoesOn, Silently, made, IsTold}
 use Rattle.std.proofs.Math.Path.{fun_ext}
 use Rattle.kernel_core.proofs.Determined.{steps_plus}
 
 module _ (says : Applications) where
-  -- a row of steps that make no entry
   silent_steps : (n : ℕ) (a b : Machine) → Silently (answers_after says []) n a b →
       after_steps says n (record { machine = a; entries = [] }) ≡ record { machine = b; entries = [] }
   silent_steps zero a b same = ap (λ m. record { machine = m; entries = [] }) same
   silent_steps (suc n) a b (next, first, rest) = rw first (silent_steps n next b rest)
 
-  -- what a step of the kernel made, some steps of the machine make
+  -- the machine makes in some steps what a step of the kernel made
   pub made_steps : (old new : Machine) (step : Step) → GoesOn (λ p stimulus. says p (stimulus ∷ [])) old step new →
       (k : ℕ) × (after_steps says k (record { machine = old; entries = [] }) ≡ record { machine = new; entries = made step })
   made_steps old new (Step.Entry entry) makes =
-      let n = makes.before.count in
-      let first = silent_steps n old makes.last makes.before.steps in
-      (n + 1, steps_plus says n 1 (record { machine = old; entries = [] }) ∙ rw (first, makes.makes) refl)
+      let n = makes.before.count in (
+        n + 1,
+        steps_plus says n 1 (record { machine = old; entries = [] })
+            ∙ rw ((silent_steps n old makes.last makes.before.steps), makes.makes) refl,
+      )
   made_steps old new Step.Rest goes = (goes.before.count, silent_steps goes.before.count old new goes.before.steps)
   made_steps old new Step.Halted goes = (0, rw goes.1 refl)
 
@@ -26,7 +27,7 @@ module _ (says : Applications) where
   told_more now entries p [] next later is_told = is_told.each p next later
   told_more now entries p (first ∷ told) next later is_told = is_told.each p first (told ++ (next ∷ later))
 
--- What follows these entries is what follows from there alone, of applications that were told them.
+-- After these entries a run continues as one that starts there, with applications that received them.
 module _ {says now : Applications} {entries : List Entry} (told : IsTold says entries now) where
   abbrev pub behind : Running → Running
   behind r = record { machine = r.machine; entries = entries ++ r.entries }
@@ -48,17 +49,17 @@ module _ {says now : Applications} {entries : List Entry} (told : IsTold says en
   steps_behind (suc n) r = ap (after_steps says n) (step_behind r) ∙ steps_behind n (after_step now r)
 
   rest_behind : (r w : Running) → ComesToRest says (behind r) w → (v : Running) × ComesToRest now r v × (w ≡ behind v)
-  rest_behind r w is = grind (arith, nat_tests, steps_behind)
+  rest_behind r w is = grind (arith, steps_behind)
 
   input_behind : (input : Input) (later : List Input) (r rested w : Running) →
       ((r w : Running) → Runs says (behind r) later w → (v : Running) × Runs now r later v × (w ≡ behind v)) → ComesToRest now r rested →
       (rested.machine.is_halted ≡ true → w ≡ behind rested)
       → (rested.machine.is_halted ≡ false → Runs says (with_input input (behind rested)) later w) →
       (halted : Bool) → rested.machine.is_halted ≡ halted → (v : Running) × Runs now r (input ∷ later) v × (w ≡ behind v)
-  input_behind input later r rested w others rests stop go true h = (rested, (rested, rests, (λ s. refl), λ s. absurd (cc)), stop h)
+  input_behind input later r rested w others rests stop go true h = (rested, (rested, rests, (λ s. refl), λ s. cc), stop h)
   input_behind input later r rested w others rests stop go false h =
       let next = others (with_input input rested) w (go h) in
-      (next.0, (rested, rests, (λ s. absurd (cc)), λ s. next.1), next.2)
+      (next.0, (rested, rests, (λ s. cc), λ s. next.1), next.2)
 
   pub runs_behind : (inputs : List Input) (r w : Running) → Runs says (behind r) inputs w → (v : Running) × Runs now r inputs v
       × (w ≡ behind v)

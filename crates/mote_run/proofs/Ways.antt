@@ -1,4 +1,4 @@
--- Ways of a run, one after the other, and the shortest of them.
+-- Parts of a run, one after another, and the shortest ones.
 use Rattle.std.proofs.Common.{arith, ◌≡◌, ℕ, Bool, true, false, List, ◌∷◌, ◌++◌, refl, sym, ◌∙◌, append_assoc, ◌||◌, if◌then◌else◌, [], Result}
 use Rattle.mote_run.proofs.Common.{nat_tests, list_any, append-nil, filter-append, is_halt, Entry, Input, Reading, end_of, final_line, End, Step, fed, Machine, Answers, Running, Runs, is_still, GoesOn, made, Follows, Goes, IsTold, Place, Went, end_at, WritesOn, lines}
 use Rattle.std.proofs.lemmas.Bool.{true_from_ne_false}
@@ -11,12 +11,12 @@ use Rattle.kernel_core.specs.Code.IdleRound.{RestsAfter}
 use Rattle.mote_run.proofs.Steps.{made_steps, runs_behind}
 
 end_later : (a b c : Bool) (x y : End) → (if a then x else if b || c then x else y) ≡ (if a || b then x else if c then x else y)
-end_later a b c x y = grind (arith, nat_tests)
+end_later a b c x y = grind arith
 
 ends_later : (old new : Bool) (entries more all : List Entry) (end : End) → all ≡ entries ++ more
     → new ≡ (old || list_any is_halt entries) →
     (if old then End.Halted else end_of all end) ≡ (if new then End.Halted else end_of more end)
-ends_later old new entries more all end same halted = grind (arith, nat_tests, list_any-append, end_later)
+ends_later old new entries more all end same halted = grind (arith, list_any-append, end_later)
 
 abbrev begun : Machine → Running
 begun machine = record { machine = machine; entries = [] }
@@ -26,18 +26,15 @@ last_is : (here : Place) → is_still here.machine ≡ true → (later : List In
     Runs here.says (begun here.machine) later last → last ≡ begun here.machine
 last_is here still [] last none runs = still_rest here.says (begun here.machine) last still runs
 last_is here still (input ∷ later) last none (rested, rests, stop, go) =
-    let same : rested ≡ begun here.machine = still_rest here.says (begun here.machine) rested still rests in
-    let halted : here.machine.is_halted ≡ true = true_from_ne_false here.machine.is_halted (λ h. let e = none h in absurd (cc)) in
-    stop (rw same halted) ∙ same
+    let same = still_rest here.says (begun here.machine) rested still rests in
+    stop (rw same (true_from_ne_false here.machine.is_halted (λ h. let e = none h in absurd (cc)))) ∙ same
 
--- at rest nothing more happens
 pub idle_is_still : (input : Input) (old new : Machine) → ((answers : Answers) → RestsAfter answers input old new) → is_still new ≡ true
-idle_is_still input old new rests = let r = rests (λ p stimulus. Call.Wait) in grind (arith, nat_tests)
+idle_is_still input old new rests = grind (arith, rests (λ p stimulus. Call.Wait))
 
 module _ (quiet : Bool) where
-  -- the lines of more entries come behind those of the entries before
   lines-append : (entries more : List Entry) → lines quiet (entries ++ more) ≡ lines quiet entries ++ lines quiet more
-  lines-append entries more = grind (arith, nat_tests, filter-append, flat_map-append)
+  lines-append entries more = grind (arith, filter-append, flat_map-append)
 
 module _ {quiet : Bool} where
   pub went_on : {inputs more : List Input} {from mid to : Place} → Went quiet inputs from mid → Went quiet more mid to
@@ -45,11 +42,9 @@ module _ {quiet : Bool} where
   went_on {inputs} {more} first second = record {
     out = first.out ++ second.out;
     given = grind (arith, append_assoc);
-    onward = λ later text end f.
-        second.onward later text end (first.onward (more ++ later.0, later.1) text end (rw (append_assoc inputs more later.0) at f));
+    onward = grind (arith, append_assoc);
   }
 
-  -- with no further input
   pub went_further : {inputs : List Input} {from mid to : Place}
       → Went quiet inputs from mid → Went quiet [] mid to → Went quiet inputs from to
   went_further {inputs} first second = rw (append-nil inputs) at (went_on first second)
@@ -62,12 +57,12 @@ module _ {quiet : Bool} where
   pub went_nowhere : (here : Place) → Went quiet [] here here
   went_nowhere here = record { out = []; given = sym (append-nil here.given); onward = λ later text end f. f }
 
-  -- some of what is due was written
+  -- some pending text was written
   pub went_written : {here : Place} {given due : List ℕ} → WritesOn here.given here.due given due []
       → Went quiet [] here (record here { given = given; due = due })
-  went_written w = record { out = w.out; given = w.given; onward = λ later text end f. grind (arith, append-nil, append_assoc) }
+  went_written w = record { out = w.out; given = w.given; onward = λ later text end f. grind (arith, append_assoc) }
 
-  -- some of what is due was written, and then the kernel made a step, whose lines are put behind it
+  -- then the kernel makes a step, whose lines become pending
   pub went_step : {inputs : List Input} {from mid to : Place} {due : List ℕ} (step : Step) →
       Went quiet inputs from mid → WritesOn mid.given mid.due to.given due [] →
       GoesOn (λ p stimulus. mid.says p (stimulus ∷ [])) mid.machine step to.machine →
@@ -80,25 +75,31 @@ module _ {quiet : Bool} where
         given = sym (append-nil to.given);
         onward = λ later text end f.
             let k = made_steps mid.says mid.machine to.machine step goes in
-            let there : Running = record { machine = to.machine; entries = made step } in
-            let after = run_from mid.says (begun mid.machine) there f.last later.0 k.0 k.1 f.runs in
-            let s = runs_behind told later.0 (begun to.machine) f.last
-            (rw (← append-nil (made step)) at after) in
-            grind (arith, made, ends_later, lines-append, append_assoc, lines, final_line);
+            grind (
+              arith,
+              made,
+              ends_later,
+              lines-append,
+              append_assoc,
+              lines,
+              final_line,
+              runs_behind told later.0 (begun to.machine) f.last
+                  (rw (← append-nil (made step)) at
+                  (run_from mid.says (begun mid.machine) (record { machine = to.machine; entries = made step }) f.last later.0 k.0 k.1 f.runs)),
+            );
       })
 
-  -- an input is handed in
+  -- an input is submitted
   pub input_went : {here : Place} (input : Input) → is_still here.machine ≡ true → here.machine.is_halted ≡ false →
       Went quiet (input ∷ []) here (record here { machine = fed input here.machine })
   input_went {here} input still running = record {
     out = [];
     given = sym (append-nil here.given);
     onward = λ later text end f.
-        let r = f.runs in
-        let same : r.0 ≡ begun here.machine = still_rest here.says (begun here.machine) r.0 still r.1 in grind arith;
+        grind (arith, still_rest here.says (begun here.machine) f.runs.0 still f.runs.1);
   }
 
-  -- and its line is put behind what is due
+  -- and its line becomes pending
   pub went_input : {here : Place} {given due due_later : List ℕ} {new : Machine} (input : Input) → is_still here.machine ≡ true
       → here.machine.is_halted ≡ false → WritesOn here.given here.due given due [] →
       GoesOn (λ p stimulus. here.says p (stimulus ∷ [])) (fed input here.machine) (Step.Entry (Entry.Input input)) new
@@ -106,13 +107,11 @@ module _ {quiet : Bool} where
       due_later ≡ due ++ lines quiet (Entry.Input input ∷ []) →
       Went quiet (input ∷ []) here (record here { given = given; due = due_later; machine = new })
   went_input {here} {new = new} input still running writes goes runs is =
-      let halted : new.is_halted ≡ ((fed input here.machine).is_halted || false) = grind arith in
       went_step (Step.Entry (Entry.Input input)) (input_went input still running) writes goes
-      (record { each = λ p next later. refl }) halted is
+      (record { each = λ p next later. refl }) (grind arith) is
 
-  -- what is left where nothing more happens
   pub nothing_follows : (here : Place) → is_still here.machine ≡ true → (later : Reading) (text : List ℕ) (end answered : End)
       → (here.machine.is_halted ≡ false → later ≡ ([], answered)) →
       Follows quiet here later text end → (text ≡ here.given ++ (here.due ++ final_line (end_at here.machine answered)))
       × (end ≡ end_at here.machine answered)
-  nothing_follows here still later text end answered none f = grind (arith, nat_tests, last_is, end_at)
+  nothing_follows here still later text end answered none f = grind (arith, nat_tests, last_is)

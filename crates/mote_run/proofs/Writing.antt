@@ -1,8 +1,8 @@
--- Text that goes out in pieces.
+-- Text written in pieces.
 use Rattle.std.proofs.Common.{◌≡◌, ℕ, List, ◌++◌, take, drop, refl, ap, sym, ◌∙◌, append_assoc, []}
 use Rattle.mote_run.proofs.Common.{append-nil, take-append-drop, WritesOn}
 
--- nothing was written, and more is due
+-- nothing was written, and more is pending
 pub put_behind : (given due more : List ℕ) → WritesOn given due given (due ++ more) more
 put_behind given due more = record { out = []; given = sym (append-nil given); parted = refl }
 
@@ -14,7 +14,6 @@ pub front_written : (given_old due given_new : List ℕ) (n : ℕ) → given_new
 front_written given_old due given_new n given =
     record { out = take n due; given = given; parted = append-nil due ∙ sym (take-append-drop n due) }
 
--- one after the other
 pub then_written : {g₀ d₀ g₁ d₁ m₁ g₂ d₂ m₂ : List ℕ} → WritesOn g₀ d₀ g₁ d₁ m₁ → WritesOn g₁ d₁ g₂ d₂ m₂ → WritesOn g₀ d₀ g₂ d₂ (m₁ ++ m₂)
 then_written {g₀} {d₀} {g₁} {d₁} {m₁} {g₂} {d₂} {m₂} first second = record {
   out = first.out ++ second.out;
@@ -27,6 +26,5 @@ then_written {g₀} {d₀} {g₁} {d₁} {m₁} {g₂} {d₂} {m₂} first secon
       ∙ sym (append_assoc first.out second.out d₂))));
 }
 
--- and where the second brought nothing new
 pub then_flushed : {g₀ d₀ g₁ d₁ g₂ d₂ more : List ℕ} → WritesOn g₀ d₀ g₁ d₁ more → WritesOn g₁ d₁ g₂ d₂ [] → WritesOn g₀ d₀ g₂ d₂ more
 then_flushed {g₀} {d₀} {g₁} {d₁} {g₂} {d₂} {more} first second = rw (append-nil more) at (then_written first second)

@@ -12,7 +12,6 @@ use Rattle.mote_types.specs.declared.event.Stimulus.{Stimulus}
 use Rattle.kernel_core.specs.Run.{heard}
 use Rattle.mote_session.specs.Answered.{AnswersAs, call_at, call_of, calls_of, replayed}
 
--- a process makes as many calls as it receives stimuli
 calls_heard : (p : ℕ) (entries : List Entry) → length (heard p entries) ≡ length (calls_of p entries)
 calls_heard p [] = refl
 calls_heard p (entry ∷ entries) = let same = calls_heard p entries in grind (arith, nat_tests, same)
@@ -28,7 +27,7 @@ own_call : (pid : Pid) (origin : Origin) (stimulus : Stimulus) (call : Call) (la
     calls_of pid.0 (Entry.Turn pid origin stimulus call ∷ later) ≡ call ∷ calls_of pid.0 later
 own_call pid origin stimulus call later = grind (arith, nat_tests)
 
--- there are such applications: those that go through the calls
+-- applications that replay the calls are such
 pub replayed_answers : (entries : List Entry) → AnswersAs (replayed entries) entries
 replayed_answers entries before later pid origin stimulus call same =
     rw (
@@ -40,7 +39,6 @@ replayed_answers entries before later pid origin stimulus call same =
     )
     (call_behind (calls_of pid.0 before) call (calls_of pid.0 later))
 
--- who makes these calls up to an entry makes them before it
 pub answers_before : (says : Applications) (entries : List Entry) (entry : Entry) →
     AnswersAs says (entries ++ entry ∷ []) → AnswersAs says entries
 answers_before says entries entry answers before later pid origin stimulus call same = grind (arith, append_assoc)

@@ -1,5 +1,4 @@
--- Worked examples: refusals, replayed calls, the last entry, applications that make other calls, what the calls of a session don't do, and
--- what follows from a history and a promise.
+-- Worked examples: refusals, calls, what the steps of a session don't do, histories and promises.
 use Rattle.std.proofs.Common.{◌≡◌, ◌≤◌, ◌+◌, ◌-◌, ◌^◌, ℕ, true, false, List, ◌∷◌, refl, arith, append-nil, map, Some, None, []}
 use Rattle.arrayvec.specs.ArrayVec.{ArrayVec}
 use Rattle.mote_types.specs.Applications.{Applications}
@@ -29,7 +28,6 @@ use Rattle.mote_session.specs.declared.session.Next.{Next}
 abbrev sized : ℕ → ℕ → Config
 sized mmem applications = record { mmem = mmem; heap = 20; apps = applications; quota = None; header = 16 }
 
--- a session at boot, of n applications
 abbrev at_first : ℕ → SessionView
 at_first applications = record { machine = booted (sized 4 applications); inputs = 0; entries_left = 0; turn = None; last = None }
 
@@ -44,7 +42,7 @@ halted = record (at_first 1) { machine = record (at_first 1).machine { is_halted
 
 -- ---- refusals
 
--- with no application there is rest at boot; otherwise INIT is pending; after Halt nothing more happens, and it is no rest
+-- without applications there is rest at boot, otherwise INIT is pending; after Halt nothing more happens, but it is no rest
 resting : (map rests (at_first 0 ∷ at_first 1 ∷ asked ∷ halted ∷ []) ≡ true ∷ false ∷ false ∷ false ∷ []) × (is_settled halted ≡ true)
 resting = (refl, refl)
 
@@ -56,7 +54,7 @@ inputs_refused : (map (input_refusal (Input.Tick 5)) (at_first 0 ∷ at_first 1 
     ≡ Some SessionRefusal.NoInput ∷ Some SessionRefusal.AwaitsCall ∷ [])
 inputs_refused = (refl, refl, refl)
 
--- the clock may reach 2^62, and not beyond
+-- the clock may reach 2^62 at most
 abbrev late : SessionView
 late = record (at_first 0) { machine = record (at_first 0).machine { clock = 2 ^ 62 - 5 } }
 
@@ -75,7 +73,6 @@ lines_refused = (refl, refl)
 abbrev turn : ℕ → Call → Entry
 turn p call = Entry.Turn (record { 0 = p }) Origin.Answer (Stimulus.Answer Reply.Done) call
 
--- two turns of process 4, with one of process 5 between them
 abbrev later : List Entry
 later = turn 5 Call.Exit ∷ turn 4 Call.AllocEvent ∷ []
 
@@ -87,7 +84,6 @@ of_three : (calls_of 4 three ≡ Call.Clock ∷ Call.AllocEvent ∷ [])
     × (last_entry three ≡ Some (turn 4 Call.AllocEvent))
 of_three = (refl, refl, refl, refl)
 
--- who always waits makes other calls
 waits_instead : AnswersAs (λ p stimuli. Call.Wait) three → ⊥
 waits_instead answers =
     cc (answers [] later (record { 0 = 4 }) Origin.Answer (Stimulus.Answer Reply.Done) Call.Clock refl)
@@ -97,7 +93,7 @@ waits_instead answers =
 abbrev boot : History
 boot = at_boot (sized 4 1)
 
--- a comment is submitted as no input; the entry before is not made again by coming to rest
+-- a comment is no input; coming to rest doesn't repeat the last entry
 histories : (with_said (Some None) boot ≡ boot)
     × (with_said (Some (Some (Input.Tick 5))) boot ≡ record boot { inputs = Input.Tick 5 ∷ [] })
     × (with_call (Some told_callback) Call.Exit boot
@@ -112,13 +108,13 @@ module _ (old new : SessionView) where
   clock_stays : HasSameInputs old new → new.machine.clock ≡ old.machine.clock
   clock_stays same = same.1
 
-  -- a turn is one of the mote's applications, whatever its call; it is no entry yet, and leaves two entries fewer
+  -- a turn is an application's, is no entry yet, and leaves two entries fewer
   of_a_turn : (is : Advances Next.Turn old new)
       → (is.turn.process.0 ≡ 3 → ⊥) × (old.entries_left ≡ 1 → ⊥) × (new.last ≡ None)
       × ((answers : Answers) → AwaitsCall answers old.machine is.turn.process is.turn.origin is.turn.stimulus new.machine)
   of_a_turn is = grind arith
 
-  -- an entry that is no turn brings no application a stimulus, and is one fewer; none follows Halt
+  -- an entry that is no turn gives no stimulus and leaves one entry fewer; none follows Halt
   of_an_entry : (is : Advances Next.Entry old new)
       → ((p : ℕ) → heard p (is.entry ∷ []) ≡ []) × (old.entries_left ≡ 0 → ⊥)
       × (is.entry ≡ Entry.Halt → old.machine.is_halted ≡ false → new.machine.is_halted ≡ true)
@@ -131,7 +127,6 @@ module _ (old new : SessionView) where
   rest_keeps_the_last_line : Advances Next.Rest old new → new.last ≡ old.last
   rest_keeps_the_last_line is = is.last
 
-  -- a call adds a note at most
   one_note : (call : Call) → IsSubmitted call old new → new.entries_left ≤ old.entries_left + 1
   one_note call is = is.left
 
@@ -145,11 +140,10 @@ module _ (old new : SessionView) where
   one_handed_in : TakesLine (Some (Some (Input.Tick 5))) old new → new.inputs ≡ old.inputs → ⊥
   one_handed_in takes same = grind arith
 
--- no call is submitted where none is awaited
 no_call_awaited : (call : Call) (new : SessionView) → IsSubmitted call (at_first 1) new → ⊥
 no_call_awaited call new is = cc is.awaited
 
--- a turn that is still open is no entry
+-- an open turn is no entry
 still_open : Advances Next.Entry (at_first 0) asked → ⊥
 still_open is = cc is.closed
 
@@ -158,11 +152,11 @@ still_asked is = cc is.closed
 
 -- ---- histories of a session, and promises
 
--- a mote that doesn't boot has none
+-- a mote that doesn't boot has no history
 no_mote : (session : SessionView) → IsHistoryOf (at_boot (sized 6 1)) session → ⊥
 no_mote session is = grind arith
 
--- what was not submitted, or not made, is in none
+-- what wasn't submitted or made is in no history
 one_input_more : IsHistoryOf boot (record (at_first 1) { inputs = 1 }) → ⊥
 one_input_more is = grind arith
 
@@ -180,7 +174,6 @@ module _ (history : History) (session : SessionView) (promise : SessionPromise h
     is_a_run : Runs says (at_start history.config) history.inputs run.last
     is_a_run = run.runs
 
-    -- all that the run makes, where nothing more happens
     all_is_made : is_settled session ≡ true → (run.last.entries ≡ history.entries) × (run.last.machine ≡ session.machine)
     all_is_made settled = grind (arith, append-nil)
 
@@ -189,7 +182,7 @@ module _ (history : History) (session : SessionView) (promise : SessionPromise h
         × ProcessesAreIsolated history.config.quota history.config.apps run.last.entries
     laws_are_kept = (run.laws.memory, run.laws.events, run.laws.timers, run.laws.isolation)
 
--- only a note on a frame that was sent reports one
+-- only the note of a sent frame reports it
 sent_is_reported : (bytes : ArrayVec ℕ) → sent_in (Some (Entry.Note (Note.Sent bytes))) ≡ Some bytes
 sent_is_reported bytes = refl
 

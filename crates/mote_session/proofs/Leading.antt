@@ -1,4 +1,4 @@
--- The way of a session from its boot on: input by input, and n steps after the last one.
+-- A session from its boot: input by input, then n steps after the last one.
 use Rattle.std.proofs.Common.{◌≡◌, ◌+◌, ℕ, zero, suc, true, false, List, ◌∷◌, ◌++◌, refl, ap, sym, ◌∙◌, append_assoc, append-nil, option_to_list, Option, None, Some, is_none, ◌&&◌, []}
 use Rattle.std.proofs.lemmas.List.{append_cancel_left}
 use Rattle.mote_types.specs.Applications.{Applications}
@@ -16,7 +16,7 @@ use Rattle.mote_session.specs.SessionView.{AwaitedCall}
 abbrev pub running_at : List Entry → Machine → Running
 running_at entries machine = record { machine = machine; entries = entries }
 
--- the entries of r are a prefix of those of w; all of them, where nothing more happens
+-- r's entries are a prefix of w's, and all of them if nothing more happens
 abbrev Begins : Running → Running → Type 0
 Begins r w =
     (later : List Entry)
@@ -24,13 +24,11 @@ Begins r w =
     × (is_still r.machine ≡ true → (later ≡ []) × (w.machine ≡ r.machine))
 
 module _ (says : Applications) where
-  -- the way continues by some steps
   pub leads_on : (old r w : Running) (inputs : List Input) → Leads says old inputs r → Leads says r [] w → Leads says old inputs w
   leads_on old r w [] (n, e) (k, f) = (n + k, steps_plus says n k old ∙ (ap (after_steps says k) e ∙ f))
   leads_on old r w (input ∷ inputs) (rested, rests, running, on) goes =
       (rested, rests, running, leads_on (with_input input rested) r w inputs on goes)
 
-  -- and by an input
   pub leads_fed : (old r : Running) (inputs : List Input) (input : Input) →
       is_still r.machine ≡ true → r.machine.is_halted ≡ false →
       Leads says old inputs r → Leads says old (inputs ++ input ∷ []) (with_input input r)
@@ -38,7 +36,6 @@ module _ (says : Applications) where
   leads_fed old r (first ∷ inputs) input still running (rested, rests, up, on) =
       (rested, rests, up, leads_fed (with_input first rested) r inputs input still running on)
 
-  -- steps only add entries
   entries_grow : (n : ℕ) (r : Running) → (later : List Entry) × ((after_steps says n r).entries ≡ r.entries ++ later)
   entries_grow zero r = ([], sym (append-nil r.entries))
   entries_grow (suc n) r =
@@ -59,7 +56,7 @@ module _ (says : Applications) where
             ),
       )
 
-  -- a run on the same inputs begins with what was made on the way
+  -- a run on the same inputs begins with these entries
   run_begins : (old r w : Running) (inputs : List Input) → Leads says old inputs r → Runs says old inputs w → Begins r w
   run_begins old r w [] (n, e) rests = rest_begins r w (rest_from says old r w n e rests)
   run_begins old r w (input ∷ inputs) (rested, rests, up, on) (other, comes, stop, go) =
@@ -68,7 +65,7 @@ module _ (says : Applications) where
 
   module _ (history : History) (machine : Machine) (answers : AnswersAs says history.entries) (last : Running)
       (runs : Runs says (at_start history.config) history.inputs last) where
-    -- so does a run on the inputs of a history, as long as no call is awaited
+    -- so does a run on a history's inputs while no call is awaited
     pub so_far : (turn : Option AwaitedCall) → StandsAt history turn machine →
         (later : List Entry)
         × (last.entries ≡ history.entries ++ later)

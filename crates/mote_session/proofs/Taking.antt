@@ -31,7 +31,6 @@ makes_call old new turn made taken working other last pid opened place kept mach
   same = (inputs, clock);
 }
 
--- the last entry is that turn then
 pub spoke_last : (m : ℕ) (turn made : Turn) (pid : Pid) (before after : Voices) → turn.pid ≡ pid → made ≡ record turn { call = made.call } →
     IsCall m pid.0 turn.stimulus made.call before after → SpokeLast m (Some (entry_of made)) before after
 spoke_last m turn made pid before after place kept is = record {

@@ -1,4 +1,4 @@
--- The boxes that a runner makes are the applications that the arguments name, so their run is the one that was asked for.
+-- The runner's boxes are the applications that the arguments name, so their run is the one that was asked for.
 use Rattle.std.proofs.Common.{◌≡◌, ◌∙◌, ℕ, Bool, List, Option, Result, Ok, Err, IfErr, ap, length, inl, sym}
 use Rattle.std.specs.Result.{IsErrAnd}
 use Rattle.arrayvec.specs.ArrayVec.{ArrayVec as Items}
@@ -23,7 +23,6 @@ module _ {A : Type 0} (by_name : List ℕ → Option A) (words : List (List ℕ)
   refused_as (Refusal.Request text) refused = refused
   refused_as refusal refused = refused
 
-  -- what arguments are refused with, once it is a failure
   pub refused_in_words : {P : Type 0} (refusal : Refusal) (result : Result P Failure) → of_words.Refuses by_name words refusal
       → IsErrAnd result (λ failure. failure ≡ failure_in_words refusal) → IfErr result (Refuses by_name words)
   refused_in_words refusal (Ok prepared) refused is = absurd is
@@ -40,18 +39,17 @@ module _ {A : Type 0} (by_name : List ℕ → Option A) (words : List (List ℕ)
   refused_outcome Failure.Write never = absurd never
   refused_outcome failure refused = refused
 
-  -- a failure that arguments are refused with is an outcome of theirs
+  -- a failure for invalid arguments is one of their outcomes
   pub outcome_of_refusal : (failure : Failure) (result : Result End Failure) → Refuses by_name words failure
       → IsErrAnd result (λ found. found ≡ failure) → IsOutcome by_name words result
   outcome_of_refusal failure (Ok end) refused is = absurd is
   outcome_of_refusal failure (Err found) refused is = rw is (refused_outcome failure refused)
 
--- what a runner returns for arguments, once a mote was prepared for them
+-- what a runner returns, once a mote was prepared
 module _ {A : Type 0} (by_name : List ℕ → Option A) (others : A → Says) (words : List (List ℕ)) where
   abbrev asked : Named A
   asked = of_words.named_in by_name words
 
-  -- the kernel was booted for the boxes
   pub booted_for_boxes : {B : Type 0} {says : B → Says} (kernel : Mote) (applications : Items A) (lent : List B) → NamesMote by_name words
       → kernel.machine ≡ booted (config_of asked) → kernel.inputs ≡ 0 → applications ≡ asked.applications
       → Boxes says others lent applications.items → WasBooted kernel (length lent)
@@ -74,7 +72,7 @@ module _ {A : Type 0} (by_name : List ℕ → Option A) (others : A → Says) (w
       let x = rw (boxes.same, listed, is_quiet) at run in
       holding x (record { ran = x.holds.ran; promise = λ names. x.holds.promise })
 
-  -- where the arguments are invalid, and where there is no memory, nothing ran
+  -- nothing ran if the arguments are invalid, or there is no memory
   module _ {taken given : List ℕ} {is_ended : Bool} where
     pub nothing_prepared : (failure : Failure) (result : Result End Failure) → Refuses by_name words failure
         → IsErrAnd result (λ found. found ≡ failure) →

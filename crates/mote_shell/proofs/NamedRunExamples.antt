@@ -1,4 +1,4 @@
--- Worked examples: the configuration that is named, and the outcomes that arguments may have.
+-- Examples: the named configuration, and the outcomes that arguments may have.
 use Rattle.std.proofs.Common.{◌≡◌, ◌⊎◌, ◌∙◌, ℕ, List, true, false, map, refl, subst, ap, arith, inl, inr, Option, Some, None, Result, Ok, Err, ◌∷◌, []}
 use denote.Ref.{Bor}
 use Rattle.kernel_core.specs.Machine.{is_bootable}
@@ -15,18 +15,17 @@ use Rattle.command_line.specs.declared.refusal.ParserText.{ParserText}
 use Rattle.mote_text.specs.declared.script.End.{End}
 use Rattle.mote_types.specs.Applications.{Says, says_of}
 
--- no quota, and no application
 small : config_of {A = ℕ}
     (record { applications = record { items = [] }; sizes = record { mmem = 64; heap = 128; header = 8; quota = None }; quiet = true })
     ≡ record { mmem = 64; heap = 128; apps = 0; quota = None; header = 8 }
 small = refl
 
--- sizes that no mote has: no multiple of 4, and a quota for two applications and the frames that exceeds managed memory
+-- sizes without a mote: no multiple of 4, and a quota for two applications and the frames that exceeds managed memory
 no_motes : (is_bootable (record { mmem = 62; heap = 128; apps = 0; quota = None; header = 8 }) ≡ false)
     × (is_bootable (record { mmem = 64; heap = 128; apps = 2; quota = Some 24; header = 8 }) ≡ false)
 no_motes = (refl, refl)
 
--- The outcomes that arguments may have: a run and its failure only where they name a mote, and a refusal only where they name none.
+-- Possible outcomes: a run or its failure only for arguments that name a mote, a refusal only for others.
 module _ {A : Type 0} (by_name : List ℕ → Option A) (words : List (List ℕ)) where
   ran : (end : End) → IsOutcome by_name words (Ok end) → NamesMote by_name words
   ran end is = is
@@ -50,7 +49,7 @@ module _ {A : Type 0} (by_name : List ℕ → Option A) (words : List (List ℕ)
   too_many_applications : IsOutcome by_name words (Err Failure.TooManyApplications) → NamesMote by_name words → ⊥
   too_many_applications is names = let many = is.1.1 in let few = names.applications.few in absurd (omega (arith, many, few))
 
-  -- that an argument is no text is reported before the arguments are read
+  -- a malformed argument is reported before the arguments are read
   other_failures : Refuses by_name words Failure.NotText ⊎ (Refuses by_name words Failure.Read ⊎ Refuses by_name words Failure.Write) → ⊥
   other_failures refused = grind arith
 
@@ -62,18 +61,17 @@ module _ {A : Type 0} (by_name : List ℕ → Option A) (words : List (List ℕ)
   halt_of_a_mote status is = subst (IsOutcome by_name words) is.is_done is.is_allowed
 
   module _ (text : ParserText) where
-    -- what the parser finds, it finds in arguments that it does not accept
+    -- the parser's mistakes are of arguments that it refuses
     mistake : IsOutcome by_name words (Err (Failure.Words text)) → NamesMote by_name words → ⊥
     mistake is names = let taken = names.applications.taken in rw taken at is.0
 
     asked_for_text : IsOutcome by_name words (Err (Failure.Request text)) → NamesMote by_name words → ⊥
     asked_for_text is names = let taken = names.applications.taken in rw taken at is.0
 
-    -- boxed applications are no arguments that are refused
+    -- with boxed applications the arguments are not refused
     no_answer : IsAnswer (Err (Failure.Words text)) → ⊥
     no_answer is = is
 
--- and have a mote, with memory for it
 no_refusal : IsAnswer (Err Failure.BadSizes) ⊎ IsAnswer (Err Failure.OutOfMemory) → ⊥
 no_refusal is = grind arith
 
@@ -96,12 +94,11 @@ module _ {A : Type 0} (by_name : List ℕ → Option A) (says : A → Says) (wor
         × (Has (Err Failure.Write) → Keeps (Err RunFault.Write))
     keeps_it_where_a_device_failed = (λ has. has.promise names, λ has. has.promise names)
 
-  -- whatever they name, what was written is what such a run writes
+  -- what was written is the text of such a run
   is_of_what_is_named : (outcome : Result End Failure) → Has outcome
       → HasRunTo (config_of asked) (says_of says asked.applications.items) asked.quiet Failure.Read outcome exchange
   is_of_what_is_named outcome has = has.ran
 
--- what a mote failed with is reported under the same names
 boot_failed : map failure_at_boot (BootFault.BadSizes ∷ BootFault.Memory ∷ []) ≡ Failure.BadSizes ∷ Failure.OutOfMemory ∷ []
 boot_failed = refl
 

@@ -10,19 +10,17 @@ use Rattle.command_line.specs.declared.refusal.ParserText.{ParserText}
 use Rattle.mote_text.specs.declared.script.End.{End}
 use Rattle.mote_types.specs.Applications.{Says}
 
--- by the table of a program's applications
 module _ {A : Type 0} (by_name : List ℕ → Option A) (words : List (List ℕ)) where
-  -- no refusal of arguments says that reading failed
   refusal_is_other : (failure : Failure) → Refuses by_name words failure → failure ≡ Failure.Read → ⊥
   refusal_is_other failure refused same = absurd (subst (Refuses by_name words) same refused)
 
-  -- what arguments are refused with is no result of a run
+  -- a refusal of arguments is no result of a run
   refused_no_run : (P : Result End RunFault → Type 0) (failure : Failure) → Refuses by_name words failure → OfRun (Err failure) P
   refused_no_run P Failure.Read refused = absurd refused
   refused_no_run P Failure.Write refused = absurd refused
   refused_no_run P failure refused = tt
 
-  -- arguments that ask for a text name no mote
+  -- a request for a text names no mote
   asks_for_text : (text : ParserText) → Refuses by_name words (Failure.Request text) → NamesMote by_name words → ⊥
   asks_for_text text refused names = let taken = names.applications.taken in rw taken at refused.0
 
@@ -31,7 +29,7 @@ error_of (Ok end) = Failure.Write
 error_of (Err failure) = failure
 
 module _ {A : Type 0} (by_name : List ℕ → Option A) (says : A → Says) (words : List (List ℕ)) where
-  -- where the arguments name no mote, nothing ran
+  -- if the arguments name no mote, nothing ran
   pub ran_nothing : {taken given : List ℕ} {is_ended : Bool} (failure : Failure) → Refuses by_name words failure →
       Exchanged taken taken is_ended given given (HasRunNamed by_name says words (Err failure))
   ran_nothing failure refused =
@@ -49,7 +47,7 @@ module _ {A : Type 0} (by_name : List ℕ → Option A) (says : A → Says) (wor
     promise = λ names. absurd (asks_for_text by_name words text refused names);
   })
 
--- what holds of an outcome holds of it once it was shown, if it holds of a failed write where a text could not be shown
+-- what holds of an outcome and of a failed write holds once a text was shown
 pub of_shown : (P : Result End Failure → Type 0) (outcome shown : Result End Failure) → P outcome
     → ((text : ParserText) → outcome ≡ Err (Failure.Request text) → P (Err (Failure.Request text)) → P (Err Failure.Write))
     → IsShown outcome shown → P shown

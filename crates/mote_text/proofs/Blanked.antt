@@ -11,7 +11,7 @@ pub blanked_none : blanked [] ≡ []
 unfolding blanked
 blanked_none = refl
 
--- words after the first, with a blank in front of each
+-- later words, with a blank before each
 abbrev spaced : List Word → List ℕ
 spaced words = flat_map (λ word. codes " " ++ word) words
 
@@ -25,7 +25,8 @@ blanked_more word words = append_assoc word (codes " ") (flat_map (λ word. word
 
 -- there is one blank more than a line has
 blanks : (word : Word) (words : List Word) → blanked (word ∷ words) ≡ (word ++ spaced words) ++ codes " "
-blanks word [] = blanked_more word [] ∙ ap (λ rest. word ++ 32 ∷ rest) blanked_none ∙ sym (ap (λ front. front ++ codes " ") (append-nil word))
+blanks word [] =
+    blanked_more word [] ∙ ap (λ rest. word ++ 32 ∷ rest) blanked_none ∙ sym (ap (λ front. front ++ codes " ") (append-nil word))
 blanks word (next ∷ words) =
     blanked_more word (next ∷ words) ∙ ap (λ rest. word ++ 32 ∷ rest) (blanks next words)
     ∙ sym (append_assoc word (32 ∷ (next ++ spaced words)) (codes " "))
@@ -38,13 +39,13 @@ module _ (bytes items : List ℕ) (end : ℕ) (word : Word) (words : List Word) 
   IsPut = take end bytes ≡ items ++ blanked (word ∷ words)
 
   whole : IsPut → take end bytes ≡ line ++ codes " "
-  whole put = put ∙ ap (λ rest. items ++ rest) (blanks word words) ∙ sym (append_assoc items (word ++ spaced words) (codes " "))
+  whole put = put ∙ ap (λ rest. items ++ rest) (blanks word words) ∙ sym (grind (arith, append_assoc))
 
   line_size : length (take end bytes) ≡ end → IsPut → end ≡ length line + 1
-  line_size size put = omega (arith, size, ap length (whole put), length-append line (codes " "))
+  line_size size put = omega (arith, ap length (whole put), length-append line (codes " "))
 
   has_some : IsPut → take end bytes ≢ []
-  has_some put = λ none. absurd (omega (arith, ap length none, ap length (whole put), length-append line (codes " ")))
+  has_some put = λ none. omega (arith, ap length none, ap length (whole put), length-append line (codes " "))
 
   before_end : length (take end bytes) ≡ end → IsPut → take (end - 1) bytes ≡ line
   before_end size put =
@@ -58,13 +59,13 @@ module _ (old put new : List ℕ) (at end most : ℕ) (word : Word) (words : Lis
   pub is_some : Puts old put at end most (blanked (word ∷ words)) → take end put ≢ []
   is_some puts = has_some put (take at old) end word words puts.text
 
-  -- the line's end is put in place of the last blank
+  -- the line's end replaces the last blank
   pub ended : length (take end put) ≡ end → take end new ≡ take (end - 1) put ++ 10 ∷ [] →
       Puts old put at end most (blanked (word ∷ words)) → Puts old new at end most (line_of (word ∷ words))
   unfolding line_of
   ended size last puts = record {
     text =
-        last ∙ ap (λ front. front ++ 10 ∷ []) (before_end put (take at old) end word words size puts.text)
+        last ∙ ap (λ front. front ++ 10 ∷ []) (grind (arith, before_end))
         ∙ append_assoc (take at old) (word ++ spaced words) (10 ∷ []);
     few = puts.few;
   }
@@ -94,7 +95,7 @@ module _ (entry : Entry) (old put new : List ℕ) (at end most : ℕ) where
   pub entry_is_some : Puts old put at end most (blanked (entry_words entry)) → take end put ≢ []
   entry_is_some puts =
       let words = has_words entry in
-      is_some old put new at end most words.0 words.1 (with_words old put at end most words.2 puts)
+      is_some old put new at end most words.0 words.1 (grind (arith, with_words))
 
   pub entry_ended : length (take end put) ≡ end → take end new ≡ take (end - 1) put ++ 10 ∷ [] →
       Puts old put at end most (blanked (entry_words entry)) → Puts old new at end most (entry_line entry)

@@ -5,8 +5,8 @@ use Rattle.std.proofs.Math.Seq.{take-nil}
 use Rattle.mote_text.proofs.WholeLines.{some_part, with_last_line}
 
 -- the same by lines
+-- the parts of a rest whose first line begins with these bytes
 
--- the parts of a rest whose first line began so
 abbrev begun : List ℕ → List (List ℕ) → List (List ℕ)
 begun line [] = []
 begun line (part ∷ later) = (line ++ part) ∷ later
@@ -18,12 +18,12 @@ abbrev read_parts : ℕ → Bool → List (List ℕ) → Reading
 read_parts number is_too_long parts = read_lines number (end_of_all is_too_long) (with_last_line (not is_too_long) parts)
 
 begun_none : (parts : List (List ℕ)) → begun [] parts ≡ parts
-begun_none parts = grind (arith, nat_tests)
+begun_none parts = grind arith
 
 module _ (line : List ℕ) where
   begun_onto_first : (byte : ℕ) (parts : List (List ℕ)) → 0 < length parts →
       begun line (onto_first byte parts) ≡ begun (line ++ byte ∷ []) parts
-  begun_onto_first byte parts some = grind (arith, nat_tests, append_assoc)
+  begun_onto_first byte parts some = grind (arith, append_assoc)
 
   -- lines and their ends
 
@@ -39,7 +39,7 @@ module _ (number : ℕ) where
     last_line : length line ≤ line_limit →
         read_parts number false (line ∷ []) ≡ with_line number (read_line line) ([], End.Finished)
     unfolding read_line
-    last_line fits = grind (arith, nat_tests, le-ltb, lt-ltb)
+    last_line fits = grind (arith, nat_tests, lt-ltb)
 
     cut_line : length line ≤ line_limit → read_parts number true (line ∷ []) ≡ ([], End.TooLong)
     cut_line fits = grind arith
@@ -47,20 +47,17 @@ module _ (number : ℕ) where
   module _ (is_too_long : Bool) (line : List ℕ) where
     whole_line : (later : List (List ℕ)) → 0 < length later →
         read_parts number is_too_long (line ∷ later) ≡ with_line number (read_line line) (read_parts (number + 1) is_too_long later)
-    whole_line later some = grind (arith, nat_tests)
+    whole_line later some = grind arith
 
     too_long_line : (parts : List (List ℕ)) → line_limit < length line → 0 < length parts →
         read_parts number is_too_long (begun line parts) ≡ ([], End.BadLine number)
-    too_long_line parts long some = grind (arith, nat_tests, length-append, lt-ltb, too_long_has_no_form)
+    too_long_line parts long some = grind (arith, nat_tests, length-append, too_long_has_no_form)
 
 -- one byte more
 
 IsReadByBytes : ℕ → List ℕ → Type 0
 IsReadByBytes room rest = (number : ℕ) (line : List ℕ) → length line ≤ line_limit →
     read_by_lines number line room rest ≡ read_on number line room rest
-
-lt_suc : (m n : ℕ) → nat_lt (suc m) (suc n) ≡ nat_lt m n
-lt_suc m n = grind (arith, nat_tests)
 
 module _ (number : ℕ) (line : List ℕ) (room byte : ℕ) (rest : List ℕ) where
   at_byte : (is_end fits : Bool) → (byte == 10) ≡ is_end → nat_lt (length line) line_limit ≡ fits → IsReadByBytes room rest →
@@ -70,11 +67,11 @@ module _ (number : ℕ) (line : List ℕ) (room byte : ℕ) (rest : List ℕ) wh
       else ([], End.BadLine number))
   unfolding IsReadByBytes
   at_byte true fits is_end test by_bytes =
-      grind (arith, nat_tests, slice_split-cons_yes, begun_none, by_bytes, lt_suc, append-nil, whole_line, some_part)
+      grind (arith, nat_tests, slice_split-cons_yes, begun_none, by_bytes, append-nil, whole_line, some_part)
   at_byte false true is_other test by_bytes =
-      grind (arith, nat_tests, slice_split-cons_no, ltb-true, lt_suc, begun_onto_first, some_part, by_bytes, length-append)
+      grind (arith, nat_tests, slice_split-cons_no, ltb-true, begun_onto_first, some_part, by_bytes, length-append)
   at_byte false false is_other test by_bytes =
-      grind (arith, nat_tests, slice_split-cons_no, ltb-false, length-append, lt_suc, begun_onto_first, some_part, too_long_line)
+      grind (arith, nat_tests, slice_split-cons_no, ltb-false, length-append, begun_onto_first, some_part, too_long_line)
 
 by_bytes : (room : ℕ) (rest : List ℕ) → IsReadByBytes room rest
 unfolding IsReadByBytes read_on

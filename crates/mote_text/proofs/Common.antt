@@ -1,4 +1,4 @@
--- The names that most proofs here cite, passed on from one place. Declares nothing.
+-- Re-exports the names that most proofs here cite.
 unfoldable pub use Rattle.hex.specs.Hex.{decode_pairs, encode_with}
 pub use Rattle.hex.specs.Hex.{encode_lower, hex_digit_value, pair_value}
 unfoldable pub use Rattle.mote_text.specs.Code.Reading.{read_on}

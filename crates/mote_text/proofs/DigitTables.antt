@@ -7,7 +7,7 @@ use Rattle.std.proofs.lemmas.Bool.{eqb-true}
 use Rattle.mote_text.proofs.Common.{encode_with}
 use Rattle.mote_text.proofs.EachByte.{holds_at, holds_below}
 
--- where the two digits of one of the bytes stand
+-- the positions of a byte's two digits
 pub encode_with-at : (table bytes : List ℕ) (i : ℕ) → i < length bytes →
     (slice_index (encode_with table bytes) (2 * i) ≡ slice_index table (slice_index bytes i / 16)) ×
     (slice_index (encode_with table bytes) (2 * i + 1) ≡ slice_index table (slice_index bytes i % 16))
@@ -24,7 +24,7 @@ encode_with-at table (byte ∷ rest) (suc i) inside =
 
 -- the table of values, filled digit by digit
 
--- the digits of either case, each behind a 0, and what they are worth
+-- the digits of both cases, each after a 0, and their values
 abbrev pub digits_behind_zeros : List ℕ
 digits_behind_zeros = codes "000102030405060708090a0b0c0d0e0f0A0B0C0D0E0F"
 
@@ -35,12 +35,10 @@ pub digits_read : decode_sized digits_behind_zeros 22 ≡ Ok digits_worth
 unfolding hex_on_literals
 digits_read = refl
 
--- the table with the first n digits
 unfoldable pub filled : ℕ → List ℕ
 filled zero = replicate 256 255
 filled (suc n) = set (filled n) (get_or digits_behind_zeros (2 * n + 1) 0) (get_or digits_worth n 0)
 
--- whether a place is right
 abbrev is_right : ℕ → Bool
 is_right digit = slice_index (filled 22) digit == value_or_none digit
 

@@ -1,4 +1,4 @@
--- Worked examples: what small scripts give, and what small transcripts show.
+-- Worked examples: small scripts and small transcripts.
 use Rattle.std.proofs.Common.{◌≡◌, ◌≤◌, ℕ, true, false, ◌∷◌, codes, refl, ◌∙◌, arith, lit≤, []}
 use Rattle.mote_text.proofs.Common.{encode_with, Entry, Input, entry_line, line_of, inputs, read_line, script_limit, whole_lines, End}
 use Rattle.std.specs.Fmt.{digits}
@@ -23,7 +23,7 @@ two_ticks : inputs (codes "tick 5\n# x\n\ntick 7") ≡ (Input.Tick 5 ∷ Input.T
 unfolding read_line
 two_ticks = inputs_of_short (codes "tick 5\n# x\n\ntick 7") (small 18 (lit≤ tt)) ∙ refl
 
--- what follows the first line of no form does not count
+-- what follows the first malformed line doesn't count
 a_bad_line : inputs (codes "tick 5\n\nticks 1\ntick 7\n") ≡ (Input.Tick 5 ∷ [], End.BadLine 3)
 unfolding read_line
 a_bad_line = inputs_of_short (codes "tick 5\n\nticks 1\ntick 7\n") (small 23 (lit≤ tt)) ∙ refl
@@ -43,7 +43,7 @@ line_of_a_turn : entry_line printed ≡ codes "4 answer done -> print 68690a\n"
 unfolding entry_line line_of digits encode_with
 line_of_a_turn = refl
 
--- with its end
+-- its end included
 most_of_a_line : entry_line_limit ≡ 640
 most_of_a_line = refl
 
@@ -55,13 +55,12 @@ too_long : final_line End.TooLong ≡ codes "too long\n"
 unfolding line_of
 too_long = refl
 
--- a quiet transcript
 shown_quietly : text true (Entry.Input (Input.Tick 5) ∷ printed ∷ Entry.Note (Note.Lost Refusal.NotLive) ∷ Entry.Halt ∷ []) End.Halted
     ≡ codes "4 answer done -> print 68690a\nhalt\n"
 unfolding prints_or_sends entry_line line_of digits encode_with
 shown_quietly = refl
 
--- these turns alone are shown
+-- only these turns are shown
 quiet_calls : list_all prints_or_sends (Call.Print (record { items = [] }) ∷ Call.PacketSend 0 ∷ []) ≡ true
 unfolding prints_or_sends
 quiet_calls = refl

@@ -10,7 +10,7 @@ or_none None = refl
 
 other_word : (first : ℕ) (word line : List ℕ) → (slice_index line 0 ≡ first → ⊥) → argument_of (first ∷ word) line ≡ None
 other_word first word [] other = refl
-other_word first word (byte ∷ rest) other = grind (arith, nat_tests)
+other_word first word (byte ∷ rest) other = grind arith
 
 abbrev as_tick : List ℕ → Option Input
 as_tick line = read_behind (codes "tick ") read_number (λ n. Input.Tick n) line
@@ -39,7 +39,8 @@ serial_line line is = rw (no_tick line (λ n. omega (arith, is, n)), no_frame li
 frame_line : (line : List ℕ) → slice_index line 0 ≡ 102 → read_words line ≡ as_frame line
 frame_line line is = rw (no_tick line (λ n. omega (arith, is, n)), no_serial line (λ n. omega (arith, is, n))) refl
 
-other_line : (line : List ℕ) → (slice_index line 0 ≡ 116 → ⊥) → (slice_index line 0 ≡ 115 → ⊥) → (slice_index line 0 ≡ 102 → ⊥) → read_words line ≡ None
+other_line : (line : List ℕ) → (slice_index line 0 ≡ 116 → ⊥) → (slice_index line 0 ≡ 115 → ⊥) → (slice_index line 0 ≡ 102 → ⊥)
+    → read_words line ≡ None
 other_line line tick serial frame = rw (no_tick line tick, no_serial line serial, no_frame line frame) refl
 
 pub by_first_byte : (line : List ℕ) → read_words line ≡

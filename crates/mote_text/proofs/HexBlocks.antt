@@ -15,7 +15,7 @@ use Rattle.mote_text.specs.Code.HexDigits.{value_or_none}
 abbrev digit : ℕ → ℕ
 digit value = slice_index lower_digits value
 
--- the digit of a value, as it is worked out
+-- the digit of a value, as it is computed
 abbrev worked_out : ℕ → ℕ
 worked_out value = ((value + 48) % 256 + cond (top 7 (cond (ltb 9 value) 255 0)) 39 0) % 256
 
@@ -30,18 +30,18 @@ added xs ys = zip2 (λ x y. (x + y) % 256) xs ys
 
 abbrev all_worked_out : ℕ → List ℕ → List ℕ
 all_worked_out n values =
-    let past_numbers = map (top 7) (zip2 (λ x y. cond (ltb x y) 255 0) (replicate n 9) values) in
-    added (added values (replicate n 48)) (sel_l past_numbers (replicate n 39) (replicate n 0))
+    added (added values (replicate n 48))
+    (sel_l (map (top 7) (zip2 (λ x y. cond (ltb x y) 255 0) (replicate n 9) values)) (replicate n 39) (replicate n 0))
 
 abbrev AreSmall : List ℕ → Type 0
 AreSmall values = All (λ value. value < 16) values
 
 pub digits_right : (n : ℕ) (values : List ℕ) → length values ≡ n → AreSmall values → all_worked_out n values ≡ map digit values
 digits_right zero [] is few = refl
-digits_right (suc n) [] is few = absurd (omega (arith, is))
-digits_right zero (x ∷ xs) is few = absurd (omega (arith, is))
+digits_right (suc n) [] is few = absurd (omega arith)
+digits_right zero (x ∷ xs) is few = absurd (omega arith)
 digits_right (suc n) (x ∷ xs) is few =
-    ap (λ later. worked_out x ∷ later) (digits_right n xs (omega (arith, is)) (λ k d inside. few (suc k) d (omega (arith, inside))))
+    ap (λ later. worked_out x ∷ later) (digits_right n xs (omega arith) (λ k d inside. few (suc k) d (omega (arith, inside))))
     ∙ ap (λ first. first ∷ map digit xs) (eqb-true _ _ (holds_at is_right 16 x all_right (few 0 0 (omega arith))))
 
 abbrev quotient : ℕ → ℕ → ℕ
@@ -50,7 +50,7 @@ quotient x y = x / y
 abbrev remainder : ℕ → ℕ → ℕ
 remainder x y = x % y
 
--- the digits of high halves and of low ones, in turn
+-- the digits of high and low halves, in turn
 abbrev woven : List ℕ → List ℕ → List ℕ
 woven high low = pick_l 0 (map digit high ++ map digit low) (flat_map (λ k. k ∷ (16 + k) ∷ []) (range_with_len 0 16))
 
@@ -59,21 +59,22 @@ halves f bytes = map (λ byte. f byte 16) bytes
 
 all_woven : (bytes : List ℕ) → length bytes ≡ 16 → woven (halves quotient bytes) (halves remainder bytes) ≡ encode_lower bytes
 unfolding encode_with
-all_woven bytes is = subst (λ them. woven (halves quotient them) (halves remainder them) ≡ encode_lower them) (pick_l_whole 0 bytes 16 is) refl
+all_woven bytes is =
+    subst (λ them. woven (halves quotient them) (halves remainder them) ≡ encode_lower them) (pick_l_whole 0 bytes 16 is) refl
 
 module _ (bytes : List ℕ) (is : length bytes ≡ 16) where
-  -- as a vector's lanes have them
+  -- in a vector's lanes
   abbrev lanes : (ℕ → ℕ → ℕ) → List ℕ
   lanes f = zip2 f (take 16 bytes) (replicate 16 16)
 
   split : (f : ℕ → ℕ → ℕ) → lanes f ≡ halves f bytes
-  split f = ap (λ them. zip2 f them (replicate 16 16)) (take_all 16 bytes (omega (arith, is))) ∙ zip2_splat f bytes 16 16 is
+  split f = ap (λ them. zip2 f them (replicate 16 16)) (take_all 16 bytes (omega arith)) ∙ zip2_splat f bytes 16 16 is
 
   small : (f : ℕ → ℕ → ℕ) → All (λ byte. f byte 16 < 16) bytes → AreSmall (lanes f)
   small f few = subst AreSmall (sym (split f)) (All-map (λ value. value < 16) (λ byte. f byte 16) bytes few)
 
   pub high_small : ((i : ℕ) → get_or bytes i 0 < 256) → AreSmall (lanes quotient)
-  high_small fits = small quotient (λ k d inside. omega (arith, fits k, get_or_default bytes k d 0 inside))
+  high_small fits = small quotient (λ k d inside. omega (arith, get_or_default bytes k d 0 inside))
 
   pub low_small : AreSmall (lanes remainder)
   low_small = small remainder (λ k d inside. omega arith)
@@ -81,7 +82,6 @@ module _ (bytes : List ℕ) (is : length bytes ≡ 16) where
   pub both_written : woven (lanes quotient) (lanes remainder) ≡ encode_lower bytes
   both_written = rw (split quotient, split remainder) (all_woven bytes is)
 
--- what two parts have, one after the other
 pub encode_parts : (n : ℕ) (bytes : List ℕ) → encode_lower (take n bytes) ++ encode_lower (drop n bytes) ≡ encode_lower bytes
 unfolding encode_with
 encode_parts zero bytes = refl
@@ -98,12 +98,12 @@ encode_front (suc n) [] = rw (double n) refl
 encode_front (suc n) (byte ∷ rest) =
     rw (double n) (ap (λ later. digit (byte / 16) ∷ digit (byte % 16) ∷ later) (encode_front n rest))
 
--- the digits of n bytes were written from a position on
+-- the digits of n bytes were written from `at` on
 abbrev pub Writes : List ℕ → List ℕ → List ℕ → ℕ → ℕ → Type 0
 Writes bytes old new at n =
     (take (2 * at + 2 * n) new ≡ take (2 * at) old ++ encode_lower (take n (drop at bytes))) × (length new ≡ length old)
 
--- what is before a position has its digits, as many as there are bytes
+-- the bytes before `at` have their digits in `place`
 abbrev pub IsWritten : List ℕ → List ℕ → ℕ → Type 0
 IsWritten bytes place at = (length place ≡ 2 * length bytes) × (take (2 * at) place ++ encode_lower (drop at bytes) ≡ encode_lower bytes)
 
@@ -118,25 +118,22 @@ module _ (bytes old new : List ℕ) (at n : ℕ) where
             ),
       )
 
-  -- what is before an earlier position, too
   earlier : (far : ℕ) → at ≤ far → far ≤ length bytes → IsWritten bytes old far → take (2 * at) old ≡ encode_lower (take at bytes)
   earlier far before inside written =
-      let long : 2 * far ≤ length old = omega (arith, written.0, inside) in
-      let size : length (take (2 * far) old) ≡ 2 * far = length-take-le (2 * far) old long in
       sym (take-take (2 * at) (2 * far) old (omega (arith, before)))
-      ∙ sym (take-append-le (2 * at) (take (2 * far) old) (encode_lower (drop far bytes)) (omega (arith, size, before)))
+      ∙ sym (take-append-le (2 * at) (take (2 * far) old) (encode_lower (drop far bytes))
+      (omega (arith, (length-take-le (2 * far) old (omega (arith, written.0, inside))), before)))
       ∙ ap (take (2 * at)) written.1 ∙ encode_front at bytes
 
-  -- the last n bytes are written, and those before them were
-  pub all_written : (far : ℕ) → at + n ≡ length bytes → at ≤ far → far ≤ length bytes → IsWritten bytes old far → Writes bytes old new at n →
+  pub all_written : (far : ℕ) → at + n ≡ length bytes → at ≤ far → far ≤ length bytes → IsWritten bytes old far
+      → Writes bytes old new at n →
       new ≡ encode_lower bytes
   all_written far end before inside written writes =
-      let rest : take n (drop at bytes) ≡ drop at bytes = take_all n (drop at bytes) (omega (arith, length-drop at bytes, end)) in
-      let front : take (2 * at) old ≡ encode_lower (take at bytes) = earlier far before inside written in
-      let whole : take (2 * at + 2 * n) new ≡ new = take_all (2 * at + 2 * n) new (omega (arith, writes.1, written.0, end)) in
-      sym whole ∙ writes.0 ∙ rw (front, rest) (encode_parts at bytes)
+      sym (take_all (2 * at + 2 * n) new (omega (arith, writes.1, written.0, end))) ∙ writes.0
+      ∙ rw ((earlier far before inside written), (take_all n (drop at bytes) (omega (arith, length-drop at bytes, end))))
+      (encode_parts at bytes)
 
--- what a digit is worth, as it is read
+-- a digit's value, as it is read
 
 abbrev letter_of : ℕ → ℕ
 letter_of digit = (bit_or digit 32 + 159) % 256
@@ -162,4 +159,4 @@ module _ (digit : ℕ) (below : digit < 256) where
     letter_right is_letter = rw (le-ltb ((digit + 208) % 256) 10 no_number, lt-ltb (letter_of digit) 6 is_letter) at worth_right
 
     pub none_right : 6 ≤ letter_of digit → 255 ≡ value_or_none digit
-    none_right no_letter = rw (le-ltb ((digit + 208) % 256) 10 no_number, le-ltb (letter_of digit) 6 no_letter) at worth_right
+    none_right no_letter = grind (arith, letter_of, no_letter, worth_right)

@@ -1,6 +1,6 @@
--- A script as far as it was read: what it gives, whatever follows. Each lemma reads one byte more.
+-- What a script read so far gives, whatever follows. Each lemma reads one more byte.
 use Rattle.std.proofs.Common.{◌≡◌, ◌≢◌, ◌<◌, ◌≤◌, ◌+◌, ◌-◌, ℕ, suc, List, ◌∷◌, ◌++◌, length, Option, Some, None, if◌then◌else◌, nat_lt, ◌==◌, refl, arith, append_assoc, length-append, eq-eqb, []}
-use Rattle.mote_text.proofs.Common.{nat_tests, Input, with_line, read_line, line_limit, script_limit, inputs, read_lines, whole_lines, read_on, append-nil, End, preceded_by, Before}
+use Rattle.mote_text.proofs.Common.{Input, with_line, read_line, line_limit, script_limit, inputs, read_lines, whole_lines, read_on, append-nil, End, preceded_by, Before}
 use Rattle.mote_text.proofs.WholeLines.{inputs_of_short, whole_lines_stay, lines_end_whole}
 use Rattle.mote_text.proofs.Bytewise.{inputs_by_bytes}
 
@@ -13,7 +13,7 @@ abbrev pub Gives : List ℕ → List Input → End → Type 0
 Gives taken earlier end = (rest : List ℕ) → inputs (taken ++ rest) ≡ (earlier, end)
 
 pub start : Before [] [] 1 []
-start = grind (arith, nat_tests, inputs_by_bytes)
+start = grind (arith, inputs_by_bytes)
 
 -- reading on
 
@@ -39,23 +39,21 @@ module _ {taken : List ℕ} {earlier : List Input} {number : ℕ} {line : List �
 
   next : length taken < script_limit → (rest : List ℕ) →
       inputs ((taken ++ byte ∷ []) ++ rest) ≡ preceded_by earlier (read_on number line (suc room_behind) (byte ∷ rest))
-  next room rest = grind (arith, nat_tests, length-append, append_assoc)
+  next room rest = grind (arith, length-append, append_assoc)
 
-  -- a byte of the present line
+  -- a byte of the current line
   pub another_byte : length taken < script_limit → byte ≢ 10 → length line < line_limit →
       Before (taken ++ byte ∷ []) earlier number (line ++ byte ∷ [])
-  another_byte room other fits = grind (arith, nat_tests, whole_lines_stay, read_on_byte, next)
+  another_byte room other fits = grind (arith, whole_lines_stay, read_on_byte, next)
 
-  -- one byte more than a line may have
   pub line_too_long : length taken < script_limit → byte ≢ 10 → line_limit ≤ length line
       → Gives (taken ++ byte ∷ []) earlier (End.BadLine number)
-  line_too_long room other full = grind (arith, nat_tests, read_on_byte, append-nil, next)
+  line_too_long room other full = grind (arith, read_on_byte, append-nil, next)
 
   line_ends : (read : Option (Option Input)) → length taken < script_limit → byte ≡ 10 → read_line line ≡ read → (rest : List ℕ) →
       inputs ((taken ++ byte ∷ []) ++ rest) ≡ preceded_by earlier (with_line number read (read_on (number + 1) [] room_behind rest))
-  line_ends read room is_end says rest = grind (arith, nat_tests, read_on_byte, next)
+  line_ends read room is_end says rest = grind (arith, read_on_byte, next)
 
-  -- at a line's end all lines are whole
   whole_at_end : (inputs_so_far : List Input) → length taken < script_limit → byte ≡ 10 →
       ((rest : List ℕ) → inputs ((taken ++ byte ∷ []) ++ rest) ≡ preceded_by inputs_so_far (read_on (number + 1) [] room_behind rest)) →
       read_lines 1 End.Finished (whole_lines (taken ++ byte ∷ [])) ≡ (inputs_so_far, End.Finished)
@@ -85,6 +83,5 @@ module _ {taken : List ℕ} {earlier : List Input} {number : ℕ} {line : List �
       → Gives (taken ++ byte ∷ []) earlier (End.BadLine number)
   line_of_no_form room is_end says = λ rest. rw (append-nil earlier) at (line_ends None room is_end says rest)
 
-  -- one byte more than a script may have
   pub script_too_long : script_limit ≤ length taken → Gives (taken ++ byte ∷ []) earlier End.TooLong
-  script_too_long full = grind (arith, nat_tests, read_on_past_limit, append-nil, append_assoc)
+  script_too_long full = grind (arith, read_on_past_limit, append-nil, append_assoc)

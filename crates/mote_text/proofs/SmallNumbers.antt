@@ -1,11 +1,11 @@
--- Each number below 256 is in a table, at eight times itself: all are tried.
+-- Each number below 256 is in a table, at 8 times itself: all are tried.
 use Rattle.std.proofs.Common.{◌≡◌, ◌+◌, ◌*◌, ◌<◌, ◌≤◌, ◌++◌, ℕ, List, Bool, true, ◌&&◌, ◌==◌, decimal, codes, drop, length, nat_le, slice_index, take, refl, arith}
 use Rattle.std.specs.Fmt.{digits}
 use Rattle.std.specs.Str.{bytes_eq}
 use Rattle.std.proofs.lemmas.Bool.{eqb-true}
 use Rattle.std.proofs.lemmas.Slice.Eq.{bytes_eq-Decides}
 use Rattle.mote_text.specs.Code.SmallNumbers.{HasSmallNumbers}
-use Rattle.mote_text.proofs.Common.{and_parts, nat_tests}
+use Rattle.mote_text.proofs.Common.{and_parts}
 use Rattle.mote_text.proofs.EachByte.{holds_at, holds_below}
 
 abbrev is_right : List ℕ → ℕ → Bool
@@ -26,4 +26,4 @@ unfolding digits
 all_narrow = refl
 
 pub narrow : (n : ℕ) → n < 256 → length (decimal n) ≤ 3
-narrow n below = grind (arith, nat_tests, holds_at is_narrow 256 n all_narrow below)
+narrow n below = grind (arith, holds_at is_narrow 256 n all_narrow below)

@@ -1,4 +1,4 @@
--- The numbers of the code are those of the definitions.
+-- The code's numbers are those of the definitions.
 use Rattle.std.proofs.Common.{◌≡◌, [], ◌∷◌, refl}
 use Rattle.mote_types.specs.EventNumbers as said
 use Rattle.mote_types.specs.declared.event.TheConstants as code

@@ -1,4 +1,4 @@
--- What a list of applications says, after a change of one.
+-- What a list of applications says after one changed.
 use Rattle.std.proofs.Common.{◌≡◌, ◌≢◌, ◌<◌, ◌≤◌, ◌+◌, ◌-◌, ℕ, zero, suc, nat_lt, List, [], ◌∷◌, length, get_or, slice_get, slice_set, refl, ap, arith, true, false, Bool, le-ltb, ltb-false, ◌∙◌}
 use Rattle.mote_types.specs.declared.event.Stimulus.{Stimulus}
 use Rattle.mote_types.specs.declared.call.Call.{Call}
@@ -50,7 +50,6 @@ module _ {B : Type 0} (says : B → List Stimulus → Call) where
       says_of says (slice_set apps (q - 4) b) p l ≡ says_of says apps p l
   says_of_set_other apps p q b l h ne = says_of_other apps p q b l (nat_lt p 4) refl h ne
 
--- an element that was not written is there as it was
 pub slice_get_set_other : {X : Type 0} (xs : List X) (i j : ℕ) (x : X) → j ≢ i → slice_get (slice_set xs i x) j ≡ slice_get xs j
 slice_get_set_other [] i j b h = refl
 slice_get_set_other (x ∷ xs) zero zero b h = absurd (h refl)

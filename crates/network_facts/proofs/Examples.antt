@@ -1,4 +1,4 @@
--- Lines of a network, captures and flights at small values.
+-- Examples: lines of a network, captures and flights.
 use Rattle.std.proofs.Common.{◌≡◌, ℕ, List, [], ◌∷◌, map, true, false, codes, Some, None, refl}
 use Rattle.std.specs.Fmt.{digits}
 use Rattle.hex.specs.Hex.{decode_pairs}
@@ -27,7 +27,7 @@ line_of_a_mote : network_line_text (NetworkLine.Mote 2 (Line.Input (Input.Tick 3
 unfolding digits
 line_of_a_mote = refl
 
--- there is no mote 0, and a mote's script isn't malformed
+-- no mote 0, and a mote's script isn't malformed
 no_line : map is_network_line (NetworkLine.Lost 1 0 ∷ NetworkLine.Mote 1 (Line.Ending (Ending.BadLine 3)) ∷ []) ≡ false ∷ false ∷ []
 unfolding is_line
 no_line = refl
@@ -63,7 +63,7 @@ module _ (digits : Bor (List ℕ)) where
       NetworkLine.Clock 3 ∷ NetworkLine.Mote 2 (Line.Input (Input.Frame digits)) ∷ NetworkLine.Mote 2 (Line.Note (Note.Sent digits))
       ∷ NetworkLine.Clock 4 ∷ NetworkLine.Mote 2 (Line.Note (Note.Lost 1)) ∷ []
 
-  -- the frame was sent at 3: neither one that is heard nor one that is lost is sent
+  -- sent at 3: frames that are heard or lost are not sent
   sent : sends 0 lines ≡ record { clock = 3; digits = digits } ∷ []
   sent = refl
 
@@ -75,7 +75,7 @@ module _ (digits : Bor (List ℕ)) where
 abbrev flight : Flight
 flight = record { from = 1; to = 2; sent = 0; ended = 1; fate = Fate.Heard }
 
--- the delay has to be that of the link, which leads from 1 to 2
+-- the link from 1 to 2, with its delay
 ways : map (is_way (5 ∷ 8 ∷ []) flight)
     (record { from = 1; to = 2; delay = 3 } ∷ record { from = 1; to = 2; delay = 2 } ∷ record { from = 2; to = 1; delay = 3 } ∷ [])
     ≡ true ∷ false ∷ false ∷ []

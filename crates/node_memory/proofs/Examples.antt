@@ -9,7 +9,7 @@ use Rattle.mote_types.specs.declared.call.Call.{Call}
 use Rattle.mote_types.specs.declared.refusal.Refusal.{Refusal}
 use Rattle.mote_types.specs.declared.reply.Reply.{Reply}
 
--- the bytes of a live block are in the arena, and those of two different blocks share none
+-- a live block's bytes are in the arena, and two blocks share none
 module _ (m : PlacedMemory) (lie : BlocksLieApart m) where
   abbrev begin : {name : BlockName} {bytes : List ℕ} → IsReadFrom name bytes m.layout → ℕ
   begin {name} from = from.extent.at + header_of name m.layout
@@ -31,12 +31,12 @@ module _ (m : PlacedMemory) (lie : BlocksLieApart m) where
         | inr behind ↦ grind arith
       ]
 
--- a refused call moves no block, whatever the refusal
+-- a refused call moves no block
 none_moves : (call : Call) (reply : Reply) (old new : PlacedMemory) → LeavesAll call reply old new → (name : BlockName)
     → (extent_named name new.layout ≡ extent_named name old.layout) × (block_named name new.contents ≡ block_named name old.contents)
 none_moves call reply old new leaves name = grind arith
 
--- where the heap does not lack room, it changes nothing at all
+-- a refusal for another reason than room changes nothing at all
 same_where_in_use : (b n : ℕ) (old new : PlacedMemory) → LeavesAll (Call.HeapAlloc b n) (Reply.Refused Refusal.InUse) old new → new ≡ old
 same_where_in_use b n old new leaves = leaves.rest refl
 
@@ -48,7 +48,7 @@ same_where_managed_lacks_room : (h n : ℕ) (old new : PlacedMemory)
     → LeavesAll (Call.MmemAlloc h n) (Reply.Refused Refusal.NoRoom) old new → new ≡ old
 same_where_managed_lacks_room h n old new leaves = leaves.rest refl
 
--- a read changes no block, and a call on one kind leaves the blocks of the others, the last names among them
+-- a read changes no block, and a call on one kind changes no block of another
 reads_change_none : (m : Memory)
     → map (λ call. changed_block call 4 m) (Call.MmemRead 0 0 1 ∷ Call.HeapRead 0 0 1 ∷ Call.MembRead 0 0 0 1 ∷ Call.HeapStats ∷ [])
     ≡ replicate 4 None
@@ -64,7 +64,7 @@ last_names_stay old new leaves = (
   leaves (BlockName.Pooled 3 15) tt (λ e. absurd (cc)),
 )
 
--- what is said of refused calls holds where the reply is a refusal, whichever; of another reply nothing is said
+-- a fact on refused calls holds if the reply is a refusal
 holds_where_refused : (fact : Type 0) (refusal : Refusal) → IfRefused (Reply.Refused refusal) fact → fact
 holds_where_refused fact refusal held = held
 

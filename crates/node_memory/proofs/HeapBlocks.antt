@@ -6,7 +6,6 @@ use Rattle.node_memory.specs.HeapCalls.{done_or_no_room}
 use Rattle.node_memory.specs.MemoryCalls.{on_heap}
 use Rattle.node_memory.specs.Memory.{Memory, with_heap}
 use Rattle.std.proofs.Common.{◌≡◌, ℕ, true, false, List, [], ◌∷◌, refl, arith, map, Option, Some, None, subst, not, filter, find, if◌then◌else◌, is_some, ◌==◌}
-use Rattle.std.proofs.lemmas.Bool.Decides.{nat_tests}
 use Rattle.std.specs.Option.{option_map_or, option_map}
 use Rattle.mote_types.specs.BlockNames.{number_of}
 use Rattle.mote_types.specs.declared.refusal.Refusal.{Refusal}
@@ -21,24 +20,24 @@ bytes_in name blocks = option_map (λ (block : Block). block.bytes) (find (has_n
 
 added : (block : Block) (name : ℕ) (blocks : List Block) → bytes_in block.name blocks ≡ None
     → bytes_in name (placed block blocks) ≡ (if block.name == name then Some block.bytes else bytes_in name blocks)
-added block name [] e = grind (arith, nat_tests)
-added block name (x ∷ xs) e = grind (arith, nat_tests, added block name xs)
+added block name [] e = grind arith
+added block name (x ∷ xs) e = grind (arith, added block name xs)
 
 removed : (gone name : ℕ) (blocks : List Block)
     → bytes_in name (filter (λ block. not (has_name gone block)) blocks) ≡ (if gone == name then None else bytes_in name blocks)
-removed gone name [] = grind (arith, nat_tests)
-removed gone name (x ∷ xs) = grind (arith, nat_tests, removed gone name xs)
+removed gone name [] = grind arith
+removed gone name (x ∷ xs) = grind (arith, removed gone name xs)
 
 rewritten : (changed : ℕ) (change : List ℕ → List ℕ) (name : ℕ) (blocks : List Block)
     → bytes_in name (map (λ block. if has_name changed block then record block { bytes = change block.bytes } else block) blocks)
     ≡ (if changed == name then option_map change (bytes_in changed blocks) else bytes_in name blocks)
-rewritten changed change name [] = grind (arith, nat_tests)
-rewritten changed change name (x ∷ xs) = grind (arith, nat_tests, rewritten changed change name xs)
+rewritten changed change name [] = grind arith
+rewritten changed change name (x ∷ xs) = grind (arith, rewritten changed change name xs)
 
 module _ (name : ℕ) where
   found : (block : Block) (blocks : List Block) → find (has_name name) blocks ≡ Some block → block.name ≡ name
   found block [] e = absurd (cc)
-  found block (x ∷ xs) e = grind (arith, nat_tests, found block xs)
+  found block (x ∷ xs) e = grind (arith, found block xs)
 
   -- one name stands for these bytes from now on, or for none
   pub record Becomes (bytes : Option (List ℕ)) (old new : HeapStore) : Type 0 where
@@ -49,10 +48,13 @@ moved-becomes : (at : Place) (block : Block) (n : ℕ) (heap : HeapStore)
 moved-becomes at block n heap =
     record {
       each = λ other.
-          let same : (block.name == block.name) ≡ true = grind (arith, nat_tests) in
-          let gone : bytes_in block.name (without_block block.name heap).blocks ≡ None = grind (arith, removed) in
-          let first = added (block_at at block.name (resized n block.bytes)) other (without_block block.name heap).blocks gone in
-          grind (arith, removed);
+          let same : (block.name == block.name) ≡ true = grind arith in
+          grind (
+            arith,
+            removed,
+            added (block_at at block.name (resized n block.bytes)) other (without_block block.name heap).blocks
+                (grind (arith, removed)),
+          );
     }
 
 none_live : (o : Option (List ℕ)) → is_some o ≡ false → o ≡ None
@@ -73,7 +75,6 @@ module _ {refusal : Option Refusal} (m : Memory) {new : Memory} (accepted : refu
 
 module _ (p b : ℕ) where
   module _ (bytes : Option (List ℕ)) (old : HeapStore) where
-    -- where these are the results of a call, block b of p becomes this
     pub record Results (result : Option HeapStore) : Type 0 where
       pub each : (new : HeapStore) → result ≡ Some new → Becomes (number_of p b) bytes old new
 
@@ -114,4 +115,4 @@ module _ (p b : ℕ) where
 
   module _ (heap : HeapStore) where
     pub free-results : Results None heap (Some (freed p b heap))
-    free-results = grind (arith, one_result, removed)
+    free-results = grind (arith, removed)

@@ -1,4 +1,4 @@
--- What a pool with its lists shows after a call on one of the two.
+-- A pool and its lists after a call on one of them.
 use Rattle.arena_core.specs.Code.Contents.{Contents}
 use Rattle.heap_core.proofs.Callers.{heap_of-elsewhere, IsLaidOut-elsewhere}
 use Rattle.heap_core.specs.HeapStore.{HeapStore}
@@ -34,7 +34,6 @@ use Rattle.arena_core.specs.Code.Outside.{ChangesOnly}
 use Rattle.memb_core.proofs.Callers.{pool_of-elsewhere, list_of-elsewhere, AreLinked-elsewhere}
 use Rattle.heap_core.specs.Code.HeapBytes as heap
 use Rattle.mmem_core.specs.Code.HandleTable as managed
-use Rattle.mmem_core.proofs.Callers as managed_calls
 use Rattle.mmem_core.specs.ManagedStore.{block_of, ManagedStore, with_block, with_bytes}
 use Rattle.memb_core.specs.Code.PoolBytes as pools
 
@@ -47,7 +46,6 @@ shown pool first second = record { pool = pool; first = first; second = second }
 pub same-shown : {p q : BlockPool} {f g s t : List ℕ} → p ≡ q → f ≡ g → s ≡ t → shown p f s ≡ shown q g t
 same-shown a b c = rw (a, b, c) refl
 
--- a call on one list changed only that list
 pub seen-list : (name : ListName) (pool : PoolTable) (old new : ListHeads) (before after list : List ℕ)
     → LeavesOthers name pool old new before after
     → list_of name new pool after ≡ list → with_list name list (seen (listed_of pool old) before) ≡ seen (listed_of pool new) after
@@ -56,7 +54,6 @@ seen-list ListName.First pool old new before after list leaves is =
 seen-list ListName.Second pool old new before after list leaves is =
     same-shown (sym leaves.blocks) (sym (leaves.list ListName.First (λ e. absurd (cc)))) (sym is)
 
--- a call on the blocks changed no list
 pub seen-blocks : (lists : ListHeads) (old new : PoolTable) (before after : List ℕ) (blocks : BlockPool)
     → ((name : ListName) → list_of name lists new after ≡ list_of name lists old before)
     → pool_of new after ≡ blocks → with_blocks blocks (seen (listed_of old lists) before) ≡ seen (listed_of new lists) after
@@ -77,7 +74,7 @@ pub is_holder-is : (name : ListName) (b : ℕ) (lists : ListHeads) (pool : PoolT
     ≡ has_number b (list_of name lists pool bytes)
 is_holder-is ListName.First b lists pool bytes linked = grind arith
 is_holder-is ListName.Second b lists pool bytes linked =
-    let apart = linked.apart b ListName.First ListName.Second (λ e. absurd (cc)) in grind arith
+    grind (arith, linked.apart b ListName.First ListName.Second (λ e. cc))
 
 abbrev pub seen_by : List ℕ → ListedPool → PoolWithLists
 seen_by bytes l = seen l bytes
@@ -94,19 +91,18 @@ module _ (at len : ℕ) (before after : List ℕ) (changes : ChangesOnly at len 
       → LieBehind from listed after × (map (seen_by after) listed ≡ map (seen_by before) listed)
   behind-same from [] le lie = (tt, refl)
   behind-same from (l ∷ later) le lie =
-      let apart : (l.pool.span.at + l.pool.span.len ≤ at) ⊎ (at + len ≤ l.pool.span.at) = inr (omega (arith, lie.0)) in
-      let rest = behind-same (end_of l.pool.span) later (omega (arith, lie.0)) lie.2 in (
+      let apart = inr (omega arith) in
+      let rest = behind-same (end_of l.pool.span) later (omega arith) lie.2 in (
         (lie.0, AreLinked-elsewhere l.pool at len before after changes apart l.lists lie.1, rest.0),
         ap₂ (λ s later. s ∷ later) (seen-elsewhere l apart) rest.1,
       )
 
--- the k-th pool
 pub pool-at : (k from : ℕ) (listed : List ListedPool) (l : ListedPool) (bytes : List ℕ) → LieBehind from listed bytes
     → slice_get listed k ≡ Some l → (from ≤ l.pool.span.at) × AreLinked l.lists l.pool bytes
 pool-at k from [] l bytes lie there = absurd (cc)
 pool-at zero from (first ∷ later) l bytes lie there = grind arith
 pool-at (suc k) from (first ∷ later) l bytes lie there =
-    let rest = pool-at k (end_of first.pool.span) later l bytes lie.2 there in (omega (arith, lie.0, rest.0), rest.1)
+    let rest = pool-at k (end_of first.pool.span) later l bytes lie.2 there in (omega arith, rest.1)
 
 -- a call on it changed only that one
 module _ (d new : ListedPool) (before after : Contents) (linked : AreLinked new.lists new.pool after.bytes) where
@@ -146,12 +142,12 @@ module _ {old new : HandleTable} {heap : Region} {listed : List ListedPool} {bef
 
   pools_same : LieBehind (end_of heap.span) listed after.bytes × (map (seen_by after.bytes) listed ≡ map (seen_by before.bytes) listed)
   pools_same = behind-same old.span.at old.span.len before.bytes after.bytes kept.bytes (end_of heap.span) listed
-      (omega (arith, laid_out.behind)) laid_out.pools
+      (omega arith) laid_out.pools
 
   pub after-managed : (name : ℕ) (block : Option (List ℕ)) → store_of new after.bytes ≡ changed name block (store_of old before.bytes)
       → IsLaidOut (layout_of new heap listed after.bytes)
   after-managed name block is =
-      let names : length new.places ≡ length old.places = grind (arith, length-map, block_in, length-set) in
+      let names : length new.places ≡ length old.places = grind (arith, length-map, length-set) in
       let still = IsLaidOut-elsewhere heap old.span.at old.span.len before.bytes after.bytes kept.bytes apart laid_out.heap in
       grind (arith, pools_same)
 
@@ -166,7 +162,7 @@ module _ {old new : HandleTable} {heap : Region} {listed : List ListedPool} {bef
   frame-is slot frame below is =
       let count : length (store_of old before.bytes).blocks ≡ 272 = grind (arith, length-map, block_in) in
       ap (block_of 3 slot) is ∙ get_or-set_same (store_of old before.bytes).blocks (number_of 3 slot) frame None
-      (omega (arith, count, below))
+      (omega (arith, below))
 
 -- a call on the heap left managed memory and the pools
 module _ {table : HandleTable} {old new : Region} {listed : List ListedPool} {before after : Contents}
@@ -177,16 +173,15 @@ module _ {table : HandleTable} {old new : Region} {listed : List ListedPool} {be
       laid_out.pools)
 
   pub after_heap : IsLaidOut (layout_of table new listed after.bytes)
-  after_heap = grind (arith, kept.span, lie_behind)
+  after_heap = grind (arith, lie_behind)
 
   -- for a memory that shows what was there
   pub heap-shown : (m : PlacedMemory) (h : HeapStore) → placed (layout_of table old listed before.bytes) ≡ m → heap_of new after.bytes ≡ h
       → contents_of (layout_of table new listed after.bytes) ≡ with_heap h m.contents
   heap-shown m h view is = grind (arith, lie_behind)
 
--- A frame goes into a block that is made for it.
+-- A frame goes into a block that is allocated for it, then written.
 
--- a block that is made and then written over
 written-block : (p h : ℕ) (bytes : List ℕ) (store new : ManagedStore) → number_of p h < length store.blocks
     → new ≡ with_block p h (Some (zeros (length bytes))) store
     → with_bytes p h 0 bytes new ≡ with_block p h (Some bytes) store
@@ -203,7 +198,7 @@ module _ (slot : ℕ) (bytes : List ℕ) {old new : HandleTable} {heap : Region}
   is : store_of new after.bytes ≡ with_block 3 slot (Some bytes) (store_of old before.bytes)
   is =
       let count : length (store_of old before.bytes).blocks ≡ 272 = grind (arith, length-map, block_in) in
-      wrote_is ∙ written-block 3 slot bytes (store_of old before.bytes) (store_of new middle.bytes) (omega (arith, count, below)) made_is
+      wrote_is ∙ written-block 3 slot bytes (store_of old before.bytes) (store_of new middle.bytes) (omega (arith, below)) made_is
 
   pub after-frame : IsLaidOut (layout_of new heap listed after.bytes)
   after-frame = after-managed laid_out kept _ _ is
@@ -225,14 +220,12 @@ module _ {table : HandleTable} {heap : Region} (k : ℕ) {listed : List ListedPo
   after-pool =
       let p = (get_or listed k d).pool in
       let far = (pool-at k (end_of heap.span) listed (get_or listed k d) before.bytes laid_out.pools (slice_get-get_or listed k d lt)).0 in
-      let farther : table.span.at + table.span.len ≤ p.span.at = omega (arith, far, laid_out.behind) in
       let rest = one-changed d new before after linked k (end_of heap.span) listed lt laid_out.pools kept in
-      let store = managed_calls.store_of-elsewhere table p.span.at p.span.len before.bytes after.bytes kept.bytes (inl farther) in
       let same = heap_of-elsewhere heap p.span.at p.span.len before.bytes after.bytes kept.bytes (inl far) laid_out.heap in
       let still = IsLaidOut-elsewhere heap p.span.at p.span.len before.bytes after.bytes kept.bytes (inl far) laid_out.heap in
       (grind (arith, length-set), grind arith)
 
-  -- what is asked of a pool is asked of the memory
+  -- a request to a pool is one to the memory
   pub asked-pool : (call : Call) (reply : Reply) (p : ℕ) → nat_lt 3 k ≡ false → pool_called call ≡ Some k
       → IsAnswered call (seen (get_or listed k d) before.bytes) (seen new after.bytes) reply
       → ask call p (contents_of (layout_of table heap listed before.bytes))

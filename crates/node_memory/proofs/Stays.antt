@@ -1,4 +1,4 @@
--- What a refused call leaves as it is and where it is.
+-- A refused call leaves everything in its position.
 use Rattle.arena_core.specs.Code.Extents.{Extent}
 use Rattle.arena_core.specs.declared.span.Span.{Span}
 use Rattle.heap_core.specs.HeapStore.{HeapStore, Block}
@@ -25,8 +25,8 @@ pools_stay (l ∷ later) before after b zero e = grind arith
 pools_stay (l ∷ later) before after b (suc k) e = pools_stay later before after b k (ap (drop 1) e)
 
 abbrev extent : Span → HeapStore → ℕ → ℕ → Option Extent
-extent span heap p b = option_map (λ (block : Block). let e : Extent = record { at = span.at + block.at; len = heap.header + block.room } in
-    e) (live_block p b heap)
+extent span heap p b =
+    option_map (λ (block : Block). (record { at = span.at + block.at; len = heap.header + block.room })) (live_block p b heap)
 
 pub refused_leaves : (call : Call) (reply : Reply) (old new : PlacedMemory) → IfRefused reply (new ≡ old)
     → IfRefused reply (LeavesAll call reply old new)
@@ -43,7 +43,6 @@ module _ (table : HandleTable) (old new : Region) (listed : List ListedPool) whe
   extents before after span same (BlockName.Pooled k b) =
       pools_stay listed before after b k (ap (λ (m : Memory). m.pools) same)
 
-  -- a call on the heap that finds no room
   pub heap_leaves : (before after : List ℕ)
       (m : PlacedMemory) (call : Call)
       → new.span ≡ old.span → placed (layout_of table old listed before) ≡ m → contents_of (layout_of table new listed after) ≡ m.contents
@@ -53,5 +52,5 @@ module _ (table : HandleTable) (old new : Region) (listed : List ListedPool) whe
       let shown = same ∙ ap (λ (m : PlacedMemory). m.contents) (sym view) in
       rw (← view) record {
         blocks = record { contents = shown; extents = extents before after span shown };
-        rest = λ e. absurd (cc);
+        rest = λ e. cc;
       }

@@ -1,4 +1,4 @@
--- Lines that are there again.
+-- Lines that repeat.
 use Rattle.std.proofs.Common.{◌≡◌, ◌∙◌, ◌≤◌, ◌+◌, ◌-◌, ℕ, zero, suc, Bool, false, not, List, [], ◌∷◌, All, inl, inr, refl, sym, subst, bytes_eq, slice_index_or, arith}
 use Rattle.std.proofs.lemmas.Bool.{cases_lt}
 use Rattle.std.proofs.lemmas.Bool.Decides.{nat_tests}
@@ -17,7 +17,7 @@ text_is (first ∷ lines) (suc place) line none = text_is lines place line none
 same_text : (one other : List ℕ) (differ : Bool) → differ ≡ not (bytes_eq one other) → differ ≡ false → one ≡ other
 same_text one other differ is none = grind (arith, nat_tests, bytes_eq-Decides)
 
--- one more line is the one n before it
+-- one more line repeats the one n before it
 pub one_more : (lines : List (Bor (List ℕ))) (period first end : ℕ) (line : Bor (List ℕ)) (differ : Bool) → line.now ≡ []
     → AreAgain (bytes_of lines) period first end
     → differ ≡ not (bytes_eq (slice_index_or lines end line).now (slice_index_or lines (end - period) line).now) → differ ≡ false
@@ -31,7 +31,7 @@ one_more lines period first end line differ none so_far is same = λ place begin
           (text_is lines end line none ∙ same_text _ _ differ is same ∙ sym (text_is lines (end - period) line none))
     ]
 
--- and n lines more
+-- n more lines
 pub more_again : (lines : List (List ℕ)) (period first end : ℕ) → period ≤ end → AreAgain lines period first end
     → AreAgain lines (end - (end - period)) end (end + (end - (end - period))) → AreAgain lines period first (end + period)
 more_again lines period first end fits so_far more = λ place begins within.

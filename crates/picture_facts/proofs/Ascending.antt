@@ -11,7 +11,6 @@ pub Ascend-append : (first : ℕ) (numbers : List ℕ) (number : ℕ) → Ascend
 Ascend-append first [] number grows = (grows, omega arith)
 Ascend-append first (one ∷ numbers) number grows = (grows.0, Ascend-append (one + 1) numbers number grows.1)
 
--- the number that follows, or none
 pub Ascend-may : (first : ℕ) (old new : List ℕ) (number : ℕ) → MayAppend number old new → Ascend first old number
     → Ascend first new (number + 1)
 Ascend-may first old new number (inl same) grows =

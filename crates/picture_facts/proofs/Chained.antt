@@ -8,7 +8,7 @@ use Rattle.picture_facts.specs.declared.facts.chains.Chain.{Chain}
 use Rattle.picture_facts.specs.Chains.{blocks_behind}
 use Rattle.picture_facts.specs.Code.Blocks.{HaveBlocks}
 
--- after one more chain its list has its blocks
+-- its list has its blocks
 blocks_more : (list : ℕ) (before : List ℕ) (chains : List Chain) (chain : Chain)
     → blocks_behind list before (chains ++ chain ∷ [])
     ≡ (if chain.list == list then chain.blocks.items else blocks_behind list before chains)
@@ -38,7 +38,6 @@ none_at (suc count) (suc list) = none_at count list
 pub have_none : (lists : List (List ℕ)) → lists ≡ replicate 8 [] → HaveBlocks lists []
 have_none lists empty = subst (λ lists. HaveBlocks lists []) (sym empty) (record { size = refl; blocks = λ list is. none_at 8 list })
 
--- the same where whole lists are stored
 pub set_blocks : (lists : List (Vec ℕ)) (new : List Chain) (kept : Vec ℕ) (chains : List Chain) (chain : Chain)
     → kept.items ≡ chain.blocks.items → new ≡ chains ++ chain ∷ [] → HaveBlocks (map (λ blocks. blocks.items) lists) chains → chain.list < 8
     → HaveBlocks (map (λ blocks. blocks.items) (set lists chain.list kept)) new

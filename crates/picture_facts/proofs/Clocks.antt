@@ -11,7 +11,7 @@ use Rattle.picture_facts.proofs.Again.{text_is}
 capped_sum : (before ticks most : ℕ) → min (min before most + ticks) most ≡ min (before + ticks) most
 capped_sum before ticks most = omega arith
 
--- at one more line its ticks have gone by
+-- one line later, after its ticks
 pub clock_more : (lines : List (Bor (List ℕ))) (place now ticks : ℕ) (line : Bor (List ℕ)) → line.now ≡ [] → place < length lines
     → now ≡ clock_after (take place (bytes_of lines)) → ticks ≡ ticks_of (get_or lines place line).now
     → min (now + ticks) (2 ^ 64 - 1) ≡ clock_after (take (place + 1) (bytes_of lines))

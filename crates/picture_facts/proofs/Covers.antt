@@ -3,7 +3,7 @@ use Rattle.std.proofs.Common.{◌≡◌, ℕ, ◌+◌, ◌<◌, List, [], ◌∷
 use Rattle.picture_facts.specs.declared.rows.row.Row.{Row}
 use Rattle.picture_facts.specs.Rows.{Cover}
 
--- one more row follows
+-- one more row
 pub Cover-append : (first : ℕ) (rows : List Row) (end : ℕ) (row : Row) → Cover first rows end → row.first ≡ end → 0 < row.count
     → Cover first (rows ++ row ∷ []) (end + row.count)
 Cover-append first [] end row covered begins some = (cc, some, cc)

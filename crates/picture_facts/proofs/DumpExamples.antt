@@ -1,15 +1,14 @@
--- Lines of a dump, at small values.
+-- Examples: lines of a dump.
 use Rattle.std.proofs.Common.{◌≡◌, codes, refl}
 use Rattle.std.specs.Fmt.{digits}
 use Rattle.picture_facts.specs.declared.dump.values.Value.{Value}
 use Rattle.picture_facts.specs.Dump.{time_line, value_line}
 
--- a time
 time : time_line 120 ≡ codes "#120\n"
 unfolding digits
 time = refl
 
--- a number, by the first signal
+-- for the first signal
 number : value_line (Value.Number 5) 0 ≡ codes "b101 !\n"
 unfolding digits
 number = refl

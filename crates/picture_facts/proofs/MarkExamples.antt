@@ -1,4 +1,4 @@
--- The clock at rows, numbers that grow, and what ends in a later row, at small values.
+-- Examples: the clock at rows, numbers that grow, blocks and events that end in a later row.
 use Rattle.std.proofs.Common.{◌≡◌, ◌<◌, ◌≤◌, ℕ, List, [], ◌∷◌, codes, Some, None, refl, arith}
 use Rattle.picture_facts.specs.declared.memory.stay.Stay.{Stay}
 use Rattle.picture_facts.specs.declared.rows.row.Row.{Row}
@@ -17,7 +17,7 @@ row first count = record { first = first; count = count; show = Show.Lines }
 at_begin : clock_after [] ≡ 0
 at_begin = refl
 
--- all lines of a row have gone by at its end, and no other
+-- all lines of a row have passed at its end, and no other
 at_end : row_clock lines (row 0 2) ≡ 5
 at_end = refl
 

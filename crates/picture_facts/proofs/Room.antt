@@ -1,4 +1,4 @@
--- One more block, which has room or hasn't.
+-- One more block, with or without room.
 use Rattle.std.proofs.Common.{◌≡◌, ◌∙◌, ◌<◌, ◌≤◌, ◌+◌, ◌-◌, ◌^◌, inl, inr, ℕ, min, Option, Some, None, unwrap_or, List, [], ◌∷◌, ◌++◌, All, Any, length, take, get_or, refl, arith}
 use Rattle.std.proofs.lemmas.List.{take_more, length-append, get_or_append_left}
 use Rattle.std.proofs.lemmas.Bool.{cases_lt}
@@ -51,7 +51,6 @@ module _ (size : ℕ) where
         )
   ]
 
-  -- as it is reckoned, with what 64 bits count
   pub fits_more : (stays : List Stay) (place : ℕ) (stay : Stay) (first : Option ℕ) (end : ℕ) → place < length stays
       → IsFirstExceeding size (take place stays) first
       → end ≡ min ((get_or stays place stay).at + (get_or stays place stay).taken) (2 ^ 64 - 1) → end ≤ size → size < 2 ^ 32

@@ -9,14 +9,14 @@ use Rattle.picture_facts.specs.declared.marks.Marks.{Marks}
 use Rattle.picture_facts.specs.declared.rows.row.Row.{Row}
 
 module _ (lines : List (List ℕ)) where
-  -- n rows were taken: the clock is that before the next one
+  -- n rows were taken; the clock before the next one
   pub record HasClocks (rows : List Row) (end : ℕ) (before : List ℕ) (place clock : ℕ) (clocks : List ℕ) : Type 0 where
     pub next : ℕ
     pub left : Cover next (drop place rows) end
     pub now : clock ≡ clock_after (take next lines)
     pub told : clocks ≡ before ++ map (row_clock lines) (take place rows)
 
-  -- where each row has one line, the clocks are those at the lines
+  -- with one line for each row, the clocks are those of the lines
   pub plain_clocks : (rows : List Row) (first end : ℕ) → Cover first rows end → All IsPlain rows
       → map (row_clock lines) rows ≡ map (clock_at lines) (range_with_len first (length rows))
   plain_clocks [] first end covered plain = refl
@@ -27,7 +27,7 @@ module _ (lines : List (List ℕ)) where
       ap₂ (λ clock clocks. clock ∷ clocks) (ap (λ n. clock_after (take n lines)) one)
       (plain_clocks rows (first + 1) end left (All-tail IsPlain row rows plain))
 
--- there are as many rows as lines then
+-- then there are as many rows as lines
 pub plain_count : (rows : List Row) (first end : ℕ) → Cover first rows end → All IsPlain rows → end ≡ first + length rows
 plain_count [] first end covered plain = omega (arith, covered)
 plain_count (row ∷ rows) first end covered plain =
@@ -35,7 +35,7 @@ plain_count (row ∷ rows) first end covered plain =
     let left : Cover (first + 1) rows end = subst (λ n. Cover n rows end) (ap (λ n. first + n) one_line.0) covered.2 in
     omega (arith, plain_count rows (first + 1) end left (All-tail IsPlain row rows plain))
 
--- from the first row on, where there is one
+-- from the first row on, if there is one
 pub told_at : (lines : List (List ℕ)) (rows : List Row) (count clock : ℕ) (clocks new : List ℕ)
     → clock ≡ clock_after (take (first_of rows count) lines) → clocks ≡ []
     → ((first end : ℕ) → Cover first rows end → clock ≡ clock_after (take first lines) → new ≡ clocks ++ map (row_clock lines) rows)
@@ -46,7 +46,7 @@ told_at lines (row ∷ rows) count clock clocks new so_far empty told first end 
     told first end covered (so_far ∙ ap (λ line. clock_after (take line lines)) covered.0)
     ∙ ap (λ front. front ++ map (row_clock lines) (row ∷ rows)) empty
 
--- so they are where each line has a row, if the clocks at the rows' ends are known
+-- so are the clocks of lines that each have a row
 pub line_clocks : {E : Type 0} (lines : List (List ℕ)) (rows : List Row) (end : ℕ) (told : Result Marks E) → Cover 0 rows end
     → All IsPlain rows
     → IfOk told (λ marks. (first end : ℕ) → Cover first rows end → marks.clocks.items ≡ map (row_clock lines) rows)

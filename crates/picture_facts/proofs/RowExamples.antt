@@ -1,4 +1,4 @@
--- Lines between two clocks, and lines that are there again, at small values.
+-- Examples: lines between two clocks, and lines that repeat.
 use Rattle.std.proofs.Common.{◌≡◌, ◌<◌, ◌≤◌, ℕ, List, [], ◌∷◌, codes, refl, arith}
 use Rattle.picture_facts.specs.declared.rows.row.Row.{Row}
 use Rattle.picture_facts.specs.declared.rows.row.Show.{Show}
@@ -21,7 +21,7 @@ at_serial = refl
 at_last : clock_at lines 3 ≡ 9
 at_last = refl
 
--- from clock 5 to clock 5 the two lines in the middle are shown, and not the last one too
+-- from clock 5 to clock 5, without the last line
 no_other : LieBetween lines 5 5 (record { first = 1; end = 4 }) → ⊥
 no_other is = let most : 9 ≤ 5 = (is.within 3 (omega arith) (omega arith)).1 in absurd (omega arith)
 
@@ -31,7 +31,6 @@ none_missing is = let less : 5 < 5 = is.before 1 (omega arith) in absurd (omega 
 none_behind : LieBetween lines 0 9 (record { first = 0; end = 3 }) → ⊥
 none_behind is = let more : 9 < 9 = is.behind 3 (omega arith) (omega arith) in absurd (omega arith)
 
--- a line that differs is not there again
 not_again : AreAgain lines 1 1 2 → ⊥
 not_again is = let same = is 1 (omega arith) (omega arith) in cc
 

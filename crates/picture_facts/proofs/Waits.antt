@@ -4,7 +4,7 @@ use Rattle.std.specs.List.{remove}
 use Rattle.std.proofs.lemmas.List.{map-append}
 
 module _ {W P : Type 0} (line : W → ℕ) (posted_in : P → ℕ) where
-  -- the first event of those that wait no longer waits
+  -- the first waiting event no longer waits
   pub one_moved : (waits new : List W) (wait : W) (posted left : List P) (event : P) → 0 < length posted → new ≡ waits ++ wait ∷ []
       → left ≡ remove posted 0 → event ≡ slice_index_or posted 0 event → line wait ≡ posted_in event
       → map line new ++ map posted_in left ≡ map line waits ++ map posted_in posted

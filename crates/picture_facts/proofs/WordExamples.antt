@@ -1,4 +1,4 @@
--- Words for what small lines say.
+-- Examples: words for small lines.
 use Rattle.std.proofs.Common.{◌≡◌, ◌++◌, [], ◌∷◌, codes, refl}
 use Rattle.std.specs.Fmt.{digits}
 use Rattle.transcript_lines.specs.declared.line.Note.{Note}
@@ -14,7 +14,7 @@ no_reason = refl
 a_text : shown_bytes 24 (codes "\n") ≡ opening ++ line_end ++ closing
 a_text = refl
 
--- a byte that is no text makes all numbers
+-- one byte that is no text makes all bytes numbers
 no_text : shown_bytes 24 (111 ∷ 0 ∷ []) ≡ codes "6f 00 "
 no_text = refl
 

@@ -1,4 +1,4 @@
--- What boxes and columns are, at small values.
+-- Examples: boxes and columns.
 use Rattle.std.proofs.Common.{◌≡◌, ℕ, true, false, List, [], ◌∷◌, ◌++◌, Some, None, codes, refl, arith, inl, inr}
 use Rattle.std.specs.Fmt.{digits}
 use Rattle.picture_svg.specs.Parts.{text_of}
@@ -27,11 +27,11 @@ block = record { pid = 4; name = 2; at = 16; taken = 32; size = 20; first = 1; l
 its_box : area_in page column block ≡ record { place = at_place 871 125; width = 90; height = 34 }
 its_box = refl
 
--- what lies beyond the column's bytes stands at its end, and what takes no byte has a pixel
+-- bytes beyond the column are drawn at its end, and an empty block has one pixel
 beyond_the_column : area_in page column (record block { at = 100 }) ≡ record { place = at_place 1006 125; width = 1; height = 34 }
 beyond_the_column = refl
 
--- what doesn't go stays to the end of the rows
+-- a block that is never freed stays to the last row
 never_goes : area_in page column (record block { last = None }) ≡ record { place = at_place 871 125; width = 90; height = 145 }
 never_goes = refl
 
@@ -60,7 +60,7 @@ on_the_heap : heap_title block 8 ≡ codes "heap block 2 of process 4: 20 bytes,
 unfolding digits
 on_the_heap = refl
 
--- behind 8 bytes of header and 20 of length
+-- after 8 bytes of header and 20 of length
 last_four_bytes : beyond block 8 ≡ record block { at = 44; taken = 4 }
 last_four_bytes = refl
 
@@ -92,7 +92,6 @@ heap_words : heap_range 64 1000 3 ≡ codes "0 to 64 of 1000 bytes, at most 3 bl
 unfolding digits
 heap_words = refl
 
--- a text that is never empty
 abbrev words : ℕ → List ℕ
 words bytes = codes "b"
 
@@ -130,7 +129,7 @@ columns_of_both = refl
 nothing_used : pools_text page (pools_of []) [] [] ≡ []
 nothing_used = refl
 
--- its mark stands in the middle of its bar
+-- its mark is in the middle of its bar
 bar : block_area page (pools_of used) 5 (record block { at = 35 }) ≡ record { place = at_place 1513 125; width = 5; height = 34 }
 bar = refl
 

@@ -3,13 +3,11 @@ use Rattle.std.proofs.Common.{◌≡◌, ℕ, Bool, true, false, List, ◌++◌,
 use Rattle.picture_svg.specs.Markup.{IsContent, escaped, element_text}
 use Rattle.picture_svg.specs.Markup.IsContent.{nothing, words, element}
 
--- what was appended, or refused
 pub grown : (old more new : List ℕ) (done : Bool) → new ≡ (if done then old ++ more else old) → IsContent old → IsContent (old ++ more)
     → IsContent new
 grown old more new true e _ whole = subst IsContent (sym e) whole
 grown old more new false e same _ = subst IsContent (sym e) same
 
--- content behind content is content
 pub IsContent-append : {first second : List ℕ} → IsContent first → IsContent second → IsContent (first ++ second)
 IsContent-append {first} f nothing = simp append-nil f
 IsContent-append {first} f (words {before} s text) = rw (← append_assoc first before (escaped text)) (words (IsContent-append f s) text)

@@ -4,7 +4,7 @@ use Rattle.picture_svg.specs.declared.markup.names.Tag.{Tag}
 use Rattle.picture_svg.specs.Markup.{element_text}
 use Rattle.picture_svg.specs.Parts.{Parts, text_of}
 
--- an element without content, around one content after the other
+-- an element around several contents
 pub whole-around : (frame first second third : Parts) (behind grounds over picture : List ℕ) → frame.tag ≡ Tag.Svg → frame.inside ≡ []
     → first ≡ record frame { inside = frame.inside ++ behind } → second ≡ record first { inside = first.inside ++ grounds }
     → third ≡ record second { inside = second.inside ++ over } → picture ≡ text_of third

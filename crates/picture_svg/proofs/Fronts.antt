@@ -1,4 +1,4 @@
--- The front of a list that is no longer than 4.
+-- The first 4 elements of a list, or fewer.
 use Rattle.std.proofs.Common.{◌≡◌, ℕ, min, Bool, List, length, take, ap, ◌∙◌, sym}
 use Rattle.std.proofs.lemmas.List.{take_min}
 

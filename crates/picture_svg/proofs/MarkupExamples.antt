@@ -1,4 +1,4 @@
--- What is markup, and what isn't: a document is one element, with each attribute once, and an opening bracket is no content.
+-- Examples of markup: a document is one element, with each attribute once; an opening bracket is no content.
 use Rattle.std.proofs.Common.{◌≡◌, ◌++◌, ℕ, false, true, List, [], ◌∷◌, codes, refl, ap, subst, arith, get_or, inl, inr, length, ◌⊎◌}
 use Rattle.std.proofs.lemmas.Bool.Decides.{nat_tests}
 use Rattle.std.proofs.lemmas.List.{length-append}
@@ -23,7 +23,7 @@ a_document =
       whole = refl;
     }
 
--- what is a document begins with its element, whose attributes are attributes, and what stands inside is content
+-- a document begins with its element, and has attributes and content
 no_document : IsDocument [] → ⊥
 no_document is = absurd (cc is.whole)
 
@@ -33,7 +33,7 @@ no_element is = let letters_differ : ◌≡◌ {A = ℕ} 111 60 = ap (λ text. g
 holds_content : (text : List ℕ) (is : IsDocument text) → AreAttributes is.attributes × IsContent is.inside
 holds_content text is = (is.are_attributes, is.is_content)
 
--- no attribute stands there twice
+-- no attribute appears twice
 width_alone : (before : List Attribute) (attribute : Attribute) → is_named attribute before ≡ false
     → before ++ attribute ∷ [] ≡ Attribute.Width ∷ Attribute.Width ∷ [] → ⊥
 width_alone [] attribute new same = cc
@@ -70,7 +70,7 @@ no_text : (text : List ℕ) → escaped text ≡ 60 ∷ [] → ⊥
 no_text [] same = cc
 no_text (byte ∷ text) same = no_byte byte (escaped text) same
 
--- behind this text it stands alone only where that is empty, or the whole
+-- after this text it is alone only if the text is empty, or all
 alone : (before text : List ℕ) → before ++ text ≡ 60 ∷ [] → (text ≡ 60 ∷ []) ⊎ (before ≡ 60 ∷ [])
 alone [] text same = inl same
 alone (first ∷ []) text same = inr (ap (λ content. get_or content 0 0 ∷ []) same)

@@ -1,4 +1,4 @@
--- Rows that have lines one behind the other, and what they tell.
+-- Rows with consecutive lines, and their titles.
 use Rattle.std.proofs.Common.{◌≡◌, ℕ, ◌+◌, ◌-◌, ◌<◌, ◌≤◌, Bool, List, [], ◌∷◌, ◌++◌, drop, take, All, flat_map, refl, subst, arith, slice_range}
 use Rattle.std.proofs.lemmas.List.{drop-drop, take-map, drop-map}
 use Rattle.std.proofs.lemmas.Bool.{OnTrue_at, OnTrue_from}
@@ -13,12 +13,11 @@ use Rattle.picture_facts.specs.declared.rows.Shown.{Shown}
 use Rattle.picture_facts.specs.Rows.{Cover, IsPlain, IsTrueRow, bytes_of}
 use Rattle.picture_svg.specs.Titles.{title_by, title_of, ended_lines, AreShown, ShowsRows, IsPicture}
 
--- they end where they begin, or behind it
 Cover-order : (first : ℕ) (rows : List Row) (end : ℕ) → Cover first rows end → first ≤ end
 Cover-order first [] end covered = omega (arith, covered)
 Cover-order first (row ∷ rows) end covered = omega (arith, Cover-order (first + row.count) rows end covered.2)
 
--- each of them has lines, all of which are there
+-- each has lines, which exist
 pub Cover-within : (count first : ℕ) (rows : List Row) (end : ℕ) → Cover first rows end → end ≤ count
     → All (λ row. (0 < row.count) × (row.first + row.count ≤ count)) rows
 Cover-within count first [] end covered there = All-nil (λ row. (0 < row.count) × (row.first + row.count ≤ count))
@@ -33,7 +32,7 @@ slice_range-split xs a b c order there =
     let place : a + (b - a) ≡ b = omega arith in
     rw (count, take-add (b - a) (c - b) (drop a xs), drop-drop (b - a) a xs, place) refl
 
--- a row of one line tells that line
+-- the title of a row of one line is that line
 plain_title : (show : Show) (lines : List (List ℕ)) (first at count : ℕ) → show ≡ Show.Lines → at ≡ first → count ≡ 1
     → title_by show lines at count ≡ ended_lines (slice_range lines first (first + 1))
 plain_title Show.Lines lines first at count plain begins one = rw (begins, one) refl
@@ -59,7 +58,7 @@ pub bytes_of-slice_range : (lines : List (Bor (List ℕ))) (a b : ℕ) → bytes
 bytes_of-slice_range lines a b =
     rw (drop-map (λ (line : Bor (List ℕ)). line.now) a lines, take-map (λ (line : Bor (List ℕ)). line.now) (b - a) (drop a lines)) refl
 
--- rows whose lines aren't folded tell them all
+-- the title of unfolded lines has them all
 title_by-lines : (show : Show) (lines : List (Bor (List ℕ))) (first count : ℕ) → show ≡ Show.Lines
     → ended_lines (bytes_of (slice_range lines first (first + count))) ≡ title_by show (bytes_of lines) first count
 title_by-lines Show.Lines lines first count all = rw (bytes_of-slice_range lines first (first + count)) refl
@@ -70,11 +69,10 @@ pub title_of-lines : (lines : List (Bor (List ℕ))) (row : Row) → row.show �
     → ended_lines (bytes_of (slice_range lines row.first (row.first + row.count))) ≡ title_of (bytes_of lines) row
 title_of-lines lines row all = title_by-lines row.show lines row.first row.count all
 
--- the first lines have the first bytes
 take-bytes : (lines : List (Bor (List ℕ))) (count : ℕ) → bytes_of (take count lines) ≡ take count (bytes_of lines)
 take-bytes lines count = rw (take-map (λ (line : Bor (List ℕ)). line.now) count lines) refl
 
--- such rows and their titles are what a picture tells of the lines that are shown
+-- such rows and titles make the picture of the lines shown
 pub picture-told : (lines : List (Bor (List ℕ))) (from to : ℕ) (unfolded : Bool) (shown : Shown) (rows : List Row) (picture : List ℕ)
     → AreShown (bytes_of lines) from to shown → Cover shown.first rows shown.end → OnTrue unfolded (All IsPlain rows)
     → All (IsTrueRow (bytes_of (take shown.end lines))) rows → ShowsRows (bytes_of lines) rows picture

@@ -1,4 +1,4 @@
--- What titles tell, at small values.
+-- Examples: titles.
 use Rattle.std.proofs.Common.{◌≡◌, ◌≤◌, ◌-◌, ◌^◌, ℕ, Bool, true, List, [], ◌∷◌, All, codes, flat_map, refl, arith, slice_range, take}
 use Rattle.std.specs.Fmt.{digits}
 use Rattle.picture_facts.specs.declared.rows.row.Show.{Show}
@@ -17,12 +17,12 @@ ticks : title_of lines (record { first = 1; count = 2; show = Show.Ticks }) ≡ 
 unfolding digits
 ticks = refl
 
--- lines that were there before
+-- lines that repeat
 again : title_of lines (record { first = 0; count = 3; show = Show.Again 1 }) ≡ codes "lines 1 to 3, 3 in all; the first: > tick 1"
 unfolding digits
 again = refl
 
--- Clock 1 comes at the first line, 3 at the second, and 6 at the last two.
+-- Clock 1 is at the first line, 3 at the second, 6 at the last two.
 
 beyond : AreShown lines 1 3 (record { first = 0; end = 4 }) → ⊥
 beyond is = let over : 6 ≤ 3 = (is.between.within 2 (omega arith) (omega arith)).1 in absurd (omega arith)
@@ -39,7 +39,6 @@ no_such_line is = let over : 5 ≤ 4 = is.there in absurd (omega arith)
 ends_before : AreShown lines 7 8 (record { first = 4; end = 3 }) → ⊥
 ends_before is = let before : 4 ≤ 3 = is.order in absurd (omega arith)
 
--- what follows of a picture
 module _ (from to : ℕ) (unfolded : Bool) (picture : List ℕ) (is : IsPicture lines from to unfolded picture) where
   shows_the_lines_between : AreShown lines from to is.shown
   shows_the_lines_between = is.are_shown

@@ -1,4 +1,4 @@
--- Re-exports the names that most proofs here cite. Declares nothing.
+-- Re-exports the names that most proofs here cite.
 pub use Rattle.mote_types.specs.Codes.{plain_event}
 pub use Rattle.mote_types.specs.EventNumbers.{POLL}
 pub use Rattle.mote_types.specs.declared.event.Event.{Event}

@@ -1,8 +1,7 @@
--- Schedulers that none has become.
+-- Schedulers that never occur.
 use Rattle.process_core.proofs.Common.{ℕ, false, List, [], ◌∷◌, arith, Item, at_first, Scheduler, State, Process, IsWellFormed, at_boot}
 use Rattle.mote_types.specs.declared.entry.Entry.{Entry}
 
--- with n applications, these processes and this agenda
 with_parts : ℕ → List Process → List Item → Scheduler ℕ
 with_parts applications processes agenda = record (at_boot applications) { processes = processes; agenda = agenda }
 
@@ -13,7 +12,7 @@ more_than_sixteen : IsWellFormed (with_parts 17 at_first []) → ⊥
 unfolding with_parts
 more_than_sixteen s = absurd (omega (arith, s.few))
 
--- a process of the kernel has left the list
+-- a kernel process left the list
 no_etimer : IsWellFormed (with_parts 1 (running 3 ∷ running 2 ∷ running 1 ∷ []) []) → ⊥
 unfolding with_parts running
 no_etimer s = absurd (let gone = s.mote.kernel 0 (omega arith) in cc)

@@ -37,7 +37,6 @@ pub numbers_seen : {s : List State} {m : ℕ} {ns : List ℕ} {list : List Proce
 numbers_seen {s} {m} {ns} k same = sym (ap numbers same) ∙ numbers_listed s m ns
 
 module _ (p : ℕ) where
-  -- a process that is not on the list changes nothing of it
   pub changed_none : (change : Process → Process) (s : List State) (m : ℕ) (ns : List ℕ) → is_one_of p ns ≡ false →
       changed p change (listed s m ns) ≡ listed s m ns
   changed_none change s m [] h = refl
@@ -80,7 +79,7 @@ module _ (p : ℕ) where
         pub marked_kept : IsKept s m ns → is_marked p (listed s m ns) ≡ mark_at m p
         marked_kept k = grind (arith, nat_tests, marked_listed)
 
-        -- each that is marked is on the list, and has a number below 20
+        -- marked processes are on the list, with numbers below 20
         pub marked_below : IsKept s m ns → 20 ≤ p → is_marked p (listed s m ns) ≡ false
         marked_below k far = grind (arith, nat_tests, marked_listed)
 
@@ -118,14 +117,14 @@ module _ (p : ℕ) where
         )
 
   module _ (s later : List State) (m new : ℕ) (far : (n : ℕ) → n ≢ p → process_at s m n ≡ process_at later new n) where
-    -- only p changed, and that is the change
+    -- only p changed, by this change
     listed_changed : (change : Process → Process) (ns : List ℕ) → change (process_at s m p) ≡ process_at later new p
         → changed p change (listed s m ns) ≡ listed later new ns
     listed_changed change [] here = refl
     listed_changed change (n ∷ ns) here =
         let rest = listed_changed change ns here in grind (arith, nat_tests, same_number, here, rest)
 
-    -- what is not on the list changed
+    -- a process off the list changed
     listed_elsewhere : (ns : List ℕ) → is_one_of p ns ≡ false → listed s m ns ≡ listed later new ns
     listed_elsewhere ns h =
         sym (changed_none (λ _. process_at later new p) s m ns h) ∙ listed_changed (λ _. process_at later new p) ns refl
@@ -149,7 +148,6 @@ module _ (p : ℕ) where
     kept_mark x here k = grind (arith, nat_tests, same_number, bit_other, bit_small)
 
   module _ {s : List State} {m : ℕ} {ns : List ℕ} where
-    -- there is room for one more
     pub room_for : p < 20 → is_one_of p ns ≡ false → IsKept s m ns → length ns < 20
     room_for known none k = omega (arith, few_kept _ _ _ (kept_added known none k))
 
@@ -166,7 +164,7 @@ module _ (p : ℕ) where
       (gone ns))
 
   module _ {list : List Process} {s : List State} {m : ℕ} {ns : List ℕ} where
-    -- a process is on the list exactly where it is not Absent
+    -- a process is on the list if it isn't Absent
     pub on_list : listed s m ns ≡ list → IsKept s m ns
         → (state_of p list ≡ State.Absent → ⊥) → is_one_of p ns ≡ true
     on_list same k there = grind (arith, nat_tests, state_kept)
@@ -191,7 +189,6 @@ module _ (p : ℕ) where
   beyond_kernel : (applications : List ℕ) → is_one_of p (applications ++ kernel_numbers) ≡ false → 4 ≤ p
   beyond_kernel applications h = grind (arith, list_any-append, or_parts, nat_tests)
 
-  -- a process on the list is marked once it was
   pub marked_from_present : (list : List Process) → (state_of p list ≡ State.Absent → ⊥) → is_marked p (with_mark p true list) ≡ true
   marked_from_present [] h = absurd (h refl)
   marked_from_present (x ∷ xs) h = grind (arith, nat_tests, marked_from_present xs)
@@ -221,16 +218,15 @@ module _ (m : ℕ) where
 module _ (s : List State) where
   module _ (m : ℕ) where
     module _ (ns : List ℕ) where
-      -- a process that is marked is on the list
       marked_on_list : (p : ℕ) → IsKept s m ns → mark_at m p ≡ true → is_one_of p ns ≡ true
       marked_on_list p k e = grind (arith, nat_tests)
 
-      -- whether any process of the list is marked
+      -- some process is marked if the marks aren't 0
       pub any_counted : IsKept s m ns → is_any_marked (listed s m ns) ≡ nat_lt 0 m
       any_counted k =
           grind (arith, nat_tests, any_listed, counted_among, some_marked m, marked_among, marked_on_list)
 
-      -- where no application is marked, a poll round passes over all of them
+      -- if no application is marked, a poll round passes over them all
       pub no_application_marked : (walk : List ℕ) → IsKept s m ns
           → ((p : ℕ) → is_one_of p walk ≡ true → 4 ≤ p)
           → nat_lt 15 m ≡ false → from_marked (listed s m ns) walk ≡ []
@@ -240,7 +236,6 @@ module _ (s : List State) where
           rw (marked_kept p s m ns k ∙ unmarked_beyond m p least none) (no_application_marked walk k
           (λ q h. are q (grind (arith, nat_tests, h))) none)
 
--- whether p is the only one
 pub only_counted : (s : List State) (m : ℕ) (ns : List ℕ) (p : ℕ) → p < 20 → IsKept s m ns →
     is_only_marked p (listed s m ns) ≡ (m == 2 ^ p)
 only_counted s m ns p known k = split (is_one_of p ns) refl

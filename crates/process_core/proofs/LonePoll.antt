@@ -1,4 +1,4 @@
--- A round that only polls one process of the kernel.
+-- A round that only polls one kernel process.
 use Rattle.process_core.proofs.Common.{◌≡◌, ℕ, ◌<◌, ◌==◌, Bool, ComesTo, wants_round, true, false, ◌&&◌, List, [], ◌∷◌, length, refl, arith, Some, not, map, nat_tests, POLL, plain_event, Item, Job, from_marked, is_one_of, is_empty, is_only_marked, polled_alone, polls_alone, numbers, is_marked, is_any_marked, is_kernel_process, with_mark, Scheduler, in_front, Process, unmarked, IsLonePoll, zero, suc, ◌≤◌, nat_eq, ◌++◌, drop, ◌∙◌, flat_map, nat_lt, reverse, length-reverse, Event, front_items, items_of, base_items, agenda_of, Base, Continuation, SchedulerFields, sym, ap, if◌then◌else◌, is_other_than, from_application, is_kernel_next, passes_receiver, kernel_receivers_passed, scheduler_of, receiver_is_next, poll_items, receiver_items, behind_kernel_receivers, is_broadcast, is_idle, marked, state_of, State}
 use Rattle.std.proofs.lemmas.Bool.{and_parts, not-true, or_parts}
 use Rattle.process_core.proofs.Listed.{marked_from_running}
@@ -10,12 +10,11 @@ empty_list xs h = grind arith
 pub both_true : {a b : Bool} → a ≡ true → b ≡ true → (a && b) ≡ true
 both_true e f = grind arith
 
--- where no process is marked, a poll round passes over all
+-- if no process is marked, a poll round passes over all
 none_marked : (list : List Process) (p : ℕ) → is_any_marked list ≡ false → is_marked p list ≡ false
 none_marked [] p h = refl
 none_marked (x ∷ list) p h = grind (arith, h, none_marked list p (grind (arith, h)))
 
--- a marked process is on the list
 marked_is_one_of : (list : List Process) (p : ℕ) → is_marked p list ≡ true → is_one_of p (numbers list) ≡ true
 marked_is_one_of [] p h = absurd (cc)
 marked_is_one_of (x ∷ list) p h = grind (arith, nat_tests, marked_is_one_of list p)
@@ -24,7 +23,7 @@ marked_is_any : (list : List Process) (p : ℕ) → is_marked p list ≡ true �
 marked_is_any [] p h = absurd (cc)
 marked_is_any (x ∷ list) p h = grind (arith, nat_tests, marked_is_any list p)
 
--- with p's mark away none is marked, so only p was
+-- if clearing p's mark leaves none, only p was marked
 alone_marked : (list : List Process) (p q : ℕ) → is_any_marked (with_mark p false list) ≡ false → is_marked q list ≡ true → q ≡ p
 alone_marked [] p q none h = absurd (cc)
 alone_marked (x ∷ list) p q none h = grind (arith, nat_tests, alone_marked list p q)
@@ -49,7 +48,7 @@ module _ (list : List Process) where
 module _ {X : Type 0} where
   module _ (s : Scheduler X) where
     module _ (p : ℕ) where
-      -- the result of the poll round, where the walk after p is this
+      -- the result of the poll round; `later` is the walk after p
       lone_poll_at : (later : List ℕ) → s.agenda ≡ [] → is_kernel_process p ≡ true
           → is_marked p s.processes ≡ true
           → is_any_marked s.processes ≡ true → is_any_marked (with_mark p false s.processes) ≡ false
@@ -91,7 +90,7 @@ module _ {X : Type 0} where
                 (marked_is_one_of s.processes p only.0),
           )
 
--- At rest a process is marked, and its mark is removed again.
+-- Marking a process at rest, and removing the mark again.
 marked_again : (list : List Process) (p : ℕ) → is_any_marked list ≡ false → with_mark p false (with_mark p true list) ≡ list
 marked_again [] p none = refl
 marked_again (x ∷ list) p none = grind (arith, nat_tests, or_parts, marked_again list p)
@@ -110,7 +109,6 @@ module _ {X : Type 0} where
           → polls_alone p (marked p s) ≡ true
       polls_alone_from_rest idle runs = grind (arith, nat_tests, marked_from_running, marked_again)
 
-      -- nothing is left to be done after that round
       pub rests_after_poll : is_idle s ≡ true → ComesTo (polled_alone p (marked p s)) Job.Rest (unmarked p (marked p s))
       rests_after_poll idle =
           let parts = and_parts (is_empty s.agenda) (not (wants_round s)) idle in
@@ -121,14 +119,13 @@ module _ {X : Type 0} where
           (yields_next (record s { agenda = Item.Deliver ∷ [] }) (Some Job.Rest) rested (rw quiet refl)
           (0, rw (quiet, wants.0) refl, rw (quiet, wants.0, bare) refl))
 
--- When nothing is left to be done.
+-- When nothing is left to do.
 pub is_empty_append : {A : Type 0} (xs ys : List A) → is_empty (xs ++ ys) ≡ (is_empty xs && is_empty ys)
 is_empty_append xs ys = grind arith
 
 pub is_empty_map : {A B : Type 0} (f : A → B) (xs : List A) → is_empty (map f xs) ≡ is_empty xs
 is_empty_map f xs = grind arith
 
--- a continuation has at least one item
 has_more : (continuation : Continuation) → is_empty (items_of continuation) ≡ false
 has_more (Continuation.Leave pid [] true) = refl
 has_more (Continuation.Leave pid [] false) = refl
@@ -147,7 +144,7 @@ is_empty_drop zero (x ∷ xs) h = grind arith
 is_empty_drop (suc n) [] h = absurd (omega arith)
 is_empty_drop (suc n) (x ∷ xs) h = grind (arith, is_empty_drop n xs)
 
--- The kernel's processes that are next are passed in the base's walk as on the agenda.
+-- Kernel processes that are next are passed in the base's walk as on the agenda.
 application_first : (walk : List ℕ) → is_kernel_next walk ≡ false → from_application walk ≡ walk
 application_first [] h = refl
 application_first (p ∷ walk) h = rw h refl
@@ -159,7 +156,7 @@ module _ (codes : List ℕ) where
   receivers_behind event [] false e = refl
   receivers_behind event (p ∷ walk) other e = grind (arith, nat_tests, receivers_behind event walk other e)
 
-  -- none is next where something else is
+  -- none is next unless the base is a broadcast
 
   nothing_in_base : (base : Base) (walk : List ℕ) (event : Event) → is_broadcast base ≡ false
       → behind_kernel_receivers codes (base_items base walk event) ≡ base_items base walk event
@@ -226,14 +223,13 @@ module _ (codes : List ℕ) where
         split false none = rw (none, sym (none_open h none)) refl
 
 module _ (d : SchedulerFields) where
-  -- nothing is on the agenda where each part of the open work is over
+  -- the agenda is empty if each part of the open work is over
   pub is_empty_agenda : is_empty (agenda_of d)
       ≡ (is_empty (front_items d.front d.reply d.synch)
       && ((length d.stack.items == 0) && (is_empty d.polls && is_empty (base_items d.base d.walk d.broadcast))))
   is_empty_agenda = grind (arith, nat_tests, is_empty_append, is_empty_stack, is_empty_continuations, is_empty_map)
 
 module _ (d : SchedulerFields) where
-  -- the delivery is left, where nothing else is
   pub delivers_only : is_empty (agenda_of d) ≡ true → agenda_of (record d { base = Base.Deliver true }) ≡ Item.Deliver ∷ []
   delivers_only h =
       let all = sym (is_empty_agenda d) ∙ h in

@@ -1,4 +1,4 @@
--- The marks, as the bits of a number.
+-- Marks as bits of a number.
 use Rattle.std.proofs.Common.{◌≡◌, ◌≢◌, ℕ, zero, suc, ◌+◌, ◌*◌, ◌/◌, ◌%◌, ◌^◌, ◌<◌, ◌≤◌, ◌⊎◌, inl, inr, Bool, true, false, not, ◌&&◌, ◌==◌, refl, sym, ◌∙◌, ap, subst, arith, nat_lt}
 use Rattle.process_core.specs.Code.ProcessList.{mark_at, with_bit}
 use Rattle.std.specs.Prelude.{bit_and, bit_or}
@@ -64,7 +64,7 @@ module _ (m p : ℕ) where
       subst (λ bit. bit_or m bit < 2 ^ 20) (sym (one_shl p 32 within)) (or_lt 20 m (2 ^ p) small (pow_below p 20 low))
   bit_small false low small = omega (arith, and_le_l m (bit_not w32 (1 * 2 ^ p % 2 ^ 32)), small)
 
-  -- a mark that is cleared is taken away from the number
+  -- clearing a mark subtracts its bit
   taken_away : p < 20 → m < 2 ^ 20 → with_bit p false m + bit_at m p * 2 ^ p ≡ m
   unfolding with_bit
   taken_away low small =
@@ -85,7 +85,6 @@ module _ (m p : ℕ) where
       grind (arith, nat_tests, sum)
   only_by low small (suc (suc bit)) more = absurd (omega (arith, more))
 
-  -- whether only p is marked
   pub only_bit : p < 20 → m < 2 ^ 20 → (mark_at m p && not (nat_lt 0 (with_bit p false m))) ≡ (m == 2 ^ p)
   unfolding mark_at
   only_bit low small = only_by low small (bit_at m p) refl

@@ -1,4 +1,4 @@
--- Where nothing is left to be done.
+-- When nothing is left to do.
 use Rattle.process_core.proofs.Common.{◌≡◌, ℕ, zero, suc, ◌<◌, true, false, List, [], ◌∷◌, ◌++◌, refl, arith, Option, Some, None, map, flat_map, list_any, items_of, base_items, agenda_of, receiver_items, list_any-append, nat_tests, Event, Item, Job, Scheduler, after_front, after_items, ComesTo, Continuation, Base, Front, SchedulerFields, after_front_of, wants_round, is_shown, ◌≤◌, length, drop, slice_get, IfNone, from_marked, Process, ◌+◌, add-one, range_with_len, at_first, state_of, is_one_of, IsInOrder, State}
 
 module _ {X : Type 0} where
@@ -6,7 +6,6 @@ module _ {X : Type 0} where
     pub done : s.agenda ≡ []
     pub quiet : wants_round s ≡ false
 
-  -- what reaches rest has nothing left to do
   pub idle_from_rest : (s after : Scheduler X) → ComesTo s Job.Rest after → IsIdle after
   idle_from_rest s after c = grind arith
 
@@ -34,7 +33,7 @@ module _ {X : Type 0} where
       → after.applications ≡ s.applications
   applications_from_comes_to s next after c = grind (arith, nat_tests, applications_after_front, applications_after_items)
 
--- ---- an entry that must be shown is never on the agenda that continuations stand for
+-- ---- continuations never stand for an entry that must be shown
 
 none_shown : (ps : List ℕ) (f : ℕ → Item) → ((p : ℕ) → is_shown (f p) ≡ false) → list_any is_shown (map f ps) ≡ false
 none_shown [] f h = refl
@@ -70,7 +69,6 @@ pub length-from_marked : (list : List Process) (walk : List ℕ) → length (fro
 length-from_marked list [] = omega arith
 length-from_marked list (p ∷ walk) = grind (arith, nat_tests, length-from_marked list walk)
 
--- what is true is true where there is none
 pub if_none : {A : Type 0} {P : Type 0} (x : Option A) → P → IfNone x P
 if_none None h = h
 if_none (Some x) h = tt
@@ -85,7 +83,7 @@ module _ (p : ℕ) where
   below_range a zero h = absurd (cc)
   below_range a (suc n) h = grind (arith, nat_tests, below_range (a + 1) n)
 
-  -- the kernel's processes run from the first, and no other process is on the list
+  -- at first the kernel's processes run, and no other is on the list
   first_run : p < 4 → state_of p at_first ≡ State.Running
   first_run h = grind (arith, nat_tests)
 

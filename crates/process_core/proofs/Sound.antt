@@ -6,7 +6,7 @@ use Rattle.std.proofs.lemmas.List.FromFn.{length-range_with_len}
 use Rattle.std.proofs.lemmas.Map.Made.{length-le_from_is_member}
 use Rattle.process_core.specs.declared.next_job.NextJob as answer
 
--- each continuation is one of these
+-- each continuation answers or leaves
 short : (stack : List Continuation) → length stack ≤ length (answering stack) + length (leaving stack)
 short [] = omega arith
 short (Continuation.Answer pid ∷ below) = omega (arith, short below)
@@ -31,7 +31,6 @@ module _ (p : ℕ) where
   pub is_first : eqb p p ≡ true
   is_first = grind (arith, nat_tests)
 
-  -- every other process does what it did
   abbrev pub OthersStay : List Process → List Process → Type 0
   OthersStay old new = (q : ℕ) → eqb q p ≡ false → state_of q new ≡ state_of q old
 
@@ -65,7 +64,6 @@ leaving_apart (Continuation.Leave pid walk exits ∷ below) h = (none_from_is_on
 
 -- The parts stay in order.
 
--- a continuation that is pushed is the topmost one
 pub pushed : (continuations : List Continuation) (f : Continuation) → reverse (continuations ++ f ∷ []) ≡ f ∷ reverse continuations
 pushed continuations f = reverse-append continuations (f ∷ [])
 
@@ -85,7 +83,6 @@ none_reported (Front.Start p) reply synch answer give start callback = absurd (s
 none_reported (Front.Callback p number) reply synch answer give start callback = absurd (callback p number refl)
 
 module _ (test : State → Bool) where
-  -- where no other process changes its state
   others_in : (p : ℕ) (old new : List Process) (xs : List ℕ)
       → OthersStay p old new → is_one_of p xs ≡ false
       → AreIn test old xs → AreIn test new xs
@@ -98,15 +95,12 @@ module _ (test : State → Bool) where
   module _ (list : List Process) where
     module _ (xs : List ℕ) where
       module _ (p : ℕ) where
-        -- what passes no test is none of those that pass it
         pub none_in : AreIn test list xs → test (state_of p list) ≡ false → is_one_of p xs ≡ false
         none_in are e = grind (arith, nat_tests, false_from_ne_true)
 
-        -- one more of them
         one_more : AreIn test list xs → test (state_of p list) ≡ true → AreIn test list (p ∷ xs)
         one_more are passes q h = grind arith
 
-        -- one less
         one_less : AreIn test list (p ∷ xs) → AreIn test list xs
         one_less are q h = grind arith
 
@@ -122,20 +116,18 @@ module _ (state : State) where
 
 module _ (n : ℕ) where
   module _ (p : ℕ) where
-    -- the numbers of the applications
     pub application_range : IsApplication n p → (4 ≤ p) × (p < 4 + n)
     application_range h = grind arith
 
     pub mote_changed : (old new : List Process) → IsApplication n p → OthersStay p old new → IsOfMote n old → IsOfMote n new
     mote_changed old new application same mote = grind arith
 
-  -- n applications at most
   few_applications : (xs : List ℕ) → IsDistinct eqb xs → ((p : ℕ) → is_one_of p xs ≡ true → IsApplication n p) → length xs ≤ n
   few_applications xs distinct are =
       rw length-range_with_len at (length-le_from_is_member nat_eq_equiv xs (range_with_len 4 n) distinct (λ p h.
       let a = application_range p (are p h) in in_range p 4 n a.0 a.1))
 
-  -- two continuations for each application
+  -- at most two continuations for each application
   pub length-le_from_sound : (processes : List Process) (stack : List Continuation) (turn : Option Pid)
       → IsSound n processes stack turn → length stack ≤ 2 * n
   length-le_from_sound processes stack turn sound =
@@ -175,7 +167,6 @@ module _ {n : ℕ} {list : List Process} {stack : List Continuation} where
     pub sound-answered : IsSound n list stack (Some pid) → IsSound n list (Continuation.Answer pid ∷ stack) None
     sound-answered s = grind arith
 
-    -- the process at turn is an application
     pub application_at_turn : IsSound n list stack (Some pid) → IsApplication n pid.0
     application_at_turn s = grind arith
 
@@ -230,7 +221,7 @@ module _ (d : SchedulerFields) where
   pub room_on_stack : IsInOrder d → length d.stack.items ≤ 32
   room_on_stack order = grind (arith, nat_tests, few_items)
 
-  -- and for one more than it had before this one was taken from it
+  -- and for one more than before f was taken
   pub room_below : (f : Continuation) → IsOrdered d (f ∷ reverse d.stack.items) → length d.stack.items ≤ 31
   room_below f order =
       omega (arith, few_continuations (f ∷ reverse d.stack.items) order, order.few, length-reverse d.stack.items)
@@ -239,14 +230,13 @@ module _ (d : SchedulerFields) where
       → IsSound d.applications d.processes stack None
   idle_sound order idle = rw idle at order.sound
 
-  -- what a step makes of the fields is in order where boot, events and numbers are as they were
+  -- after a step the fields are in order if boot, events and numbers are unchanged
   pub in_order : {before : List Continuation} {list : List Process} {stack : List Continuation} {synch : Event} {front : Front}
       → IsOrdered d before
       → IsSound d.applications list (reverse stack) (active_in front) → StartsKnown d.applications front
       → IsInOrder (record d { processes = list; stack = record { items = stack }; synch = synch; front = front })
   in_order order holds starts = grind arith
 
-  -- boot goes on after p
   pub order_booting : (p : ℕ) (later : List ℕ) → d.base ≡ Base.Boot → d.walk ≡ p ∷ later → IsInOrder d
       → (p < 4 + d.applications) × IsInOrder (record d { walk = later })
   order_booting p later boots e order =
@@ -255,7 +245,7 @@ module _ (d : SchedulerFields) where
         grind arith,
       )
 
-  -- nor after a job, or a step that is none
+  -- the front then puts nothing on the agenda
   pub behind_is_all : (ready : Option answer.NextJob) → d.front ≡ front_after ready → scheduler_behind d ≡ scheduler_of d
   behind_is_all ready e = grind (arith, nat_tests)
 
@@ -263,7 +253,7 @@ module _ (d : SchedulerFields) where
       → IsSound d.applications d.processes (reverse d.stack.items) (Some p)
   turn_sound p order e = grind arith
 
-  -- it is an application that leaves
+  -- only applications leave
   pub leaver_above : (q : Pid) (walk : List ℕ) (exits : Bool) (below : List Continuation)
       → IsOrdered d (Continuation.Leave q walk exits ∷ below) → 4 ≤ q.0
   leaver_above q walk exits below order = grind (arith, nat_tests)

@@ -1,4 +1,4 @@
--- Work that is done in parts.
+-- Work done in parts.
 use Rattle.process_core.proofs.Common.{◌≡◌, ℕ, zero, suc, Bool, true, false, List, [], ◌∷◌, ◌++◌, refl, sym, ◌∙◌, ap, arith, Option, Some, None, is_some, drop, map, slice_get, ◌≤◌, Stimulus, Pid, scheduler_behind, queued_of, from_marked, Event, Origin, POLL, plain_event, numbers, is_any_marked, is_marked, with_mark, Item, Job, Scheduler, after_front, job, after_items, in_front, state_in, FindsJob, Yields, SchedulerFields, State, is_empty, poll_items, Base, IsBare, job_of, option_map}
 use Rattle.process_core.proofs.Rest.{none_first}
 use Rattle.circular_buffer.specs.Buffer.{Buffer}
@@ -6,7 +6,6 @@ use Rattle.process_core.specs.declared.queued.Queued as code
 use Rattle.process_core.specs.declared.next_job.NextJob.{NextJob}
 
 module _ {X : Type 0} where
-  -- the first item is no job
   pub yields_next : (s : Scheduler X) (next : Option (Job X)) (after : Scheduler X)
       → job s ≡ None → Yields (after_front s) next after → Yields s next after
   yields_next s None after e y = (suc y.0, rw e y.1)
@@ -25,7 +24,7 @@ module _ {X : Type 0} where
       split false e r = (suc r.0, rw e r.1)
 
   module _ (s : Scheduler X) where
-    -- where no process is marked, nothing is done for a poll round
+    -- if no process is marked, a poll round does nothing
     pub unpolled_yields : (next : Option (Job X)) (after : Scheduler X) → is_any_marked s.processes ≡ false
         → Yields s next after → Yields (in_front (Item.Polls ∷ []) s) next after
     unpolled_yields next after e y = yields_next (in_front (Item.Polls ∷ []) s) next after refl (rw e y)
@@ -36,7 +35,6 @@ module _ {X : Type 0} where
         let r = after_items_twice first.0 y.0 s in (r.0, r.1 ∙ ap (after_items y.0) first.1 ∙ y.1)
     yields_after between (Some next) after first y = grind (arith, after_items_twice first.0 y.0 s)
 
-    -- a poll round passes over the processes that are not marked
     pub unmarked_pass : (walk : List ℕ)
         → Yields (in_front (map (λ p. Item.PollOne p) walk) s) None (in_front (map (λ p. Item.PollOne p) (from_marked s.processes walk)) s)
     unmarked_pass [] = (0, refl)
@@ -69,7 +67,7 @@ module _ {X : Type 0} where
             yields_next (in_front (map (λ q. Item.PollOne q) (p ∷ (passed ++ left))) s) None (in_front (map (λ q. Item.PollOne q) left) s)
             refl (rw e (later (rw e at none)))
 
-    -- a poll round begins, after some that are not marked
+    -- a poll round begins after some unmarked processes
     pub polls_begin : (left : List ℕ) → is_any_marked s.processes ≡ true
         → (passed : List ℕ) × (numbers s.processes ≡ passed ++ left) × (from_marked s.processes passed ≡ [])
         → Yields (in_front (Item.Polls ∷ []) s) None (in_front (map (λ p. Item.PollOne p) left) s)
@@ -107,9 +105,8 @@ module _ (d : SchedulerFields) where
       → Yields (in_front (Item.Deliver ∷ []) (scheduler_behind d)) next after
   deliver_to_yields rest p event next after first left y = grind (arith, yields_next, first_queued)
 
-  -- What the poll round and the base lead to, where no process is within an activation.
+  -- What the poll round and the base lead to outside any activation.
 
-  -- the first event is delivered
   pub delivered : (is_polled : Bool) (next : Option (Job ℕ)) (after : Scheduler ℕ) → IsBare d (Base.Deliver is_polled)
       → (is_polled ≡ false → is_any_marked d.processes ≡ false)
       → Yields (in_front (Item.Deliver ∷ []) (scheduler_behind (record d { base = Base.Nothing }))) next after
@@ -120,7 +117,6 @@ module _ (d : SchedulerFields) where
       let start : scheduler_behind d ≡ in_front (Item.Polls ∷ []) given = rw (bare.stack, bare.polls, bare.base) refl in
       rw start (unpolled_yields given next after (ready refl) y)
 
-  -- the next receiver gets the event
   pub received : (is_polled : Bool) (p : ℕ) (later : List ℕ) (next : Option (Job ℕ)) (after : Scheduler ℕ)
       → IsBare d (Base.Broadcast is_polled) → d.walk ≡ p ∷ later
       → (is_polled ≡ false → is_any_marked d.processes ≡ false)
@@ -136,7 +132,7 @@ module _ (d : SchedulerFields) where
       let start : scheduler_behind d ≡ in_front (Item.Polls ∷ []) given = rw (bare.stack, bare.polls, bare.base, walk) refl in
       rw start (unpolled_yields given next after (ready refl) y)
 
-  -- a poll round begins, before the delivery
+  -- a poll round begins before the delivery
   pub polled_first : (is_polled : Bool) (left : List ℕ) → IsBare d (Base.Deliver is_polled) → is_polled ≡ false
       → is_any_marked d.processes ≡ true
       → (passed : List ℕ) × (numbers d.processes ≡ passed ++ left) × (from_marked d.processes passed ≡ [])
@@ -147,7 +143,7 @@ module _ (d : SchedulerFields) where
       let start : scheduler_behind d ≡ in_front (Item.Polls ∷ []) given = rw (bare.stack, bare.polls, bare.base) refl in
       rw (start, bare.stack) (polls_begin _ left marked behind)
 
-  -- likewise before the next receiver
+  -- and before the next receiver
   pub polled_receiver : (is_polled : Bool) (walk left : List ℕ) → IsBare d (Base.Broadcast is_polled) → is_polled ≡ false
       → d.walk ≡ walk → is_empty walk ≡ false → is_any_marked d.processes ≡ true
       → (passed : List ℕ) × (numbers d.processes ≡ passed ++ left) × (from_marked d.processes passed ≡ [])
@@ -178,7 +174,7 @@ module _ (d : SchedulerFields) where
       (unmarked_pass s d.polls) (rw first (rw left at y))
       )
 
-  -- none is marked any more
+  -- no process is marked any more
   pub polls_end : (left : List ℕ) {ready : Option NextJob} {buffer : Stimulus} {after : SchedulerFields}
       → d.stack.items ≡ [] → None ≡ slice_get (from_marked d.processes d.polls) 0 → left ≡ drop 1 (from_marked d.processes d.polls)
       → FindsJob (scheduler_behind (record d { polls = left })) ready buffer after
@@ -199,19 +195,17 @@ module _ (d : SchedulerFields) where
         order = f.order;
       }
 
--- what is found from one scheduler is found from one that leads there, too
+-- what is found from one scheduler is found from each that leads there
 pub finds_from : {s t : Scheduler ℕ} {ready : Option NextJob} {buffer : Stimulus} {after : SchedulerFields}
     → (Yields s (option_map (λ r. job_of r buffer) ready) (scheduler_behind after)
     → Yields t (option_map (λ r. job_of r buffer) ready) (scheduler_behind after))
     → FindsJob s ready buffer after → FindsJob t ready buffer after
 finds_from leads f = record { yields = leads f.yields; told = f.told; front = f.front; order = f.order }
 
--- the first item is no job
 pub finds_next : {s : Scheduler ℕ} {ready : Option NextJob} {buffer : Stimulus} {after : SchedulerFields}
     → job s ≡ None → FindsJob (after_front s) ready buffer after → FindsJob s ready buffer after
 finds_next {s} none f = record { yields = yields_next s _ _ none f.yields; told = f.told; front = f.front; order = f.order }
 
--- what is found after a step that found no job
 pub finds_after : {s : Scheduler ℕ} {ready : Option NextJob} {told buffer : Stimulus} {between after : SchedulerFields}
     → FindsJob s None told between → FindsJob (scheduler_behind between) ready buffer after → FindsJob s ready buffer after
 finds_after {s} {between = between} first f = finds_from (yields_after s (scheduler_behind between) _ _ first.yields) f

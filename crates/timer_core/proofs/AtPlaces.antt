@@ -6,14 +6,12 @@ use Rattle.timer_core.proofs.NameLemmas.{place_at}
 
 module _ (cells : List LinkedCell) where
   module _ (k : ℕ) where
-    -- the link there
     pub next_at : IsNamed (timer_at k)
         → next_of cells (timer_at k) ≡ led_to (get_or cells k zero_linked).next
     next_at named = grind arith
 
 module _ (table : Inside) where
   module _ (k : ℕ) where
-    -- the cell there
     pub deadline_at : IsNamed (timer_at k) →
         deadline (cell_of (timer_at k) (timers_of table)) ≡ deadline (get_or table.cells k zero_linked).cell
     deadline_at named = grind (arith, cell_read, place_at)

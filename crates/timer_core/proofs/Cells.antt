@@ -13,7 +13,7 @@ count = refl
 module _ (n : ℕ) where
   module _ (timer : Timer) where
     module _ (later : List Timer) where
-      -- what is first among placed names
+      -- the first of the placed names
       record IsPlaced : Type 0 where
         pub place : place_of timer ≡ n
         pub named : IsNamed timer
@@ -68,19 +68,16 @@ unfolding all_timers
 cells_at_boot = refl
 
 module _ (cells : List LinkedCell) where
-  -- a write that leaves the cell
   pub cells_kept : (k : ℕ) (x : LinkedCell) → x.cell ≡ (get_or cells k zero_linked).cell →
       named_cells all_timers (set cells k x) ≡ named_cells all_timers cells
   cells_kept k x e = grind (arith, kept_at)
 
   module _ (t : Timer) where
-    -- what is in the timer's slot
     pub cell_read : IsNamed t
         → cell_under t (named_cells all_timers cells) ≡ (get_or cells (place_of t) zero_linked).cell
     cell_read named = grind (arith, read_from, count, place_below, all_placed)
 
     module _ (x : LinkedCell) where
-      -- a write to the timer's slot
       pub cells_set : IsNamed t →
           named_cells all_timers (set cells (place_of t) x) ≡ with_cell t x.cell (named_cells all_timers cells)
       cells_set named =

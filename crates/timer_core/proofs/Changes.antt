@@ -1,4 +1,4 @@
--- What the changes of the table make of the cells and the timer list.
+-- How changes of the table affect the cells and the timer list.
 use Rattle.timer_core.proofs.Words.{◌≡◌, ℕ, ◌<◌, ◌≤◌, true, false, List, [], ◌∷◌, ◌++◌, length, refl, sym, subst, ◌∙◌, ap, arith, set, get_or, Option, Some, None, is_armed, replicate, All, ◌^◌, list_any, length-set, All-set, Timer, Cell, LinkedCell, place_of, timer_at, led_to, link_of, IsNamed, all_timers, is_timer, Timers, no_timers, armed_with, stop_timer, next_of, flag_of, listed_from, named_cells, AreFlagged, Names, IsTable, timers_of, zero_linked, StandsBehind}
 use Rattle.timer_core.specs.declared.table.TimerTable.TheInside.{Inside}
 use Rattle.timer_core.proofs.NameLemmas.{place_at}
@@ -23,7 +23,6 @@ stands_for : (table : Inside) (timers : Timers) → length table.cells ≡ 192 �
     → named_cells all_timers table.cells ≡ timers.cells → Relinked table.cells (led_to table.first) timers.armed → StandsFor table timers
 stands_for table timers places starts flags cells r = grind arith
 
--- at boot
 pub timers_at_boot : timers_of (record { cells = replicate 192 zero_linked; first = None }) ≡ no_timers
 timers_at_boot = grind (arith, replicate, cells_at_boot, listed_from_none)
 
@@ -31,15 +30,13 @@ module _ (cells : List LinkedCell) where
   starts_set : (k : ℕ) (x : LinkedCell) → x.cell.start ≤ 2 ^ 63 → HasStarts cells → HasStarts (set cells k x)
   starts_set k x h starts = All-set (λ linked_cell. linked_cell.cell.start ≤ 2 ^ 63) cells k x h starts
 
-  -- the cell of the timer, which says that it isn't on the list
+  -- the slot's cell, marked as off the list
   abbrev pub unflagged : ℕ → LinkedCell
   unflagged k = record (get_or cells k zero_linked) { is_armed = false }
 
-  -- the cells with that one
   abbrev pub without_flag : ℕ → List LinkedCell
   without_flag k = set cells k (unflagged k)
 
-  -- the link there
   abbrev pub link_at : ℕ → Option ℕ
   link_at k = (get_or cells k zero_linked).next
 
@@ -47,11 +44,11 @@ module _ (cells : List LinkedCell) where
       → (get_or cells (place_of t) zero_linked).cell.start ≤ 2 ^ 63
   start_at t within starts = grind arith
 
--- the table after the head, whose slot is k, was removed from the list
+-- the table after its head, in slot k, was removed from the list
 abbrev pub without_head : Inside → ℕ → Inside
 without_head table k = record { cells = without_flag table.cells k; first = link_at table.cells k }
 
--- after the one following that slot was
+-- after the timer of slot k, which follows slot `before`, was removed
 abbrev pub closed_over : Inside → ℕ → ℕ → Inside
 closed_over table k before =
     record {
@@ -60,7 +57,6 @@ closed_over table k before =
       first = table.first;
     }
 
--- the timer was not on the list
 pub nothing_removed : (timer : Timer) (timers : Timers) → is_armed timer timers ≡ false → timers ≡ stop_timer timer timers
 nothing_removed timer timers none = grind (arith, others_none)
 
@@ -99,7 +95,7 @@ module _ (table : Inside) where
         (record { sound = r.sound; listed = r.listed ∙ ap (others t) kept.listed })
 
     module _ (cell : Cell) where
-      -- a timer that is armed gets another cell
+      -- an armed timer gets another cell
       pub cell_changed : IsTable table → IsNamed t → cell.start ≤ 2 ^ 63 →
           list_any (is_timer t) (listed_from table.cells (led_to table.first)) ≡ true →
           StandsFor
@@ -115,7 +111,7 @@ module _ (table : Inside) where
           (flags_kept table.cells t x _ named within h.flags refl) (cells_set table.cells t x named)
           (relinked_kept table.cells (led_to table.first) t x within refl h.listed))
 
-      -- a timer that isn't armed becomes the head
+      -- a disarmed timer becomes the head
       pub head_added : IsTable table → IsNamed t → cell.start ≤ 2 ^ 63 →
           list_any (is_timer t) (listed_from table.cells (led_to table.first)) ≡ false →
           StandsFor (record {
@@ -133,7 +129,6 @@ module _ (table : Inside) where
           (subst (λ link. Relinked (set table.cells (place_of t) x) link (t ∷ listed_from table.cells (led_to table.first))) (sym head)
           (relinked_first table.cells (led_to table.first) t x named within refl e h.listed)))
 
-  -- the timer of this slot
   module _ (place : ℕ) where
     abbrev IsBehind : Option ℕ → Type 0
     IsBehind before = StandsBehind before (timer_at place) (listed_from table.cells (led_to table.first))
@@ -151,7 +146,6 @@ module _ (table : Inside) where
           StandsFor (closed_over table place before) (stop_timer (timer_at place) (timers_of table))
       link_closed_at h named behind = grind (arith, named_behind, place_at, link_closed)
 
-    -- the list after its removal
     abbrev pub unlinked : Option ℕ → Inside
     unlinked None = without_head table place
     unlinked (Some before) = closed_over table place before

@@ -1,4 +1,4 @@
--- What is reported of a timer that has run out, and when the next one does.
+-- Worked examples: what a due timer reports, and the next deadline.
 use Rattle.std.proofs.Common.{◌≡◌, refl}
 use Rattle.std.specs.Prelude.{List, [], ◌∷◌, Some, None}
 use Rattle.timer_core.proofs.Words.{ℕ, ◌≤◌, ◌<◌, Pid, Armings}
@@ -15,11 +15,11 @@ module _ (armings : Armings) where
     owned : (t : ℕ) → IsDue armings (Due.Timer p t) → (4 ≤ p.0) × (p.0 ≤ 19) × (t < 8)
     owned t due = due
 
-    -- and an expiry has a number that was drawn
+    -- an expiry's number was drawn
     drawn : (c arming : ℕ) → IsDue armings (Due.Callback p c arming) → arming < armings.drawn
     drawn c arming due = due.1
 
--- timer 0 of process 4 runs out at 10, its timer 1 at 5, whether they are armed or not
+-- timer 0 of process 4 has deadline 10, timer 1 deadline 5, armed or not
 abbrev of_two : List Timer → Timers
 of_two armed =
     record {
@@ -29,7 +29,7 @@ of_two armed =
       armed = armed;
     }
 
--- the earliest deadline, at any position on the list
+-- the earliest deadline, anywhere on the list
 last_is_earliest : next_deadline (of_two (event_timer 4 0 ∷ event_timer 4 1 ∷ [])) ≡ Some 5
 last_is_earliest = refl
 

@@ -23,17 +23,14 @@ module _ (cells : List LinkedCell) where
             → AreFlagged (set cells (place_of t) x) new
         flags_set new h within flags own others = grind (arith, places_differ, get_or-set_same, get_or-set_other)
 
-        -- a write that keeps the flag
         pub flags_kept : IsNamed t → place_of t < length cells →
             AreFlagged cells list → x.is_armed ≡ flag_of cells t → AreFlagged (set cells (place_of t) x) list
         flags_kept h within flags same = grind (arith, flags_set)
 
-        -- the timer becomes the head
         pub flags_added : IsNamed t → place_of t < length cells →
             AreFlagged cells list → x.is_armed ≡ true → AreFlagged (set cells (place_of t) x) (t ∷ list)
         flags_added h within flags on = search (rules, flags_set, is_timer_itself, is_timer_flips)
 
-        -- the timer leaves the list
         pub flags_removed : IsNamed t → place_of t < length cells →
             AreFlagged cells list → x.is_armed ≡ false → AreFlagged (set cells (place_of t) x) (others t list)
         flags_removed h within flags off = search (rules, flags_set, others, none_left, others_stay)

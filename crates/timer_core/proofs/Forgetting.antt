@@ -1,4 +1,4 @@
--- The timers of a process are removed from the list one after another.
+-- A process's timers are removed from the list one by one.
 use Rattle.timer_core.proofs.Words.{◌≡◌, ℕ, ◌+◌, Bool, not, ◌&&◌, ◌||◌, List, [], ◌∷◌, refl, arith, nat_lt, filter, Pid, Timer, IsNamed, is_timer, is_event_timer_of, is_callback_timer_of, Timers}
 use Rattle.timer_core.proofs.LinkLemmas.{AllNamed}
 
@@ -6,7 +6,6 @@ abbrev number_of : Timer → ℕ
 number_of (Timer.Event p t) = t
 number_of (Timer.Callback p c) = c
 
--- those that pass the test and have a number below n
 abbrev pub below : (Timer → Bool) → ℕ → Timer → Bool
 below test n t = test t && nat_lt (number_of t) n
 
@@ -14,7 +13,6 @@ module _ (out : Timer → Bool) where
   abbrev left : List Timer → List Timer
   left list = filter (λ t. not (out t)) list
 
-  -- those timers are off the list
   abbrev pub without : Timers → Timers
   without timers = record timers { armed = left timers.armed }
 

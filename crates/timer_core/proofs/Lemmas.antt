@@ -1,4 +1,4 @@
--- Re-exports the names and lemmas that the proofs here cite. Declares nothing.
+-- Re-exports the names and lemmas that the proofs here cite.
 pub use Rattle.timer_core.proofs.Words.{is_present_arming, refl, rules, List, StandsBehind, None, Some, Timer, Timers, ap, arith, armed_with, cell_of, deadline, false, first_due, is_armed, is_callback_timer_of, is_due, is_event_timer_of, is_timer, le-leb, led_to, callback_place, cases_eq, get_or-set_other, timer_at, length, list_any, list_any-append, lt-leb, present_arming, stop_timer, subst, sym, timers_of, true, ℕ, ◌+◌, ◌<◌, ◌∙◌, ◌≡◌, ◌≤◌}
 unfoldable pub use Rattle.timer_core.proofs.Words.{listed_from}
 pub use Rattle.timer_core.proofs.ArmingLemmas.{numbered_at_boot, renumbered_below}

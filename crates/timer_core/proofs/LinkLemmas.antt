@@ -12,7 +12,7 @@ linked_from_names zero cells link (t ∷ later) h few = absurd (omega arith)
 linked_from_names (suc n) cells link [] h few = rw h refl
 linked_from_names (suc n) cells link (t ∷ later) h few = grind (arith, linked_from_names n cells (next_of cells t) later h.1.1)
 
--- timers in range with distinct names are at most as many as the table has slots
+-- distinct timers in range are at most as many as the slots of the table
 abbrev pub AllNamed : List Timer → Type 0
 AllNamed [] = Unit {0}
 AllNamed (t ∷ later) = IsNamed t × AllNamed later
@@ -44,7 +44,6 @@ pub record Relinked (cells : List LinkedCell) (link : Option Timer) (list : List
   pub sound : IsList cells link
   pub listed : listed_from cells link ≡ list
 
--- at boot
 pub table_at_boot : IsTable (record { cells = replicate 192 zero_linked; first = None })
 unfolding listed_from
 table_at_boot =
@@ -72,7 +71,6 @@ module _ (cells : List LinkedCell) where
   all_named link (t ∷ later) h = (h.1.0, all_named (next_of cells t) later h.1.1)
 
   module _ (t : Timer) where
-    -- a write to a cell changes only the link of that timer
     pub next_of_other : (u : Timer) (x : LinkedCell) → IsNamed t → IsNamed u → is_timer t u ≡ false →
         next_of (set cells (place_of t) x) u ≡ next_of cells u
     next_of_other u x h k e = grind (arith, get_or-set_other)
@@ -82,13 +80,12 @@ module _ (cells : List LinkedCell) where
           → next_of (set cells (place_of t) x) t ≡ led_to x.next
       next_of_same within = grind (arith, get_or-set_same)
 
-      -- a timer that is not named among these may get any link
+      -- a timer off this list may get any link
       pub names_other : (link : Option Timer) (list : List Timer) → IsNamed t →
           list_any (is_timer t) list ≡ false → Names cells link list → Names (set cells (place_of t) x) link list
       names_other link [] h none names = names
       names_other link (u ∷ later) h none names = grind (arith, or_parts, next_of_other, names_other (next_of cells u) later h)
 
-    -- a write that keeps the link keeps the list
     names_kept : (x : LinkedCell) (link : Option Timer) (list : List Timer) → place_of t < length cells →
         led_to x.next ≡ next_of cells t → Names cells link list → Names (set cells (place_of t) x) link list
     names_kept x link [] within e names = names

@@ -1,4 +1,4 @@
--- What a look along the timer list says of the list, and what stays true of it when the timer that was found leaves.
+-- What a look along the timer list finds, and what stays true after the found timer leaves.
 use Rattle.timer_core.proofs.Words.{◌≡◌, ℕ, ◌<◌, Bool, true, false, List, [], ◌∷◌, ◌++◌, refl, arith, Option, Some, None, find, IsTable, is_due, led_to, listed_from, next_of, timer_at, timers_of, list_any, or_parts, Timer, StandsBehind, Timers, stop_timer}
 use Rattle.timer_core.specs.declared.table.Passed.{Passed}
 use Rattle.timer_core.specs.declared.table.Outlook.{Outlook}
@@ -10,7 +10,6 @@ use Rattle.timer_core.proofs.Unlinking.{one_apart, others_middle}
 use Rattle.timer_core.proofs.Walks.{Walked, passes_at}
 
 module _ (test : Timer → Bool) where
-  -- none of those that were passed
   pub found_behind : (earlier later : List Timer) → list_any test earlier ≡ false → find test (earlier ++ later) ≡ find test later
   found_behind [] later none = refl
   found_behind (t ∷ earlier) later none = grind (arith, or_parts, found_behind earlier later)

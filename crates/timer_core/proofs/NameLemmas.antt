@@ -18,14 +18,12 @@ module _ (t : Timer) where
   other_at k named far = grind arith
 
   module _ (u : Timer) where
-    -- two timers of one name are one
     pub same_timer : is_timer t u ≡ true → t ≡ u
     same_timer e = grind arith
 
     pub is_timer_flips : is_timer t u ≡ false → is_timer u t ≡ false
     is_timer_flips e = grind arith
 
-    -- timers in range have distinct slots
     pub same_place : IsNamed t → IsNamed u → place_of t ≡ place_of u → is_timer t u ≡ true
     same_place h k e = grind arith
 

@@ -1,4 +1,4 @@
--- Where no timer is due, none is after a timer was armed whose deadline is later, or after one left the list.
+-- If no timer is due, none is due after an arming with a later deadline, or after a removal.
 use Rattle.timer_core.proofs.Words.{◌≡◌, ℕ, ◌<◌, Bool, false, List, [], ◌∷◌, refl, arith, None, find, filter, lt-leb, Timer, Cell, is_timer, NamedCell, Timers, armed_with, is_due, deadline, cell_of, cell_under, with_cell, first_due}
 use Rattle.timer_core.proofs.NameLemmas.{same_timer}
 
@@ -7,7 +7,6 @@ none_found_in_fewer test keep [] none = refl
 none_found_in_fewer test keep (a ∷ items) none = grind (arith, none_found_in_fewer test keep items)
 
 module _ (t : Timer) where
-  -- another timer keeps its cell
   other_kept : (u : Timer) (cell : Cell) (cells : List NamedCell) → is_timer t u ≡ false
       → cell_under u (with_cell t cell cells) ≡ cell_under u cells
   other_kept u cell [] apart = refl
@@ -19,7 +18,6 @@ module _ (clock : ℕ) where
   none_due_in_fewer keep timers none = grind (arith, none_found_in_fewer)
 
   module _ (t : Timer) (cell : Cell) (timers : Timers) (later : clock < deadline (cell_of t (armed_with t cell timers))) where
-    -- none of these is due after another was armed, where none was before
     none_due_kept : (listed : List Timer) → find (is_due clock timers) listed ≡ None
         → find (is_due clock (armed_with t cell timers)) listed ≡ None
     none_due_kept [] none = refl

@@ -3,7 +3,6 @@ use Rattle.timer_core.proofs.Words.{◌≡◌, ◌<◌, false, not, List, [], �
 use Rattle.timer_core.proofs.NameLemmas.{is_timer_flips}
 use Rattle.timer_core.proofs.LinkLemmas.{Passes, Relinked, relinked, names_other, next_of_other, next_of_same}
 
--- the list without a timer
 abbrev pub others : Timer → List Timer → List Timer
 others timer list = filter (λ other. not (is_timer timer other)) list
 
@@ -11,7 +10,7 @@ pub others_none : (t : Timer) (list : List Timer) → list_any (is_timer t) list
 others_none t [] none = refl
 others_none t (u ∷ later) none = grind (arith, or_parts, others_none t later)
 
--- the list without its first timer
+-- without the first timer
 pub others_itself : (cells : List LinkedCell) (link : Option Timer) (timer : Timer) → Passes cells link timer →
     listed_from cells (next_of cells timer) ≡ others timer (listed_from cells link)
 others_itself cells link timer p = grind (arith, others_none)
@@ -26,7 +25,7 @@ none_behind : (t before : Timer) (earlier rest : List Timer) → list_any (is_ti
     (is_timer t before ≡ false) × (list_any (is_timer t) (earlier ++ rest) ≡ false)
 none_behind t before earlier rest none = grind (arith, list_any-append)
 
--- a timer on a list of timers that are apart is none of the others
+-- a timer in the middle may be put first
 pub one_apart : (t : Timer) (earlier later : List Timer) → AreApart (earlier ++ t ∷ later) → AreApart (t ∷ (earlier ++ later))
 one_apart t [] later apart = apart
 one_apart t (u ∷ earlier) later apart = grind (arith, none_behind, is_timer_flips, one_apart t earlier later apart.1)

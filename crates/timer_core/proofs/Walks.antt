@@ -1,17 +1,16 @@
--- A walk along the timer list: those that were passed, and those ahead.
+-- A walk along the timer list: timers passed and timers ahead.
 use Rattle.timer_core.proofs.Words.{◌≡◌, ℕ, List, [], ◌∷◌, ◌++◌, refl, arith, append_assoc, get_or, Option, Some, None, ap, LinkedCell, EndsWith, IsList, IsNamed, StandsBehind, Timer, led_to, listed_from, next_of, timer_at, zero_linked}
 use Rattle.timer_core.proofs.AtPlaces.{next_at}
 use Rattle.timer_core.proofs.LinkLemmas.{Passes, passes, relinked}
 use Rattle.timer_core.proofs.Unlinking.{apart_behind, names_behind}
 
--- these were passed, the last one at that slot, and the rest follows from this link on
+-- these were passed, the last one in slot `last`; the rest follows `link`
 pub record Walked (cells : List LinkedCell) (first last link : Option ℕ) (earlier : List Timer) : Type 0 where
   pub ends : EndsWith last earlier
   pub listed : listed_from cells (led_to first) ≡ earlier ++ listed_from cells (led_to link)
   pub list : IsList cells (led_to link)
 
 module _ {cells : List LinkedCell} {link : Option ℕ} {place : ℕ} (is : link ≡ Some place) where
-  -- the next timer
   pub passes_at : IsList cells (led_to link) → Passes cells (led_to link) (timer_at place)
   passes_at l = passes cells (led_to link) (timer_at place) (ap led_to is) l
 
@@ -24,17 +23,15 @@ module _ {cells : List LinkedCell} {link : Option ℕ} {place : ℕ} (is : link 
     behind_walked timer same = grind (arith, passes_at)
 
 module _ (cells : List LinkedCell) (first : Option ℕ) where
-  -- where a walk continues after that slot
+  -- the link after that slot
   abbrev pub link_behind : Option ℕ → Option ℕ
   link_behind None = first
   link_behind (Some place) = (get_or cells place zero_linked).next
 
-  -- the names are in range
   pub named_last : (place : ℕ) (earlier later : List Timer) → IsList cells (led_to first)
       → listed_from cells (led_to first) ≡ earlier ++ later → EndsWith (Some place) earlier → IsNamed (timer_at place)
   named_last place earlier later l listed ends = grind (arith, append_assoc, names_behind)
 
-  -- a walk that continues after those that were passed
   pub walked_behind : (last : Option ℕ) (earlier later : List Timer) → IsList cells (led_to first)
       → listed_from cells (led_to first) ≡ earlier ++ later → EndsWith last earlier →
       Walked cells first last (link_behind last) earlier

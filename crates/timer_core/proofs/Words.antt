@@ -1,4 +1,4 @@
--- Names that the proofs of this crate use: from std, the crates below, and its own specs.
+-- The names that the proofs of this crate use.
 pub use Rattle.std.proofs.Common.{Bool, List, [], ap, append_assoc, arith, eqb, false, get_or, length, lit<, lit≤, nat_lt, not, refl, rules, set, subst, suc, sym, true, zero, ℕ, ◌&&◌, ◌||◌, ◌++◌, ◌+◌, ◌-◌, ◌<◌, ◌∙◌, ◌∷◌, ◌≡◌, ◌≤◌, ◌⊎◌}
 pub use Rattle.std.proofs.lemmas.Bool.{and_parts, cases_eq, eqb-true, le-leb, lt-leb, ne_eqb, or_cases, or_parts}
 pub use Rattle.std.proofs.lemmas.List.{get_or-replicate, get_or-set_other, get_or-set_same, length-map, length-set}

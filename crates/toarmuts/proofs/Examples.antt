@@ -1,4 +1,4 @@
--- Worked examples: what lines and numbers come to, and that of two reasons the first is told.
+-- Examples: what lines and numbers mean; of two reasons the first is reported.
 use Rattle.std.proofs.Common.{◌≡◌, ◌∙◌, ◌++◌, ◌==◌, ◌||◌, ℕ, zero, suc, Bool, true, false, List, ◌∷◌, codes, refl, sym, ap, subst, arith, get_or, inl, inr, length, length-append, replicate, Some, None, []}
 use Rattle.std.proofs.lemmas.Grind.{common_steps}
 use Rattle.std.proofs.lemmas.List.{append-nil, nil_from_length}
@@ -25,7 +25,7 @@ use Rattle.toarmuts.specs.declared.configuration.Configuration.{Configuration}
 use Rattle.toarmuts.specs.declared.refusal.CallReason.{CallReason}
 use Rattle.toarmuts.specs.declared.refusal.SizeReason.{SizeReason}
 
--- What the numbers of a configuration say.
+-- The numbers of a configuration.
 
 abbrev configured : ℕ → ℕ → Configuration
 configured has_quota quiet = record { mmem = 64; heap = 128; header = 8; has_quota = has_quota; quota = 12; quiet = quiet }
@@ -57,7 +57,7 @@ behind_the_word = inr refl
 no_calls : HasCalls (codes "calls") []
 no_calls = inl (refl, refl)
 
--- an application for each line, no more and no fewer
+-- one application for each line
 none_too_many : (application : Application) → AreOfLines [] (application ∷ []) → ⊥
 none_too_many application are = are
 
@@ -67,9 +67,9 @@ none_left_out are = are
 another_application : AreOfLines (codes "clock-watcher" ∷ []) (Application.ClockWatcher ∷ [])
 another_application = (inl refl, tt)
 
--- A run is one of the lines' applications, as many as lines; its numbers are those of its end.
+-- A run is one of the lines' applications, and its numbers are those of its end.
 module _ (configuration : Configuration) (text script out : List ℕ) where
-  -- there is room for a text that just fits
+  -- a text that just fits has room
   just_fits : (size : ℕ) → IsTooLongFor size configuration text script size → ⊥
   just_fits size is = absurd (omega (arith, is.is_over))
 
@@ -136,7 +136,7 @@ a_list_is_no_reason is = is (codes "frob") (inr refl)
 no_list_of_a_name : (number : ℕ) (reason : CallReason) → IsLineReason (codes "nobody") (LineReason.NoCall number reason) → ⊥
 no_list_of_a_name number reason is = no_calls_there is.0 is.1
 
--- a list of one call, which is to wait, as all behind it
+-- a list of one call, Wait, and only waits after it
 abbrev waits : List Call
 waits = replicate 128 Call.Wait
 
@@ -186,7 +186,6 @@ nobody = (
   λ text has. absurd (no_calls_there text has),
 )
 
--- a comma with nothing behind it: its second part is no call
 second_of_a_list : HasNoCallAt (codes "wait, ") 1
 second_of_a_list =
     record {
@@ -200,7 +199,6 @@ second_of_a_list =
       is_no_call = nothing_is_no_call;
     }
 
--- and the first, where a call follows it
 first_of_a_list : HasNoCallAt (codes ", wait") 0
 first_of_a_list =
     record {
@@ -239,7 +237,7 @@ no_list_of_no_calls is =
 no_text_of_lines : (all : List (List ℕ)) → AreRefused all Refusal.NotText → ⊥
 no_text_of_lines all are = are
 
--- What was refused, by its numbers.
+-- Refusals, by their numbers.
 
 -- status, line, reason, application, call
 abbrev numbers : Refusal → List ℕ
@@ -252,7 +250,6 @@ of_refusals : (numbers (Refusal.NoApplication 1 LineReason.NoName) ≡ 17 ∷ 2 
     × (numbers Refusal.TooManyApplications ≡ 18 ∷ 0 ∷ 0 ∷ 16 ∷ 0 ∷ [])
 of_refusals = (refl, refl, refl, refl)
 
--- a reason of 0 is no reason
 no_reason : HasNoReason (record { status = 0; line = 0; length = 5; reason = 0; application = 0; call = 0 })
 no_reason = (refl, refl, refl)
 
@@ -273,7 +270,7 @@ module _ (configuration : Configuration) (text : List ℕ) where
       let bad : is.refusal ≡ Refusal.BadSizes SizeReason.Heap = grind (arith, is.is_status, is.is_reason) in
       (subst (Refuses configuration text) bad is.is_refused).1
 
-  -- where sizes are bad no line and no application is told
+  -- bad sizes report no line and no application
   sizes_have_no_place : (line reason application call : ℕ) → IsRefusalOf configuration text 19 line reason application call → (line ≡ 0)
       × (application ≡ 0) × (call ≡ 0)
   sizes_have_no_place line reason application call is =
@@ -282,39 +279,39 @@ module _ (configuration : Configuration) (text : List ℕ) where
   abbrev Is : Refusal → Type 0
   Is = Refuses configuration text
 
-  -- Of two reasons the first is told: what is no text has no lines.
+  -- Of two reasons the first is reported: what is no text has no lines.
   no_text_first : Is Refusal.NotText → (Is Refusal.TooManyApplications → ⊥) × ((reason : SizeReason) → Is (Refusal.BadSizes reason) → ⊥)
       × ((number : ℕ) (reason : LineReason) → Is (Refusal.NoApplication number reason) → ⊥)
   no_text_first no_text = (λ refused. no_text refused.0, λ reason refused. no_text refused.0, λ number reason refused. no_text refused.0)
 
-  -- a seventeenth line is not looked at
+  -- a seventeenth line is not read
   no_seventeenth_name : (reason : LineReason) → Is (Refusal.NoApplication 16 reason) → ⊥
   no_seventeenth_name reason refused = absurd (omega (arith, refused.1.is_among))
 
-  -- lines that are too many name applications up to there
+  -- if there are too many lines, those before name applications
   many_are_named : (refused : Is Refusal.TooManyApplications) → (applications : List Application)
       × AreOfLines refused.1.before applications
   many_are_named refused = refused.1.are_named
 
   module _ (reason : SizeReason) where
-    -- too many lines are no lines with bad sizes
+    -- too many lines are not bad sizes
     number_before_sizes : Is Refusal.TooManyApplications
         → Is (Refusal.BadSizes reason) → ⊥
     number_before_sizes many bad =
         let size = ap length many.1.is_line ∙ length-append many.1.before (many.1.line ∷ many.1.behind) in
         absurd (omega (arith, size, many.1.are_full, bad.1.are_few))
 
-    -- with good sizes a mote boots, and they are told of applications alone
+    -- no mote boots with the sizes, and all lines name applications
     really_bad : Is (Refusal.BadSizes reason) → (is_bootable (config_of (sizes_of configuration) (length (lines text))) ≡ false)
         × ((applications : List Application) × AreOfLines (lines text) applications)
     really_bad refused = (refused.1.is_bad, refused.1.are_named)
 
-    -- of two bad sizes one reason is told
+    -- of two bad sizes one is reported
     one_size : (other : SizeReason) → Is (Refusal.BadSizes reason)
         → Is (Refusal.BadSizes other) → Some reason ≡ Some other
     one_size other is also = sym is.1.is_reason ∙ also.1.is_reason
 
-  -- the lines before the one that names none all name applications, and number and reason are those of that line
+  -- the lines before the refused one name applications; number and reason are of that line
   of_the_line : (number : ℕ) (reason : LineReason) (refused : Is (Refusal.NoApplication number reason))
       → ((applications : List Application) × AreOfLines refused.1.before applications) × (number ≡ length refused.1.before)
       × IsNoApplication refused.1.line
@@ -322,7 +319,7 @@ module _ (configuration : Configuration) (text : List ℕ) where
   of_the_line number reason refused = (refused.1.are_named, refused.1.is_number, refused.1.is_none, refused.1.is_reason)
 
 module _ (line : List ℕ) where
-  -- a line behind sixteen is not looked at, and before that there are not too many
+  -- a line after sixteen is not read, and before that there are not too many
   no_seventeenth : (reason : LineReason) → IsRefusedLine line 16 (Refusal.NoApplication 16 reason) → ⊥
   no_seventeenth reason is = absurd (omega (arith, is.1))
 

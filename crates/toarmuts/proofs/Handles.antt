@@ -1,6 +1,6 @@
 -- The machine value of a mote that C holds, and what it owns. Assumes `Logic`.
 --     made, seen    a mote is made of what it owns, and is taken apart into that
---     by_state      it is open or closed, and its two fields tell which
+--     by_state      it is open or closed, as its two fields say
 use Rattle.std.proofs.Common.{◌≡◌, ◌∙◌, List, ◌∷◌, ◌++◌, refl, lit<, Bool, true, false, Option, None, Some, []}
 use Rattle.std_alloc.proofs.BoxSteps.Form as box
 use Rattle.std_alloc.specs.Box.Ownership.{box_owns}
@@ -33,14 +33,12 @@ use types.Logic.{Logic}
 abbrev pub mote_val : Ptr → Bool → Val
 mote_val p is_open = vstruct (vcons (ptr_val p) (vcons (vbool is_open) vnil))
 
--- it has its type, whatever it points to
 pub mote_good : (p : Ptr) (is_open : Bool) → T (has_ty ty_ptr (ptr_val p) && (has_ty ty_bool (vbool is_open) && true))
     × WT (mote_val p is_open)
 mote_good null_ptr is_open = (tt, (record { fits = lit< tt }, (tt, tt)))
 mote_good (block_ptr b o) is_open = (tt, (tt, (tt, tt)))
 
 module _ {M : Type 1} {𝓤 : Ura M} {𝓛 : Logic 𝓤} {K : Type 0} {Γ : List (Item 𝓤)} {G : Goal 𝓤 𝓛.H} where
-  -- a clause that holds
   pub told : K → (P : Type 0) → P → Step K 𝓛 (raw (fact 𝓤 P) ∷ Γ) G Γ G
   told t P p = use0 𝓛 (raw (fact 𝓤 P)) (fact_i 𝓤 P (emp 𝓤) p)
 

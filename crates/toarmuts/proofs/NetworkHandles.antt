@@ -1,6 +1,6 @@
 -- The machine value of a network that C holds, and what it owns. Assumes `Logic`.
 --     made, seen    a network is made of what it owns, and is taken apart into that
---     by_state      it is open or closed, and its two fields tell which
+--     by_state      it is open or closed, as its two fields say
 use Rattle.std.proofs.Common.{◌≡◌, ◌∙◌, List, ◌∷◌, ◌++◌, refl, Bool, true, false, Option, None, Some, []}
 use Rattle.std_alloc.proofs.BoxSteps.Form as box
 use Rattle.std_alloc.specs.Box.Ownership.{box_owns}

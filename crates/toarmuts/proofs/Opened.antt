@@ -15,7 +15,7 @@ one_more [] (x ∷ sessions) mote session all one = absurd all
 one_more (m ∷ motes) [] mote session all one = absurd all
 one_more (m ∷ motes) (x ∷ sessions) mote session all one = (all.0, one_more motes sessions mote session all.1 one)
 
--- after mote i has booted, too
+-- also after mote i has booted
 pub one_opened : (motes : List NetworkMote) (i : ℕ) (d : NetworkMote) (config : Config) (old new : List SessionView) → i < length motes →
     AreOpened (take i motes) old → config ≡ config_of_mote (get_or motes i d) → IsMoteAdded config old new → AreOpened (take (i + 1) motes) new
 one_opened motes i d config old new there all same one =

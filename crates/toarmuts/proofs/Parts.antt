@@ -14,7 +14,7 @@ abbrev pub size_of : Option (Bor (List ℕ)) → ℕ
 size_of None = 0
 size_of (Some left) = suc (length left.now)
 
--- two bytes stand behind each part
+-- two bytes follow each part
 as_many : (parts : List (List ℕ)) → 2 * length parts ≤ length (with_commas parts)
 as_many [] = omega arith
 as_many (part ∷ parts) =
@@ -28,7 +28,7 @@ behind_part None = inl refl
 behind_part (Some others) = inr (others.now, refl)
 
 module _ (text : List ℕ) where
-  -- what comes before the first comma is one part
+  -- the text before the first comma is one part
   pub first_part : (part : List ℕ) (i j : ℕ) → FindsText (codes ", ") text (Some (i, j)) → part ≡ take i text → length part ≡ i
       → IsOnePart part
   first_part part i j finds is size front behind has =
@@ -40,13 +40,13 @@ module _ (text : List ℕ) where
       (ap (drop (length front)) whole ∙ drop-append_seam front ((codes ", " ++ behind) ++ drop i text)
       ∙ append_assoc (codes ", ") behind (drop i text))
 
-  -- and so is a text with none
+  -- so is a text without commas
   pub only_part : FindsText (codes ", ") text None → IsOnePart text
   only_part finds front behind has =
       let long = ap length has ∙ length-append front (codes ", " ++ behind) in
       finds (length front) (omega (arith, long)) behind (ap (drop (length front)) has ∙ drop-append_seam front (codes ", " ++ behind))
 
-  -- so many parts in front of what is left are calls; where nothing is left, all are
+  -- n parts before the rest are calls; without a rest, all are
   abbrev pub IsLeft : ℕ → Option (Bor (List ℕ)) → Type 0
   IsLeft place None = HasCallsAlone text
   IsLeft place (Some left) =
@@ -60,7 +60,6 @@ module _ (text : List ℕ) where
         omega (arith, size, many, is.2)
 
     module _ (part : List ℕ) where
-      -- the first part of what is left is no call
       pub none_here : (others : Option (Bor (List ℕ)))
           → IsLeft place (Some left)
           → left.now ≡ part ++ behind_comma others → IsNoCallPart part → HasNoCallAt text place

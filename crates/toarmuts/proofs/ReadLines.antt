@@ -12,7 +12,6 @@ as_many [] (other ∷ others) are = absurd are
 as_many (first ∷ following) [] are = absurd are
 as_many (first ∷ following) (other ∷ others) are = ap suc (as_many following others are.1)
 
--- what holds of an error holds of it once it was handed on
 pub handed_on : {T E : Type 0} (P : E → Type 0) (e : E) (r : Result T E) → IsErr r × IsErrAnd r (λ found. found ≡ e) → P e → IfErr r P
 handed_on P e (Ok x) gives held = tt
 handed_on P e (Err found) gives held = subst P (sym gives.1) held
@@ -28,14 +27,14 @@ one_more [] (other ∷ others) line application are is = absurd are
 one_more (first ∷ following) [] line application are is = absurd are
 one_more (first ∷ following) (other ∷ others) line application are is = (are.0, one_more following others line application are.1 is)
 
--- behind so many lines stands this one
+-- this line follows n lines
 pub next_line : (all : List (List ℕ)) (n : ℕ) (line : List ℕ) → n < length all → line ≡ get_or all n line
     → all ≡ take n all ++ line ∷ drop (n + 1) all
 next_line all n line inside is =
     sym (take-append-drop n all)
     ∙ ap (λ later. take n all ++ later) (drop_more all n line inside ∙ ap (λ first. first ∷ drop (n + 1) all) (sym is))
 
--- why the line behind those that were read is refused, all are
+-- why the line after those that were read is refused, and so the text
 module _ {all : List (List ℕ)} (before : List (List ℕ)) (applications : List Application) (line : List ℕ)
     (behind : List (List ℕ)) (count : ℕ)
     (is_line : all ≡ before ++ line ∷ behind) (are : AreOfLines before applications) (same : count ≡ length applications) where

@@ -1,4 +1,4 @@
--- Worked examples: what the calls that ask a mote step by step don't do.
+-- Examples: what stepping calls on a mote don't do.
 use Rattle.std.proofs.Common.{◌≡◌, ◌∙◌, ◌+◌, ℕ, true, List, ◌∷◌, codes, refl, sym, arith, map, Some, None, []}
 use Rattle.mote_types.specs.declared.entry.Input.{Input}
 use Rattle.mote_text.specs.Script.{read_line}
@@ -19,26 +19,24 @@ closed_statuses : (feed_status (codes "tick 5") None ≡ 22) × (next_status Non
 closed_statuses = (refl, refl)
 
 module _ (there told : PlainTurn) (old new : SessionView) where
-  -- step 3 is told of a mote that was halted before
+  -- step 3 reports that a mote was halted before
   told_as_halted : GoesNext 3 there told old new → old.machine.is_halted ≡ true
   told_as_halted is = halted is.next is.is_step is.advances where
     halted : (next : Next) → 3 ≡ step_number next → Advances next old new → old.machine.is_halted ≡ true
     halted Next.Halted step advances = advances.halted
     halted next step advances = absurd (omega (arith, step))
 
-  -- where no call is awaited then, the turn is not touched; it goes on by what is made
+  -- if no call is awaited, the turn is unchanged; the history continues as the step makes it
   of_the_next : (step : ℕ) (is : GoesNext step there told old new)
       → (new.turn ≡ None → told ≡ there) × (new.inputs ≡ old.inputs) × GoesOn (with_made is.next new.last) old new
   of_the_next step is = (λ none. rw none at is.turn, is.inputs.0, is.history)
 
 module _ (old new : SessionView) where
-  -- how it goes on
   keeps_its_promise : (more : History → History) (history : History) → GoesOn more old new → IsHistoryOf history old
       → SessionPromise (more history) new
   keeps_its_promise more history goes is = (goes history is).1
 
   module _ (plain : PlainCall) where
-    -- numbers that are no call are none
     no_call : call_said plain ≡ None → TakesCall plain old new → ⊥
     no_call none takes = cc (sym none ∙ takes.said)
 
@@ -47,7 +45,7 @@ module _ (old new : SessionView) where
     answers_the_turn takes = (takes.submitted.closed, takes.inputs.1, takes.history)
 
   module _ (line : List ℕ) where
-    -- a line of no form is not taken
+    -- a malformed line is not read
     no_form : read_line line ≡ None → TakesScriptLine line old new → ⊥
     no_form none takes = rw none at takes.takes
 
@@ -62,18 +60,17 @@ module _ (old new : SessionView) where
 no_line : (bytes : List ℕ) (session : SessionView) → session.last ≡ None → IsLastLine bytes session → ⊥
 no_line bytes session none is = rw none at is
 
--- a mote is open as it was booted, and only one that boots
+-- a mote is open as it was booted, and only if it boots
 opened : (config : Config) (new : SessionView) → IsOpened config new → (is_bootable config ≡ true) × (new.machine ≡ booted config)
     × (new.turn ≡ None) × (new.last ≡ None) × IsHistoryOf (at_boot config) new
 opened config new is = (is.bootable, is.machine, is.turn, is.last, is.history)
 
--- each refusal has a number of its own
 refusal_numbers : map refusal_status (SessionRefusal.BadLine ∷ SessionRefusal.Halted ∷ SessionRefusal.AwaitsCall ∷ SessionRefusal.NoTurn
     ∷ SessionRefusal.NotAtRest ∷ SessionRefusal.NoInput ∷ SessionRefusal.TooManyInputs ∷ SessionRefusal.NoLine ∷ [])
     ≡ 2 ∷ 3 ∷ 24 ∷ 25 ∷ 26 ∷ 28 ∷ 29 ∷ 30 ∷ []
 refusal_numbers = refl
 
 module _ (R : SessionView → SessionView → Type 0) where
-  -- nothing goes on of a mote that is closed, before or behind
+  -- no step starts or ends with a closed mote
   not_of_closed : (session : SessionView) → (Goes R None (Some session) → ⊥) × (Goes R (Some session) None → ⊥)
   not_of_closed session = (λ goes. goes, λ goes. goes)

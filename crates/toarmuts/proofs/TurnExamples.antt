@@ -1,4 +1,4 @@
--- What structs say, and how turns are told, in examples.
+-- Examples: what structs say, and what turns report.
 use Rattle.std.proofs.Common.{◌≡◌, ℕ, Option, List, ◌∷◌, refl, Some, None, replicate, map, true, false, []}
 use Rattle.mote_types.specs.Codes.{number_event}
 use Rattle.mote_types.specs.declared.call.Call.{Call}
@@ -14,7 +14,7 @@ use Rattle.toarmuts.specs.Turns.{event_told, flag_number, no_stats, number_told,
 use Rattle.toarmuts.specs.declared.call.PlainCall.{PlainCall}
 use Rattle.toarmuts.specs.declared.turn.PlainTurn.{PlainTurn}
 
--- a call with these numbers, and this many bytes of 7 with them
+-- a call with these numbers, and n bytes of 7
 abbrev with_bytes : ℕ → List ℕ → ℕ → ℕ → PlainCall
 with_bytes kind numbers payload count =
     record { kind = kind; numbers = numbers; payload = payload; number = 77; length = count; bytes = replicate 128 7 }
@@ -28,18 +28,18 @@ said kind a b c d = call_said (plain kind (a ∷ b ∷ c ∷ d ∷ []))
 abbrev said_with : ℕ → ℕ → ℕ → ℕ → ℕ → ℕ → Option Call
 said_with kind a b c payload count = call_said (with_bytes kind (a ∷ b ∷ c ∷ 0 ∷ []) payload count)
 
--- the kinds are numbered as mote_types has them
+-- the kinds are numbered as in mote_types
 kinds : (said 1 5 134 9 9 ≡ Some (Call.Post 5 134 Payload.Empty)) × (said 9 2 70000 0 0 ≡ Some (Call.TimerSet 2 70000))
     × (said 18 999 999 999 999 ≡ Some Call.Wait) × (said 35 1 2 300 4 ≡ Some (Call.MembRead 1 2 300 4))
     × (said 47 300 4 0 0 ≡ Some (Call.PacketRead 300 4)) × (said 50 15 0 0 0 ≡ Some (Call.PacketSend 15))
 kinds = (refl, refl, refl, refl, refl, refl)
 
--- there is no kind 0, and none behind the last; a name fits in a byte
+-- no kind 0, and none after the last; a name is a byte
 kinds_and_names : (said 0 1 1 1 1 ≡ None) × (said 51 1 1 1 1 ≡ None) × (said 4 255 0 0 0 ≡ Some (Call.Poll 255))
     × (said 4 256 0 0 0 ≡ None) × (said 37 0 256 0 0 ≡ None)
 kinds_and_names = (refl, refl, refl, refl, refl)
 
--- the parts of a call: a number stands at each of four places, and what is no byte is no name
+-- a number at each of four positions; a name is a byte
 numbers : (number_at 2 (plain 1 (5 ∷ 6 ∷ 7 ∷ 8 ∷ [])) ≡ 7) × (number_at 4 (plain 1 (5 ∷ 6 ∷ 7 ∷ 8 ∷ [])) ≡ 0)
     × (byte_at 1 (plain 1 (256 ∷ 255 ∷ 0 ∷ 0 ∷ [])) ≡ Some 255) × (byte_at 0 (plain 1 (256 ∷ 255 ∷ 0 ∷ 0 ∷ [])) ≡ None)
 numbers = (refl, refl, refl, refl)
@@ -48,13 +48,13 @@ bytes : (bytes_within 2 (with_bytes 17 [] 0 2) ≡ Some (record { items = 7 ∷ 
     × (chunk_of (plain 17 []) ≡ Some (record { items = [] })) × (payload_of (with_bytes 1 [] 0 128) ≡ Some Payload.Empty)
 bytes = (refl, refl, refl, refl)
 
--- one name, and no number that is none; two names in their order; three
+-- one name, two in order, three; numbers that a call lacks are ignored
 counts : (said 5 300 4 0 0 ≡ None) × (call_said (with_bytes 16 (999 ∷ 999 ∷ 999 ∷ 999 ∷ []) 9 999) ≡ Some Call.Clock)
     × (said 24 3 4 0 0 ≡ Some (Call.MmemCopy 3 4)) × (said 24 256 4 0 0 ≡ None)
     × (said 39 1 2 3 999 ≡ Some (Call.ListInsert 1 2 3)) × (said 39 1 2 256 0 ≡ None)
 counts = (refl, refl, refl, refl, refl, refl)
 
--- a length is any number, its name is none; what is read: a place is any number, how many bytes is one of a byte
+-- a name is a byte; a read has any offset, and its length is a byte
 reads : (said 20 256 16 0 0 ≡ None) × (said 23 1 70000 64 999 ≡ Some (Call.MmemRead 1 70000 64)) × (said 23 1 0 256 0 ≡ None)
     × (said 47 0 256 0 0 ≡ None) × (said 35 1 2 0 256 ≡ None)
 reads = (refl, refl, refl, refl, refl)
@@ -63,7 +63,7 @@ writes : (said_with 29 1 300 0 0 2 ≡ Some (Call.HeapWrite 1 300 (record { item
     × (said_with 34 1 2 300 0 1 ≡ Some (Call.MembWrite 1 2 300 (record { items = 7 ∷ [] }))) × (said_with 34 1 256 300 0 1 ≡ None)
 writes = (refl, refl, refl, refl)
 
--- the code of an event fits in a byte, and so does the process that is posted to; 64 bytes are printed, and no more
+-- an event's code and the process it is posted to are bytes; at most 64 bytes are printed
 events_and_prints : (said 2 256 0 0 0 ≡ None) × (said 1 256 140 0 0 ≡ None)
     × (said_with 17 0 0 0 0 64 ≡ Some (Call.Print (record { items = replicate 64 7 }))) × (said_with 17 0 0 0 0 65 ≡ None)
 events_and_prints = (refl, refl, refl, refl)
@@ -85,7 +85,7 @@ inputs : (input_said 1 5 (replicate 256 7) ≡ Input.Serial (record { items = re
     × (input_said 3 0 (1 ∷ []) ≡ Input.Serial (record { items = [] }))
 inputs = (refl, refl, refl, refl, refl, refl)
 
--- a turn that tells nothing yet: what has no meaning is 0, and bytes behind the told ones stay
+-- a turn that reports nothing yet: fields without meaning are 0, and bytes after the reported ones are unchanged
 abbrev nothing_told : PlainTurn
 nothing_told = record {
   process = 4;
@@ -132,7 +132,7 @@ told_stats : turn_told 4 Origin.Answer
     ≡ record answered { reply = 6; stats = record { allocated = 1; overhead = 2; available = 3; footprint = 4; chunks = 5 }; bytes = [] }
 told_stats = refl
 
--- the numbers of what is told, and 0 for what has no meaning
+-- the numbers of what is reported, and 0 for fields without meaning
 told_numbers : (map origin_number (Origin.Event ∷ Origin.Synch ∷ Origin.Poll ∷ Origin.Callback ∷ []) ≡ 0 ∷ 1 ∷ 2 ∷ 3 ∷ [])
     × (flag_number true ≡ 1) × (flag_number false ≡ 0)
     × (map reply_told (Stimulus.Answer Reply.Done ∷ Stimulus.Answer (Reply.Num 7) ∷ Stimulus.Answer (Reply.Wide 7)
@@ -141,7 +141,6 @@ told_numbers : (map origin_number (Origin.Event ∷ Origin.Synch ∷ Origin.Poll
     × (map (λ reply. number_told (Stimulus.Answer reply)) (Reply.Wide 4294967296 ∷ Reply.Num 9 ∷ Reply.Done ∷ []) ≡ 4294967296 ∷ 9 ∷ 0 ∷ [])
 told_numbers = (refl, refl, refl, refl, refl, refl, refl, refl)
 
--- what the heap's state is told as
 all_of_the_heap : plain_stats (record { allocated = 1; overhead = 2; available = 3; footprint = 4; chunks = 5 })
     ≡ record { allocated = 1; overhead = 2; available = 3; footprint = 4; chunks = 5 }
 all_of_the_heap = refl

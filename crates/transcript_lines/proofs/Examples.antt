@@ -1,4 +1,4 @@
--- What small lines say, and what they don't.
+-- Examples: what small lines say, and what they don't.
 use Rattle.std.proofs.Common.{◌≡◌, ℕ, List, [], ◌∷◌, map, true, false, codes, Some, None, refl, ap}
 use Rattle.std.specs.Fmt.{digits}
 use Rattle.transcript_lines.specs.declared.line.Ending.{Ending}
@@ -67,7 +67,7 @@ unfolding is_turn
 no_process turn is = cc
 
 module _ (digits : Bor (List ℕ)) where
-  -- bytes arrive as pairs of digits, and an end is always one
+  -- bytes arrive as pairs of digits; an end is always one
   half_a_byte_of_a_line : digits.now ≡ codes "0" → is_line (Line.Input (Input.Serial digits)) ≡ false
   unfolding is_line
   half_a_byte_of_a_line half = ap is_bytes half

@@ -12,14 +12,13 @@ use Rattle.transcript_lines.specs.Words.{has_leading_zero, is_number, read_numbe
 digits_are_numerals : IsNumeralModel (λ ds. list_all is_ascii_digit ds ≡ true) (digits_value 10)
 digits_are_numerals = numerals_by_value _ (search rules)
 
--- digits that are too many make no number
+-- too many digits make no number
 refused : (text : List ℕ) (is_read : Bool) → (is_number text && nat_lt (digits_value 10 text) (2 ^ 64)) ≡ is_read
     → ((0 < length text) × (digits_value 10 text < 2 ^ 64) → ⊥)
     → None ≡ read_number text
 refused text false test lacks = rw test refl
 refused text true test lacks = absurd (lacks (grind (arith, nat_tests, test), grind (arith, nat_tests, test)))
 
--- what `parse` makes of digits, none of them a needless 0
 pub parsed : {E : Type 0} (text : List ℕ) (r : Result ℕ E) → list_all is_ascii_digit text ≡ true → has_leading_zero text ≡ false
     → ParsesUnsigned 64 10 text r → result_ok r ≡ read_number text
 parsed {E} text (Ok n) digits first reads =
@@ -33,7 +32,6 @@ parsed {E} text (Err e) digits first reads =
 
 module _ (text : List ℕ) where
   module _ (n : ℕ) where
-    -- what is read as a number is how it is written
     read_from : (is_read : Bool) → (is_number text && nat_lt (digits_value 10 text) (2 ^ 64)) ≡ is_read
         → read_number text ≡ Some n → text ≡ decimal n
     read_from false test reads = grind (arith, nat_tests)

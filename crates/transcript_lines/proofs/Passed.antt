@@ -18,13 +18,11 @@ use Rattle.transcript_lines.specs.Walks.{are_not_lost, is_sent}
 module _ (text : List ℕ) (s t u : Lines) (rest : lines_rest s ≡ text) (passed : List (Bor (List ℕ)))
     (by : Yields lines_steps s passed t) where
   module _ (P : List ℕ → Type 0) where
-    -- the line that is yielded is one of all
     pub is_one : (line : Bor (List ℕ)) → lines_steps t (Some line) u → P line.now → Any P (lines text)
     is_one line step holds =
         let turn = YieldsList-turn (YieldsList-from_lines text rest) passed t by (Some line) u line refl step in
         (length passed, line.now, turn.0, sym turn.1, holds)
 
-    -- at the end all were passed
     pub all_passed : lines_steps t None u → All (λ line. P line.now) passed → All P (lines text)
     all_passed step all =
         subst (All P) (YieldsList-end (YieldsList-from_lines text rest) passed t by None u refl step).0
@@ -36,7 +34,7 @@ still_none : (sent : Bool) → true ≡ not sent → sent ≡ false
 still_none true is = absurd (cc is)
 still_none false is = refl
 
--- there was no turn so far, so no line is the note of a frame; or there was one
+-- without a turn so far, no line is a frame's note; or there was a turn
 pub still_unasked : (last : Option Turn) (passed : List (Bor (List ℕ))) (line : Bor (List ℕ)) (told : Type 0)
     → (is_none last ≡ true → true ≡ not (is_sent line.now)) → ((last ≡ None) × All (λ line. is_sent line.now ≡ false) passed) ⊎ told
     → ((last ≡ None) × All (λ line. is_sent line.now ≡ false) (passed ++ line ∷ [])) ⊎ told

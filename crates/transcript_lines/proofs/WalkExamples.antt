@@ -1,4 +1,4 @@
--- What the walks ask of lines, calls and timers, at small values.
+-- Examples: what the walks require of lines, calls and timers.
 use Rattle.std.proofs.Common.{◌≡◌, ℕ, List, [], ◌∷◌, map, true, false, codes, refl}
 use Rattle.transcript_lines.proofs.Passed.{all_unused, unused}
 use Rattle.transcript_lines.specs.Walks.{are_not_lost, ends, has_name, is_all_given, is_input, is_next, is_not_early, is_not_lost, is_of_kernel, is_ripe, is_sent}
@@ -14,7 +14,7 @@ inputs = refl
 sent : map is_sent (codes "note sent 00ff" ∷ codes "note lost 9" ∷ []) ≡ true ∷ false ∷ []
 sent = refl
 
--- a timer's, and a code that is longer
+-- a timer's, and a longer code
 of_kernel : map is_of_kernel (codes "136 3" ∷ codes "13" ∷ []) ≡ true ∷ false ∷ []
 of_kernel = refl
 
@@ -25,7 +25,7 @@ armed = record unused { start = 5; interval = 10; is_armed = true }
 ripe : map (λ clock. is_ripe clock armed) (14 ∷ 15 ∷ []) ≡ false ∷ true ∷ []
 ripe = refl
 
--- delivered before its time, and in time
+-- delivered early, and in time
 given : map (λ clock. is_not_early clock (record armed { given = 1 })) (14 ∷ 15 ∷ []) ≡ false ∷ true ∷ []
 given = refl
 

@@ -10,7 +10,7 @@ use denote.Ref.{Bor}
 no_space : (byte : ℕ) → byte ≢ 32 → (byte == 32) ≡ false
 no_space byte other = grind (arith, nat_tests, other)
 
--- with no space in it, a text is one word
+-- a text without spaces is one word
 pub one_word : (text : List ℕ) → ((i : ℕ) → i < length text → get_or text i 0 ≢ 32) → words text ≡ text ∷ []
 one_word text lacks =
     slice_split_none (λ byte. byte == 32) text
@@ -20,7 +20,7 @@ some_left : (left : List (List ℕ)) (n : ℕ) → length left ≡ n + 1 → hav
 some_left [] n is = absurd (omega (arith, is))
 some_left (word ∷ left) n is = refl
 
--- without forms there is no word exactly where no text is left
+-- without forms there is no word exactly if no text is left
 pub none_left : (text : Option (Bor (List ℕ))) → have_forms [] (words_in text) ≡ is_none text
 none_left None = refl
 none_left (Some text) = some_left (words text.now) _ (length-slice_split (λ byte. byte == 32) text.now)

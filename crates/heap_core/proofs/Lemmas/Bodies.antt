@@ -36,12 +36,11 @@ module _ {heap : Region} {B : List ℕ} (laid : IsStored heap B) {chunk : Chunk}
   pub block_bytes : length (slice_range B (b + chunk.at + heap.header) (b + chunk.at + heap.header + chunk.size)) ≡ chunk.size
   block_bytes = length-range B (b + chunk.at + heap.header) chunk.size (omega (arith, laid.chunks.within, a.fits, a.enough, heap.inside))
 
-  -- a range of the name's bytes is in its chunk
   pub range_fits : (store : HeapStore) (p h at len : ℕ) → name ≡ number_of p h → find_block name store ≡ Some block
       → IsSomeAnd (block_of p h store) (λ bytes. at + len ≤ length bytes) → at + len ≤ chunk.size
   range_fits store p h at len same found range = grind (arith, block_bytes)
 
-  -- it is removed by its position, or by its name
+  -- by its position, or by its name
   by_name : filter (elsewhere chunk.at) (blocks_in heap.header B b (chunks_of heap B))
       ≡ filter (λ (other : Block). not (has_name name other)) (blocks_in heap.header B b (chunks_of heap B))
   by_name = grind (arith, eq-eqb, all_are, filter-append, filter_unnamed, few, cut_left (cut_at a))
@@ -49,7 +48,7 @@ module _ {heap : Region} {B : List ℕ} (laid : IsStored heap B) {chunk : Chunk}
   pub without_place_is : without_place chunk.at (store_of heap B) ≡ without_block name (store_of heap B)
   without_place_is = ap (store_with heap) by_name
 
-  -- among the live blocks too
+  -- also among the live blocks
   pub live_without_place : without_place chunk.at (heap_of heap B) ≡ without_block name (heap_of heap B)
   live_without_place = grind (arith, filter_swap, elsewhere, by_name)
 
@@ -104,7 +103,6 @@ module _ {heap : Region} {B : List ℕ} (laid : IsStored heap B) {chunk : Chunk}
 
 -- The live blocks are apart in the arena.
 module _ (header : ℕ) where
-  -- where a block is among others
   lies : (from size name : ℕ) (one : Block) (xs : List Block) → LieInOrder header from xs size → find (has_name name) xs ≡ Some one
       → (from ≤ one.at) × (length one.bytes ≤ one.room) × (end_of header one ≤ size)
   lies from size name one [] h e = absurd (cc)

@@ -1,7 +1,6 @@
--- The chunks that headers describe, and how they stay or change with the bytes.
+-- The chunks that headers describe, and how they change with the bytes.
 use Rattle.heap_core.proofs.Lemmas.Words.{◌≡◌, ℕ, zero, suc, ◌+◌, ◌≤◌, ◌<◌, ◌⊎◌, inl, inr, List, [], ◌∷◌, ◌++◌, false, true, refl, sym, ap, ◌∙◌, subst, arith, Option, Some, None, IsSomeAnd, lt-ltb, le-ltb, ChangesOnly, Chunk, Block, is_a_name, word_at, place_in_link, owner_in, size_in, link_in, chunk_at, chunks_from, least_len, Tell, blocks_in, Region, chunks_of, HasChunks, Stands, chunks_behind, ◌≢◌, IfSome, LiveIn, Bool, not, length, eqb, filter, ltb-true, cases_Bool, placed, has_name, ◌-◌, HeapStore, BeginsLive, AreJoined, Spliced}
 
--- the store with these blocks
 abbrev pub store_with : Region → List Block → HeapStore
 store_with heap blocks = record { size = heap.span.len; header = heap.header; blocks = blocks }
 
@@ -10,7 +9,7 @@ module _ (header : ℕ) where
   told_le B b at end [] t = omega arith
   told_le B b at end (c ∷ l) t = omega (arith, told_le B b (at + c.len) end l t.2)
 
-  -- what the headers describe is what a walk finds
+  -- a walk finds what the headers describe
   pub walked : (n : ℕ) (B : List ℕ) (b at end : ℕ) (l : List Chunk) → Tell header B b at end l → end ≤ at + n
       → chunks_from n B b at end ≡ l
   walked zero B b at end [] t few = refl
@@ -35,7 +34,6 @@ module _ (header : ℕ) where
       told_split x z (c ∷ l) r t = grind (arith, told_split (x + c.len) z l r t.2)
 
 module _ (B : List ℕ) where
-  -- the chunk that the three words of a header describe
   pub told_by : (b : ℕ) (c : Chunk) → c.len ≡ word_at B (b + c.at) → c.owner ≡ owner_in (word_at B (b + c.at + 4))
       → c.size ≡ size_in (word_at B (b + c.at + 4)) → c.link ≡ link_in c.owner (word_at B (b + c.at + 8)) → chunk_at B b c.at ≡ c
   unfolding chunk_at
@@ -52,13 +50,12 @@ module _ (B : List ℕ) where
       unfolding chunk_at
       chunk_frame side = grind arith
 
-      -- after the first two words of a live chunk any byte may change
       pub live_frame : (c : Chunk) → chunk_at B b at ≡ c → is_a_name c.owner ≡ true → b + at + 8 ≤ s → chunk_at B' b at ≡ c
       unfolding chunk_at
       live_frame c told named low = grind arith
 
 module _ (header : ℕ) (B B' : List ℕ) (b s n : ℕ) (changes : ChangesOnly s n B B') where
-  -- chunks beside them are described as before, and so are their blocks
+  -- chunks beside them, and their blocks, are unchanged
   pub framed : (x y : ℕ) (l : List Chunk) → (b + y ≤ s) ⊎ (s + n ≤ b + x) → Tell header B b x y l
       → Tell header B' b x y l × (blocks_in header B' b l ≡ blocks_in header B b l)
   framed x y [] side t = (t, refl)
@@ -96,7 +93,7 @@ module _ (header : ℕ) where
     module _ (b : ℕ) where
       module _ (at : ℕ) where
         module _ (end : ℕ) where
-          -- the first of the chunks that a walk has not passed yet, and the others
+          -- the first chunk that a walk has not passed yet, and the others
           pub record Step (chunk : Chunk) (rest : List Chunk) : Type 0 where
             pub later : List Chunk
             pub is : rest ≡ chunk ∷ later
@@ -118,7 +115,6 @@ if_some P Q o h f = grind arith
 
 -- Blocks in the order of their positions: one more, one less, or one changed.
 
--- the blocks begin between two positions
 abbrev pub Between : ℕ → ℕ → List Block → Type 0
 Between x y [] = Unit {0}
 Between x y (block ∷ blocks) = (x ≤ block.at) × (block.at < y) × Between x y blocks
@@ -126,11 +122,9 @@ Between x y (block ∷ blocks) = (x ≤ block.at) × (block.at < y) × Between x
 abbrev pub elsewhere : ℕ → Block → Bool
 elsewhere at block = not (eqb block.at at)
 
--- the number of blocks of a name
 abbrev pub count : ℕ → List Block → ℕ
 count name xs = length (filter (has_name name) xs)
 
--- each begins after the one before
 abbrev pub Ascending : ℕ → List Block → Type 0
 Ascending top [] = Unit {0}
 Ascending top (block ∷ blocks) = Between (suc block.at) top blocks × (block.at < top) × Ascending top blocks
@@ -157,13 +151,13 @@ module _ (x : ℕ) where
 
 -- Chunks that others replace.
 
--- joined chunks stay joined where what follows a gap still begins with a live one
+-- joined chunks stay joined if a live chunk still follows each gap
 begins_swap : (pre old new : List Chunk) → (BeginsLive old → BeginsLive new) → BeginsLive (pre ++ old) → BeginsLive (pre ++ new)
 begins_swap [] old new keep begins = keep begins
 begins_swap (c ∷ pre) old new keep begins = begins
 
 module _ (c : Chunk) where
-  -- Live chunks among others, before and after one of these is exchanged.
+  -- Live chunks among others, before and after one is exchanged.
   abbrev pub In : List Chunk → Type 0
   In [] = ⊥
   In (d ∷ l) = (d ≡ c) ⊎ In l
@@ -195,7 +189,6 @@ module _ (c : Chunk) where
   pub in_without : (before gone behind : List Chunk) → (In gone → ⊥) → In (before ++ (gone ++ behind)) → In before ⊎ In behind
   in_without before gone behind none h = grind (arith, in_cases)
 
-  -- a live one stays where it is none of those that are taken out
   pub live_kept : {old new : List Chunk} (before gone mid behind : List Chunk) → old ≡ before ++ (gone ++ behind)
       → new ≡ before ++ (mid ++ behind) → (In gone → ⊥) → LiveIn c old → LiveIn c new
   live_kept {old} {new} before gone mid behind was is none h = let k = in_of old h.stands in
@@ -225,7 +218,6 @@ spliced old new B B' x y before mid behind span same within changes front told b
 
 module _ (owner : Option ℕ) where
   module _ (word : ℕ) where
-    -- a live chunk has no link, whatever its third word is
     pub link_named : is_a_name owner ≡ true → link_in owner word ≡ None
     link_named named = rw named refl
 
@@ -248,7 +240,6 @@ module _ (header : ℕ) where
       ended at end [] t le = refl
       ended at end (c ∷ l) t le = grind (arith, told_le)
 
-      -- where one is
       pub in_told : (x y : ℕ) (c : Chunk) (l : List Chunk) → Tell header B b x y l → In c l → (x ≤ c.at)
           × (c.at + c.len ≤ y) × (least_len header c ≤ c.len)
       in_told x y c [] t h = absurd h
@@ -313,7 +304,7 @@ around_split heap B chunk before behind has is =
 pub around : {heap : Region} {B : List ℕ} {chunk : Chunk} → HasChunks heap B → Stands chunk (chunks_of heap B) → Around heap B chunk
 around {heap} {B} {chunk} has stands = grind (arith, around_split)
 
--- A chunk that another one of its length replaces: both are gaps, or neither is.
+-- A chunk replaced by one of its length: both are gaps, or neither is.
 module _ {heap : Region} {B : List ℕ} {chunk : Chunk} (a : Around heap B chunk) {new : Region} {B' : List ℕ} (other : Chunk)
     (span : new.span ≡ heap.span) (header : new.header ≡ heap.header) (footprint : new.footprint ≡ heap.footprint)
     (changes : ChangesOnly (heap.span.at + chunk.at) chunk.len B B') (told : chunk_at B' heap.span.at chunk.at ≡ other)
@@ -330,7 +321,7 @@ module _ (p : Block → Bool) where
   filter_between x y [] h = tt
   filter_between x y (block ∷ xs) h = grind (arith, filter_between x y xs h.2)
 
-  -- a block that stays is put among those that stay
+  -- a block that passes the filter is put among those that pass
   pub filter_placed : (top : ℕ) (block : Block) (xs : List Block) → p block ≡ true → Ascending top xs
       → filter p (placed block xs) ≡ placed block (filter p xs)
   filter_placed top block [] stays h = rw stays refl

@@ -5,7 +5,7 @@ use Rattle.heap_core.proofs.Lemmas.Gaps.{many, gaps_are, last_end}
 use Rattle.heap_core.proofs.Lemmas.Lists.{cut_at, cut_left, edit_kept, edit_put, swapped_list}
 use Rattle.mote_types.specs.declared.reply.HeapStats.{HeapStats}
 
--- with none that has no name all have one
+-- if no block is unnamed, all are named
 pub all_named : (xs : List Block) → length (unnamed xs) ≡ 0 → filter is_named xs ≡ xs
 all_named [] e = refl
 all_named (x ∷ xs) e = grind (arith, all_named xs)
@@ -13,7 +13,7 @@ all_named (x ∷ xs) e = grind (arith, all_named xs)
 pub owner_named : (o : Option ℕ) → is_a_name o ≡ true → (name : ℕ) × (o ≡ Some name) × (name < 272)
 owner_named o e = grind arith
 
--- those that stay live stay in the list
+-- chunks that stay live stay in the list
 pub freed_moved : (all new : List Chunk) (head : Option ℕ) (list : List Chunk) (at : ℕ) → NoneAt at list
     → ((other : Chunk) → LiveIn other all → other.at ≢ at → LiveIn other new) → AreFreed all head list → AreFreed new head list
 freed_moved all new head [] at none kept h = h
@@ -35,11 +35,9 @@ module _ {heap : Region} {B : List ℕ} (has : HasChunks heap B) where
   pub freed_small : FreedLinked heap B → heap.freed ≤ 8192
   freed_small f = grind (arith, many, fewer)
 
-  -- no other chunk begins where one is
   same_chunk : (c d : Chunk) → Stands c T → Stands d T → c.at ≡ d.at → c ≡ d
   same_chunk c d s s' e = sym (around has s).here ∙ ap (chunk_at B heap.span.at) e ∙ (around has s').here
 
-  -- the one that was freed last
   pub record Newest (chunk : Chunk) : Type 0 where
     pub live : LiveIn chunk T
     pub owner : chunk.owner ≡ Some FREED
@@ -48,7 +46,7 @@ module _ {heap : Region} {B : List ℕ} (has : HasChunks heap B) where
     pub later : AreFreed T chunk.link rest
     pub count : 1 + length rest ≡ heap.freed
 
-  -- the list has none, or it has the one that was freed last
+  -- the list is empty, or has the one that was freed last
   freed_cases : FreedLinked heap B → ((heap.newest ≡ None) × (heap.freed ≡ 0))
       ⊎ ((at : ℕ) × (heap.newest ≡ Some at) × (1 ≤ heap.freed) × Newest (chunk_at B heap.span.at at))
   freed_cases f = from f.list f.linked f.count
@@ -110,7 +108,6 @@ module _ {heap : Region} {B : List ℕ} {chunk : Chunk} (at : Around heap B chun
     counted : p k ≡ true → length (filter p (xs ++ (k ∷ ys))) ≡ 1 + length (filter p (xs ++ ys))
     counted kept = grind (arith, filter-append, length-append)
 
-  -- a chunk without a name is no block
   pub named_without : 272 ≤ name
       → filter is_named (filter (elsewhere chunk.at) (store_of heap B).blocks) ≡ filter is_named (store_of heap B).blocks
   named_without big = grind (arith, le-ltb, other_blocks, all_blocks, filtered)
@@ -119,7 +116,6 @@ module _ {heap : Region} {B : List ℕ} {chunk : Chunk} (at : Around heap B chun
       → length (unnamed (store_of heap B).blocks) ≡ 1 + length (unnamed (filter (elsewhere chunk.at) (store_of heap B).blocks))
   unnamed_without big = grind (arith, counted (λ k. not (is_named k)) block, other_blocks, all_blocks, le-ltb name 272 big)
 
-  -- it is set aside
   module _ (small : name < 272) (new : Region) {B' : List ℕ} (span : new.span ≡ heap.span) (header : new.header ≡ heap.header)
       (footprint : new.footprint ≡ heap.footprint)
       (told : chunk_at B' heap.span.at chunk.at
@@ -186,7 +182,7 @@ module _ {heap : Region} {B : List ℕ} {chunk : Chunk} (at : Around heap B chun
       };
     }
 
-  -- its header and its bytes are written anew, and its length stays
+  -- its header and bytes are written anew, its length stays
   module _ {n : ℕ} (room : heap.header + n ≤ chunk.len) (after : Contents)
       (changes : ChangesOnly (heap.span.at + chunk.at) chunk.len B after.bytes)
       (told : chunk_at after.bytes heap.span.at chunk.at
@@ -226,12 +222,11 @@ pub owned_live : {heap : Region} {B : List ℕ} {chunk : Chunk} {name : ℕ} →
     → LiveIn chunk (chunks_of heap B)
 owned_live has o = record { stands = o.stands; live = is_live (around has o.stands) o.owner }
 
--- a block with a name is put among the others
 placed_unnamed : (block : Block) (xs : List Block) → is_named block ≡ true → length (unnamed (placed block xs)) ≡ length (unnamed xs)
 placed_unnamed block [] named = rw named refl
 placed_unnamed block (x ∷ xs) named = grind (arith, placed_unnamed block xs named)
 
--- with no chunk set aside there is no list of them
+-- without a chunk set aside there is no list of them
 freed_none : (old new : Region) (B B' : List ℕ) → HasChunks old B → FreedLinked old B → old.freed ≡ 0 → KeepsFreed old new
     → length (unnamed (store_of new B').blocks) ≡ 0 → FreedLinked new B'
 freed_none old new B B' has f none kept all = record {
@@ -243,17 +238,16 @@ freed_none old new B B' has f none kept all = record {
 
 module _ (heap : Region) where
   module _ (B : List ℕ) where
-    -- then all chunks that are no gaps are live blocks
+    -- then all chunks but the gaps are live blocks
     pub plain : FreedLinked heap B → heap.freed ≡ 0 → heap_of heap B ≡ store_of heap B
     plain f none = ap (store_with heap)
         (all_named (store_of heap B).blocks (f.all ∙ none))
 
-    -- A heap whose chunks are joined.
     pub linked_is : HasChunks heap B → GapsLinked heap B → FreedLinked heap B → heap.freed ≡ 0
         → heap.freed + heap.gaps ≡ length (gaps (heap_of heap B))
     linked_is has list freed none = grind (arith, plain, gaps_are, length-map)
 
--- a block with a name was put where all have one
+-- a named block was put among named ones
 pub record Named (heap : Region) (B : List ℕ) (store : HeapStore) : Type 0 where
   pub freed : FreedLinked heap B
   pub none : heap.freed ≡ 0
@@ -266,7 +260,6 @@ pub put_named : {old new : Region} {B B' : List ℕ} → HasChunks old B → Fre
 put_named {old} {new} {B} {B'} has f none kept block base is all named = grind
     (arith, plain, placed_unnamed block base.blocks (lt-ltb block.name 272 named), freed_none old new B B' has f none kept)
 
--- all its chunks that are no gaps are the live blocks from before
 pub joined_is : {old new : Region} {before after : Contents} → Joins old new before after → new.freed ≡ 0
     → store_of new after.bytes ≡ heap_of old before.bytes
 joined_is {old} {new} {before} {after} joins none = sym (plain new after.bytes joins.freed none) ∙ joins.blocks
@@ -285,7 +278,6 @@ rooms_of blocks = sum_by (λ (block : Block). block.room) blocks
 abbrev gap_sum : List Gap → ℕ
 gap_sum gaps = sum_by (λ (gap : Gap). gap.len) gaps
 
--- a gap that takes the shortest chunk
 abbrev Long : ℕ → Gap → Type 0
 Long header gap = shortest header ≤ gap.len
 
@@ -321,7 +313,7 @@ module _ (header : ℕ) (B : List ℕ) (b : ℕ) where
     t.1,
   )
 
-  -- what is between two of them has whole chunks
+  -- between two live blocks are whole chunks
   pub live_gaps_long : (from x z : ℕ) (l : List Chunk) → Tell header B b x z l → AreJoined header l → (from ≡ x)
       ⊎ (from + shortest header ≤ x) → All (Long header) (gaps_from header from (live_of header B b l))
   live_gaps_long from x z [] t joined side = All-nil (Long header)
@@ -334,7 +326,7 @@ module _ (header : ℕ) (B : List ℕ) (b : ℕ) where
             (c.at + (header + (c.len - header))) (x + c.len) z l t.2 joined.2 (inl (omega arith)),
       )
 
--- the blocks with their headers, the gaps and the top gap take all bytes
+-- blocks with headers, gaps and the top gap take all bytes
 pub all_bytes : (header from size : ℕ) (xs : List Block) → LieInOrder header from xs size → (last_end header from xs ≤ size)
     × (from + (gap_sum (gaps_from header from xs) + (rooms_of xs + header * length xs)) ≡ last_end header from xs)
 all_bytes header from size [] h = (h, omega arith)
@@ -348,7 +340,7 @@ abbrev stats : ℕ → ℕ → ℕ → ℕ → ℕ → HeapStats
 stats allocated overhead available footprint chunks =
     record { allocated = allocated; overhead = overhead; available = available; footprint = footprint; chunks = chunks }
 
--- the bytes and blocks up to there were counted: the others are among the chunks from a position on
+-- bytes and blocks up to a position were counted; the others are among the chunks from there on
 pub record Counted (heap : Region) (B : List ℕ) (rooms many end at : ℕ) : Type 0 where
   pub left : List Chunk
   pub told : Tell heap.header B heap.span.at at heap.footprint left
@@ -404,7 +396,7 @@ module _ (p : Block → Bool) where
   pub none_unnamed : (xs : List Block) → length (unnamed xs) ≡ 0 → length (unnamed (filter p xs)) ≡ 0
   none_unnamed xs none = grind (arith, filter_swap, fewer)
 
-  -- blocks that change but stay among the named, or among those without a name
+  -- a change that keeps which blocks pass the filter
   pub filter_map : (f : Block → Block) → ((block : Block) → p (f block) ≡ p block) → (xs : List Block)
       → filter p (map f xs) ≡ map f (filter p xs)
   filter_map f keeps [] = refl

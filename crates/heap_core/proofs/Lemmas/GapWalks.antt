@@ -5,7 +5,7 @@ use Rattle.heap_core.proofs.Lemmas.ChunkHeaders.{place_told}
 use Rattle.heap_core.proofs.Lemmas.Gaps.{better_chunk, better_same, gaps_are}
 
 module _ (word : ℕ) where
-  -- The words that the walk stores are the positions that they encode.
+  -- The words that the walk stores encode positions.
   word_told : word ≢ 4294967295 → place_in_link word ≡ Some word
   word_told some = grind arith
 
@@ -18,7 +18,7 @@ module _ (word : ℕ) where
   stops B b from end p found [] follow far = (refl, sym follow)
   stops B b from end p found (gap ∷ left) follow far = let is : gap.at ≡ word = grind arith in grind (arith, le-ltb)
 
--- the state of a walk: the gap found is the one whose position is stored, and the gaps not passed yet decide the rest
+-- the state of a walk: the last gap found, and the gaps not passed yet
 pub record Walked (heap : Region) (B : List ℕ) (p : ℕ) (below next : Option ℕ) : Type 0 where
   pub left : List Chunk
   pub from : ℕ
@@ -63,13 +63,13 @@ module _ (B : List ℕ) where
 
 -- The search along the links for the shortest gap that is long enough.
 
--- the shorter one of the best gap yet, if there is one, and this one
+-- the shorter one of the best gap so far and this one
 abbrev shorter_of : Option Gap → Chunk → Gap
 shorter_of best gap = let this : Gap = record { at = gap.at; len = gap.len } in
     option_map_or (λ (other : Gap). shorter other this) best this
 
 module _ (need : ℕ) where
-  -- a gap that has no byte too many stays the best one
+  -- a gap of exactly that length stays the best one
   exact_kept : (found : Gap) (gaps : List Chunk) → found.len ≤ need → fold (better_chunk need) (Some found) gaps ≡ Some found
   exact_kept found [] exact = refl
   exact_kept found (gap ∷ gaps) exact = grind (arith, exact_kept found gaps exact)
@@ -91,11 +91,11 @@ module _ (need : ℕ) where
 
   module _ (best : Option Gap) where
     module _ (gap : Chunk) where
-      -- a gap that is too short leaves the best one
+      -- a gap that is too short changes nothing
       short_leaves_best : gap.len < need → best ≡ better_chunk need best gap
       short_leaves_best less = grind arith
 
-      -- one that is long enough replaces it where it is shorter
+      -- one that is long enough replaces a longer one
       long_is_compared : need ≤ gap.len → Some (shorter_of best gap) ≡ better_chunk need best gap
       long_is_compared enough = grind arith
 
@@ -105,7 +105,7 @@ module _ (heap : Region) where
         → IfSome (gap_below p (gaps_among (chunks_of heap B))) (HasHeader B heap.span.at heap.footprint)
     below_told p has linked = grind (arith, lower_told, followed)
 
-    -- the state of the search: the gap found and those not passed yet decide which is the best one
+    -- the state of the search: the best gap so far, and the gaps not passed yet
     pub record Searched (need : ℕ) (best : Option Gap) (next : Option ℕ) : Type 0 where
       pub left : List Chunk
       pub from : ℕ
@@ -131,7 +131,7 @@ module _ {heap : Region} {B : List ℕ} {need : ℕ} where
     pub next_met : NextGap B heap.span.at heap.footprint word s.left
     next_met = next_gap B heap.span.at s.from heap.footprint s.left (word_told word some) s.follow
 
-    -- the chunk, as the words that are read describe it
+    -- the chunk that the words describe
     this_is : this ≡ (let found : Gap = record { at = chunk.at; len = chunk.len } in found)
     this_is = grind (arith, place_told)
 
@@ -157,7 +157,7 @@ module _ (B : List ℕ) where
       → IfSome found (HasHeader B b end) → (found ≡ Some (chunk_at B b place)) × (place + 12 ≤ end)
   gap_kept b end place found is h = grind arith
 
-  -- a word of the span is that word of all bytes
+  -- a word of the span, read from all bytes
   pub word_inside : (b len at place : ℕ) → at + 4 ≤ len → b + at ≡ place
       → word_at (slice_range B b (b + len)) at ≡ word_at B place
   word_inside b len at place fits is = grind (arith, from_le_bytes, w32, range-range)

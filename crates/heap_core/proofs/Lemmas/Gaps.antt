@@ -1,4 +1,4 @@
--- The gaps that the blocks leave are the gaps among the chunks; and what follows from it for the positions of a heap.
+-- The gaps that the blocks leave are the gaps among the chunks; what follows for the positions of a heap.
 use Rattle.heap_core.proofs.Lemmas.Words.{◌≡◌, ℕ, ◌+◌, ◌-◌, ◌*◌, ◌≤◌, ◌<◌, ◌⊎◌, inl, inr, List, [], ◌∷◌, ◌++◌, length, refl, sym, ap, ◌∙◌, arith, Option, Some, None, fold, Chunk, Gap, Block, end_of, gaps_from, better, best_gap, least_len, Tell, BeginsLive, AreJoined, with_chunk, blocks_in, gaps_among, ◌%◌, Region, IsHeaderLength, least_room, shortest, IsWholeRoom, ◌≢◌, Bool, eqb, leb, find, if◌then◌else◌, option_map_or, option_or, eq-eqb, gaps, gap_at, room_taken, room_in_place, chunks_of, HasChunks, store_of, front_gap, place_in_chunk, LeavesGap, option_map, cases_Bool, leb-true, Place, place, place_in, top_place, Stands, LiveIn, GapAt, map, with_free, map-append}
 use Rattle.heap_core.proofs.Lemmas.ChunkHeaders.{place_told, owner_cases, told_le, Around, around, In, stands_of}
 use Rattle.std.proofs.lemmas.List.Folds.{find-append, fold-map}
@@ -6,7 +6,6 @@ use Rattle.std.proofs.lemmas.List.Folds.{find-append, fold-map}
 abbrev gap_in_chunk : Chunk → Gap
 gap_in_chunk c = record { at = c.at; len = c.len }
 
--- the gaps among these chunks
 abbrev pub gaps_in : List Chunk → List Gap
 gaps_in l = map gap_in_chunk (gaps_among l)
 
@@ -38,7 +37,7 @@ module _ (header : ℕ) (B : List ℕ) (b : ℕ) where
   abbrev gap_from : ℕ → ℕ → Gap
   gap_from from to = record { at = from; len = to - from }
 
-  -- from where the chunks begin, and from further below where they begin with a live one
+  -- from where the chunks begin, or lower if the first is live
   gaps_both : (x z : ℕ) (l : List Chunk) → Tell header B b x z l → AreJoined header l
       → (gaps_from header x (blocks_in header B b l) ≡ gaps_in l)
       × ((from : ℕ) → from < x → BeginsLive l → gaps_from header from (blocks_in header B b l) ≡ gap_from from x ∷ gaps_in l)
@@ -59,13 +58,12 @@ module _ (header : ℕ) (B : List ℕ) (b : ℕ) where
   pub end_is : (x z : ℕ) (l : List Chunk) → Tell header B b x z l → AreJoined header l → last_end header x (blocks_in header B b l) ≡ z
   end_is x z l t j = grind (arith, end_both)
 
-  -- each block has room for the words that describe a chunk
+  -- a block is at least as long as the words of a chunk
   pub many : (x z : ℕ) (l : List Chunk) → Tell header B b x z l → x + 12 * length (blocks_in header B b l) ≤ z
   many x z [] t = omega (arith, t)
   many x z (c ∷ l) t = grind (arith, many (x + c.len) z l t.2)
 
 module _ (need : ℕ) where
-  -- the best gap is one of the gaps
   better_is : (best : Option Gap) (gap : Gap) → (better need best gap ≡ best)
       ⊎ ((better need best gap ≡ Some gap) × (need ≤ gap.len))
   better_is best gap = grind arith
@@ -119,7 +117,6 @@ module _ (header : ℕ) where
     unfolding shortest
     least_of known some = grind arith
 
--- The gap that begins where a block ends.
 abbrev begins : ℕ → Gap → Bool
 begins at gap = eqb gap.at at
 
@@ -141,7 +138,7 @@ module _ (header : ℕ) where
         → len_or_none (find (begins at) (gaps_in l)) ≡ front_gap l
     front_found b at z l t = grind (arith, place_told, owner_cases, eq-eqb, no_gap)
 
--- which room there is where a block is
+-- the room at a block's position
 abbrev pub choice : ℕ → ℕ → ℕ → ℕ → ℕ → ℕ → Option ℕ
 choice least room end top_at top gap =
     if leb least room then Some (room_taken least room)
@@ -152,7 +149,6 @@ choice least room end top_at top gap =
 module _ (heap : Region) where
   -- What holds of both lengths of a header.
 
-  -- a heap has one of the two
   pub header_length : IsHeaderLength heap.header
   header_length = grind arith
 
@@ -189,7 +185,7 @@ module _ (least room end top_at top gap : ℕ) where
   choice_no_gap short more less = grind arith
 
 module _ (header : ℕ) where
-  -- what is known of the room that was chosen
+  -- the room that was chosen
   pub record Taken (least room end top_at top gap chosen : ℕ) : Type 0 where
     pub enough : least ≤ chosen
     pub on_top : end ≡ top_at → chosen ≤ room + top
@@ -207,7 +203,7 @@ module _ (header least room end top_at top gap chosen : ℕ) (most : shortest he
   pub taken : choice least room end top_at top gap ≡ Some chosen → Taken header least room end top_at top gap chosen
   taken e = grind arith
 
--- Where a block is placed: on top, or in a gap among the chunks.
+-- Where a block is placed: on top, or in a gap.
 pub record OnTop (heap : Region) (target : Place) (n : ℕ) : Type 0 where
   pub at : target.at ≡ heap.footprint
   pub fits : target.at + (heap.header + target.room) ≤ heap.span.len
@@ -250,7 +246,7 @@ module _ {heap : Region} {B : List ℕ} (has : HasChunks heap B) {n : ℕ} (some
   pub place_cases : {target : Place} → place n (store_of heap B) ≡ Some target → Outcome target
   place_cases {target} e = chosen target (best_gap (heap.header + need) (gaps (store_of heap B))) refl e
 
--- it is not where a live block is
+-- a new block is not at a live block's position
 pub elsewhere_placed : {heap : Region} {B : List ℕ} → HasChunks heap B → {n : ℕ} {target : Place} → 1 ≤ n → {chunk : Chunk}
     → LiveIn chunk (chunks_of heap B) → place n (store_of heap B) ≡ Some target → chunk.at ≢ target.at
 elsewhere_placed {heap} {B} has {n} {target} some live e same =

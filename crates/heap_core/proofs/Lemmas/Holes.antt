@@ -1,15 +1,15 @@
--- A live chunk that is laid into a hole, and the holes that there are.
+-- A live chunk that is put into a hole, and the holes.
 use Rattle.heap_core.proofs.Lemmas.Words.{◌≡◌, ◌≢◌, ℕ, ◌+◌, ◌-◌, ◌≤◌, ◌<◌, inl, inr, List, [], ◌∷◌, ◌++◌, length, refl, sym, ◌∙◌, subst, arith, Option, IfSome, filter, cases_eq, append-nil, ChangesOnly, Chunk, Place, Region, Block, block_at, with_block, least_room, room_in_place, least_len, chunk_at, Cut, EndsHole, AreJoined, Fits, Leaves, Left, Laid, Room, chunks_of, HasChunks, store_of, LinkedTo, gaps_among, LiveIn, GapsLinked, gap_count, gap_below, gap_from, Relinked, chunks_behind, GapAt, Owned, front_gap, place_in_chunk, at_place, bytes_in_chunk, IsWholeRoom, Some, None}
 use Rattle.heap_core.proofs.Lemmas.Gaps.{room_is, Taken, taken, front_gap_whole, none_in_front, lengths, needed, live_first}
 use Rattle.heap_core.proofs.Lemmas.ChunkHeaders.{store_with, elsewhere, Around, around, blocks_append, changes_more, changes_then, spliced, joined_swap, joined_behind, owner_some, told_le, framed}
 use Rattle.heap_core.proofs.Lemmas.Lists.{IsGapOf, cut_left, edit_kept, edit_put, edit_count, edit_last, edit_list}
 use Rattle.heap_core.proofs.Lemmas.Releases.{rest_of, end_below}
 
--- a chunk that fits is as long as it needs
+-- a chunk that fits has its least length
 pub fits_least : {heap : Region} {live : Chunk} {end : ℕ} → Fits heap live end → least_len heap.header live ≤ live.len
 fits_least {heap} {live} {end} fits = grind (arith, lengths)
 
--- it was put between the others, before what is left
+-- between the others, before the rest of the hole
 pub laid_before : {heap new : Region} {B A A' B' : List ℕ} {live : Chunk} {end : ℕ} {first link : Option ℕ}
     (cut : Cut heap B live.at end live.at) → EndsHole cut.behind → Fits heap live end
     → Left heap new A A' (live.at + live.len) end first link → new.span ≡ heap.span → new.header ≡ heap.header
@@ -79,7 +79,6 @@ module _ {heap : Region} {B : List ℕ} {target : Place} {end n taken : ℕ} {ol
     kept = edit_kept r.cut l.spliced;
   }
 
--- the top gap, and a gap below it
 module _ {heap : Region} {B : List ℕ} (has : HasChunks heap B) {target : Place} {n : ℕ} (whole : IsWholeRoom heap.header target.room)
     (enough : n ≤ target.room) where
   pub free_top : target.at ≡ heap.footprint → target.at + (heap.header + target.room) ≤ heap.span.len
@@ -136,7 +135,6 @@ module _ {heap : Region} {B : List ℕ} (has : HasChunks heap B) {target : Place
         blocks = grind (arith, blocks_append, none_in_front);
       }
 
--- the bytes of a block that is resized where it is, and of the gap after it
 module _ {heap : Region} {B : List ℕ} (has : HasChunks heap B) {chunk : Chunk} {name : ℕ} (o : Owned name chunk (chunks_of heap B)) where
   pub own : Around heap B chunk
   own = around has o.stands

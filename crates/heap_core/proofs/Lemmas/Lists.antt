@@ -1,9 +1,8 @@
--- The list of the gaps: walks along it, and what stays of it where chunks are exchanged.
+-- The list of the gaps: walks along it, and what remains if chunks are exchanged.
 use Rattle.heap_core.proofs.Lemmas.Words.{◌≡◌, ◌≢◌, ℕ, ◌+◌, ◌*◌, ◌≤◌, ◌<◌, ◌⊎◌, inl, List, [], ◌∷◌, ◌++◌, length, refl, sym, ap, ◌∙◌, subst, arith, Option, Some, None, IfSome, fold, append_assoc, length-append, Chunk, Region, chunk_at, Tell, chunks_of, HasChunks, gaps_among, behind_link, LinkedTo, Stands, gap_count, Follow, below_from, gap_below, gap_from, last_of, place_in_link, Relinked, KeepsFreed, append-nil, front_gap, ChangesOnly, store_of, LinkChanged, OnlyAt, Cut, Spliced, filter, Block, LiveIn, blocks_in, GapsLinked, without_place, with_block, eq-eqb, filter-append, IsLink}
 use Rattle.heap_core.proofs.Lemmas.ChunkHeaders.{store_with, Around, place_told, told_append, told_le, owner_cases, around, blocks_append, changes_more, around_split, live_kept, In, swapped, in_of, in_told, in_without, elsewhere, filter_elsewhere, blocks_between, placed_front, placed_behind}
 use Rattle.heap_core.proofs.Lemmas.Gaps.{none_in_front, gaps_append, gap_first}
 
--- the number of gaps among consecutive chunks
 pub gaps_counted : (before mid behind : List Chunk)
     → length (gaps_among (before ++ (mid ++ behind))) ≡ length (gaps_among before) + (length (gaps_among mid) + length (gaps_among behind))
 gaps_counted before mid behind = grind (arith, gaps_append, length-append)
@@ -21,7 +20,6 @@ pub linked_parted : (head end : Option ℕ) (l r : List Chunk) → LinkedTo head
 linked_parted head end [] r h = record { mid = head; front = refl; back = h }
 linked_parted head end (c ∷ l) r h = grind (arith, linked_parted (behind_link head c c.owner) end l r h.1)
 
--- walks along the links
 follow_lower : (B : List ℕ) (b from end lower : ℕ) (head : Option ℕ) (l : List Chunk) → lower ≤ from → Follow B b from end head l
     → Follow B b lower end head l
 follow_lower B b from end lower head [] le h = h
@@ -41,12 +39,12 @@ followed header B b x end head (c ∷ l) t h = grind (
 )
 
 module _ (head : Option ℕ) where
-  -- without a gap there is nothing to link
+  -- without a gap nothing is linked
   pub linked_none : (l : List Chunk) → gaps_among l ≡ [] → LinkedTo head l head
   linked_none [] e = refl
   linked_none (c ∷ l) e = grind (arith, linked_none l)
 
-  -- what is below a position, and from there on
+  -- what is below a position, and what is from there on
   pub record Ends (p : ℕ) (all before behind : List Chunk) : Type 0 where
     pub front : LinkedTo head before (gap_from p (gaps_among all))
     pub last : gap_below p (gaps_among all) ≡ last_of (gaps_among before)
@@ -55,7 +53,6 @@ module _ (head : Option ℕ) where
   module _ (end : Option ℕ) where
     module _ (c : Chunk) where
       module _ (l : List Chunk) where
-        -- one chunk at the front
         pub linked_gap : c.owner ≡ None → LinkedTo head (c ∷ l) end → (head ≡ Some c.at)
             × LinkedTo c.link l end
         linked_gap e h = grind arith
@@ -80,7 +77,6 @@ module _ (header : ℕ) (B : List ℕ) (b : ℕ) where
     gap_from_small x y most (c ∷ l) t le =
         grind (arith, gap_from_small (x + c.len) y most l t.2 le, told_le header B b (x + c.len) y l t.2, place_told B b x c t.0, t.1)
 
-    -- those below it are passed
     passed : (x y : ℕ) (found : Option Chunk) (l : List Chunk) (gaps : List Chunk) → Tell header B b x y l → y ≤ p
         → (gap_from p (gaps_among l ++ gaps) ≡ gap_from p gaps)
         × (below_from p found (gaps_among l ++ gaps) ≡ below_from p (fold (λ _ gap. Some gap) found (gaps_among l)) gaps)
@@ -96,7 +92,6 @@ module _ (header : ℕ) (B : List ℕ) (b : ℕ) where
           t.1,
         )
 
-    -- and no other
     stopped : (x y : ℕ) (head : Option ℕ) (found : Option Chunk) (l : List Chunk) → Tell header B b x y l → p ≤ x → LinkedTo head l None
         → (gap_from p (gaps_among l) ≡ head) × (below_from p found (gaps_among l) ≡ found)
     stopped x y head found [] t le h = (sym h, refl)
@@ -137,7 +132,6 @@ module _ (B : List ℕ) (b from end : ℕ) {head : Option ℕ} where
   no_gap [] e h = refl
   no_gap (c ∷ l) e h = absurd (let two = sym e ∙ h.0 in cc)
 
-  -- a word that encodes it is no lower
   pub rises : (l : List Chunk) (word : ℕ) → head ≡ place_in_link word → from ≤ 4294967295 → Follow B b from end head l → from ≤ word
   rises [] word e most h = grind arith
   rises (c ∷ l) word e most h = grind arith
@@ -153,7 +147,6 @@ module _ (c : Chunk) where
   pub live_none : c.owner ≢ None → gaps_among (c ∷ []) ≡ []
   live_none live = grind arith
 
--- the last gap of some chunks
 pub record LastGap (gap : Chunk) (l : List Chunk) : Type 0 where
   pub before : List Chunk
   pub behind : List Chunk
@@ -184,7 +177,7 @@ no_last l e = none (gaps_among l) e
     none [] e = refl
     none (c ∷ gaps) e = absurd (some_last c gaps e)
 
--- the last gap of the first chunks is one of all
+-- the last gap of a prefix is one of all gaps
 abbrev pub IsGapOf : List Chunk → Chunk → Type 0
 IsGapOf all gap = Stands gap all × (gap.owner ≡ None)
 
@@ -197,7 +190,6 @@ last_stands (Some gap) before rest all e is = let l = last_gap gap before (sym e
 pub kept_then : {a b c : Region} → KeepsFreed a b → KeepsFreed b c → KeepsFreed a c
 kept_then first second = grind arith
 
--- a position of one of the gaps is small
 pub link_small : {heap : Region} {B : List ℕ} → HasChunks heap B → {link : Option ℕ} (at : ℕ)
     → link ≡ gap_from at (gaps_among (chunks_of heap B))
     → IsLink link
@@ -208,7 +200,7 @@ pub lowest_small : {heap : Region} {B : List ℕ} → HasChunks heap B → Linke
 lowest_small {heap} {B} has linked = link_small has 0
     (sym (stopped heap.header B heap.span.at 0 0 heap.footprint heap.lowest None (chunks_of heap B) has.told (omega arith) linked).0)
 
--- a list that leads to these gaps begins at only one position
+-- two lists of the same gaps have one head
 linked_same : (one other end : Option ℕ) (l : List Chunk) → LinkedTo one l end → LinkedTo other l end → one ≡ other
 linked_same one other end [] h k = h ∙ sym k
 linked_same one other end (c ∷ l) h k = grind (arith, linked_same one other end l)
@@ -232,12 +224,11 @@ module _ {heap : Region} {B : List ℕ} where
       → 12 * length (gaps_among (chunks_of heap B)) ≤ heap.footprint
   gaps_few has linked = grind (arith, followed)
 
-  -- no gap is above the footprint
   pub above_all : HasChunks heap B → from_place heap B heap.footprint ≡ None
   above_all has = ap (gap_from heap.footprint) (sym (append-nil (gaps_among (chunks_of heap B))))
       ∙ (passed heap.header B heap.span.at heap.footprint 0 heap.footprint None (chunks_of heap B) [] has.told (omega arith)).0
 
-  -- the list below chunks that may go, and after them
+  -- the list below the removed chunks, and after them
   module _ {p q at : ℕ} (cut : Cut heap B p q at) (linked : LinkedTo heap.lowest (chunks_of heap B) None) where
     pub cut_low : Ends heap.lowest p (chunks_of heap B) cut.before (cut.gone ++ cut.behind)
     cut_low =
@@ -275,11 +266,11 @@ module _ {heap : Region} {B : List ℕ} where
     ends_below : Ends heap.lowest chunk.at (chunks_of heap B) a.before (chunk ∷ a.behind)
     ends_below = cut_low (cut_at a) linked
 
-    -- the gap below a chunk is the last one of those before it
+    -- the gap below a chunk is the last one before it
     pub below_is : gap_below chunk.at (gaps_among (chunks_of heap B)) ≡ last_of (gaps_among a.before)
     below_is = ends_below.last
 
-    -- after a gap follows the one that it is linked to
+    -- a gap is linked to the one that follows it
     pub behind_gap : chunk.owner ≡ None → chunk.link ≡ from_place heap B (chunk.at + chunk.len)
     behind_gap free = grind (arith, ends_over, ends_below, linked_same, linked_gap)
 
@@ -287,7 +278,6 @@ module _ {heap : Region} {B : List ℕ} where
     leads_to_gap free = grind (arith, ends_below)
 
     module _ (live : chunk.owner ≢ None) where
-      -- a live chunk is none of them
       pub over_live : from_place heap B chunk.at ≡ from_place heap B (chunk.at + chunk.len)
       over_live = grind (arith, owner_cases, ends_below, ends_over, linked_same, linked_live)
 
@@ -311,7 +301,7 @@ module _ {heap : Region} {B : List ℕ} where
         pub gap_fits : chunk.at + chunk.len + 12 ≤ heap.footprint
         gap_fits = omega (arith, gap_place, gap_around.fits, gap_around.enough)
 
--- the gap directly after a live chunk is linked to the next one
+-- a gap directly after a live chunk is linked to the next one
 pub over_gap : {heap : Region} {B : List ℕ} {chunk : Chunk} (a : Around heap B chunk) → LinkedTo heap.lowest (chunks_of heap B) None
     → chunk.owner ≢ None → front_gap a.behind ≢ 0
     → (chunk_at B heap.span.at (chunk.at + chunk.len)).link ≡ gap_from (chunk.at + chunk.len + front_gap a.behind)
@@ -352,7 +342,6 @@ module _ {heap : Region} {B : List ℕ} {p q at : ℕ} (cut : Cut heap B p q at)
   none_of : (c : Chunk) → c.owner ≢ None → c.at ≢ at → In c cut.gone → ⊥
   none_of c live far k = grind (arith, only_at)
 
-  -- where they are
   pub cut_apart : (c : Chunk) → LiveIn c all → c.at ≢ at
       → (c.at + heap.header + c.size ≤ p) ⊎ ((q ≤ c.at) × (c.at < heap.footprint))
   cut_apart c h far =
@@ -392,7 +381,7 @@ module _ {heap : Region} {B : List ℕ} {p q at : ℕ} (cut : Cut heap B p q at)
       pub edit_grown : gap_from p (gaps_among all) ≡ first → new.lowest ≡ heap.lowest → LinkedTo new.lowest (chunks_of new B') None
       edit_grown there same = grind (arith, linked_append, cut_high cut linked, cut_low cut linked)
 
--- where a live chunk becomes another one, the gaps stay
+-- if a live chunk is replaced by another one, the gaps stay
 pub swapped_list : {heap new : Region} {B B' : List ℕ} {chunk other : Chunk} (a : Around heap B chunk)
     → Spliced heap new B B' a.before (other ∷ []) a.behind → chunk.owner ≢ None → other.owner ≢ None → new.lowest ≡ heap.lowest
     → new.gaps ≡ heap.gaps → GapsLinked heap B → GapsLinked new B'
@@ -411,7 +400,6 @@ linked_again : (head end first : Option ℕ) (gap new : Chunk) (before behind : 
 linked_again head end first gap new before behind free free' at link none h =
     grind (arith, linked_parted, linked_gap, linked_append, link_gap, linked_none)
 
--- A gap that is linked to another position.
 module _ {heap : Region} {B : List ℕ} {gap : Chunk} (a : Around heap B gap) (first : Option ℕ) (free : gap.owner ≡ None) where
   abbrev new : Chunk
   new = record { at = gap.at; len = gap.len; owner = gap.owner; size = gap.size; link = first }
@@ -422,7 +410,7 @@ module _ {heap : Region} {B : List ℕ} {gap : Chunk} (a : Around heap B gap) (f
         (changes_more changes (omega arith) (omega (arith, a.enough)))
         told refl a.enough ((λ live. live), (λ none. none))
 
-    -- the last gap among the first chunks is that one
+    -- it is the last gap of the prefix
     relinked_list : (before behind : List Chunk) (end : Option ℕ) → chunks_of heap B ≡ before ++ behind
         → last_of (gaps_among before) ≡ Some gap → LinkedTo heap.lowest before end → LinkedTo first behind None
         → LinkedTo heap.lowest (chunks_of heap B') None

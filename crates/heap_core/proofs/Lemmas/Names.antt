@@ -16,7 +16,6 @@ module _ (name : ℕ) where
   pub owned : (chunk : Chunk) (l : List Chunk) → find (owned_by name) l ≡ Some chunk → Owned name chunk l
   owned chunk l e = let k = owned_in chunk l e in record { stands = stands_of chunk l k.0; owner = k.1 }
 
-  -- the number of blocks of a name
   pub count_append : (xs ys : List Block) → count name (xs ++ ys) ≡ count name xs + count name ys
   count_append xs ys = grind (arith, filter-append, length-append)
 
@@ -28,17 +27,14 @@ module _ (name : ℕ) where
   count_filter p [] = omega arith
   count_filter p (x ∷ xs) = grind (arith, count_filter p xs)
 
-  -- blocks none of which has the name
   pub filter_unnamed : (xs : List Block) → count name xs ≡ 0 → filter (λ block. not (has_name name block)) xs ≡ xs
   filter_unnamed [] e = refl
   filter_unnamed (x ∷ xs) e = grind (arith, filter_unnamed xs)
 
-  -- blocks without those of a name
   pub count_unnamed : (xs : List Block) → count name (filter (λ block. not (has_name name block)) xs) ≡ 0
   count_unnamed [] = refl
   count_unnamed (x ∷ xs) = grind (arith, count_unnamed xs)
 
-  -- a name's blocks are among those that have names
   pub find_named : (xs : List Block) → name < 272 → find (has_name name) (filter is_named xs) ≡ find (has_name name) xs
   find_named [] small = refl
   find_named (x ∷ xs) small = grind (arith, find_named xs small)
@@ -53,7 +49,6 @@ module _ (name : ℕ) where
     map_unnamed [] e = refl
     map_unnamed (x ∷ xs) e = grind (arith, map_unnamed xs)
 
-    -- blocks that change but keep their names
     pub count_map : ((block : Block) → (f block).name ≡ block.name) → (xs : List Block)
         → count name (map f xs) ≡ count name xs
     count_map keeps [] = refl
@@ -76,12 +71,10 @@ module _ (name : ℕ) where
       pub count_first : block.name ≡ name → count name (block ∷ xs) ≡ 1 + count name xs
       count_first e = grind arith
 
-      -- one more of a name that has none
       pub named_with : count block.name xs ≡ 0 → count name xs ≤ 1
           → count name (placed block xs) ≤ 1
       named_with none few = grind (arith, cases_eq, count_placed)
 
--- a table of no positions
 abbrev pub nowhere : Option ℕ
 nowhere = None
 
@@ -90,7 +83,7 @@ none_placed zero name = refl
 none_placed (suc n) zero = refl
 none_placed (suc n) (suc name) = none_placed n name
 
--- one entry is set for the one block that changed
+-- one entry is set, for the one block that changed
 module _ (places : List (Option ℕ)) (old new : HeapStore) (name : ℕ) (entry : Option ℕ) (small : name < 272)
     (others : (other : ℕ) → other ≢ name → find_block other new ≡ find_block other old) (mine : place_found name new ≡ entry) where
   pub placed_set : ArePlaced places old → ArePlaced (slice_set places name entry) new
@@ -106,7 +99,6 @@ module _ (name : ℕ) where
   find_gone [] = refl
   find_gone (block ∷ blocks) = grind (arith, find_gone blocks)
 
-  -- blocks that change but keep their names and their positions
   pub find_map : (f : Block → Block) → ((block : Block) → (f block).name ≡ block.name)
       → ((block : Block) → (f block).at ≡ block.at) → (blocks : List Block)
       → option_map (λ (block : Block). block.at) (find (has_name name) (map f blocks)) ≡ option_map (λ (block : Block). block.at)
@@ -115,9 +107,8 @@ module _ (name : ℕ) where
   find_map f keeps stays (block ∷ blocks) = grind (arith, find_map f keeps stays blocks)
 
   module _ (block : Block) where
-    -- The table of positions: what is found of a name after a change of one block.
+    -- The table of positions: what a name finds after one block changes.
 
-    -- what is found of a name among the blocks
     other_name : name ≢ block.name → has_name name block ≡ false
     other_name ne = grind arith
 
@@ -142,22 +133,20 @@ module _ (header : ℕ) where
     find_is b name [] = refl
     find_is b name (c ∷ l) = grind (arith, find_is b name l)
 
-    -- a name that has a block has a chunk
     pub some_owned : (b name : ℕ) (l : List Chunk) (o : Option Chunk) → o ≡ find (owned_by name) l
         → IsSome (find (has_name name) (blocks_in header B b l)) → IsSome o
     some_owned b name l o e live = grind (arith, false≢true, find_is)
 
 module _ (heap : Region) where
-  -- What is known of all chunks, those that were freed and are not joined yet among them.
+  -- What holds of all chunks, also of those that are freed and not joined.
 
-  -- the headers in the heap's span describe chunks, each name has one at most, and the table has its position
+  -- headers in the span describe chunks, each name has at most one, and the table has its position
   pub record IsStored (bytes : List ℕ) : Type 0 where
     pub chunks : HasChunks heap bytes
     pub named : (name : ℕ) → name < 272 → length (filter (has_name name) (store_of heap bytes).blocks) ≤ 1
     pub places : ArePlaced heap.places (store_of heap bytes)
 
   module _ (B : List ℕ) where
-    -- the block of a chunk that was found
     pub block_found : (name p h : ℕ) (o : Option Chunk) → name < 272 → name ≡ number_of p h
         → o ≡ find (owned_by name) (chunks_of heap B)
         → option_map (block_in_chunk heap.header B heap.span.at name) o ≡ find_block (number_of p h) (heap_of heap B)
@@ -191,14 +180,12 @@ module _ {heap : Region} {B : List ℕ} (laid : IsStored heap B) {name : ℕ} (s
 module _ (places : List (Option ℕ)) where
   module _ (store : HeapStore) where
     module _ (new : HeapStore) where
-      -- a name's block is freed
       pub placed_less : (name : ℕ) → name < 272 → new ≡ without_block name store
           → ArePlaced places store → ArePlaced (slice_set places name None) new
       placed_less name small is = search (rules, placed_set, find_without, find_gone)
 
       module _ (target : Place) where
         module _ (name : ℕ) where
-          -- a name gets a block
           pub placed_more : (bytes : List ℕ) → name < 272
               → find_block name store ≡ None → new ≡ with_block (block_at target name bytes) store → ArePlaced places store
               → ArePlaced (slice_set places name (Some target.at)) new
@@ -210,14 +197,12 @@ module _ (places : List (Option ℕ)) where
           placed_again bytes small is =
               search (rules, placed_set, find_placed, other_name, find_without, find_put, eq-eqb, find_gone)
 
-          -- or stays where it is
           pub placed_there : (bytes : List ℕ)
               → place_found name store ≡ Some target.at → new ≡ put_again name target bytes store → ArePlaced places store
               → ArePlaced places new
           placed_there bytes at is were =
               grind (arith, cases_eq, find_put, eq-eqb, find_gone, find_placed, other_name, find_without)
 
-      -- to the position that was found for it
       pub placed_moved : (found : Option Place) (at name : ℕ) (bytes : List ℕ) → name < 272
           → option_map (λ (target : Place). target.at) found ≡ Some at
           → option_map (λ target. put_again name target bytes store) found ≡ Some new → ArePlaced places store

@@ -1,10 +1,9 @@
--- A chunk that goes with the gaps beside it.
+-- A chunk that is freed, with the gaps beside it.
 use Rattle.heap_core.proofs.Lemmas.Words.{◌≡◌, ◌≢◌, ℕ, ◌+◌, ◌-◌, ◌%◌, ◌≤◌, ◌<◌, inl, inr, List, [], ◌∷◌, ◌++◌, length, refl, sym, ap, ◌∙◌, subst, arith, Option, Some, None, cases_eq, eq-eqb, ne_eqb, append-nil, append_assoc, length-append, Chunk, Region, chunk_at, Tell, BeginsLive, AreJoined, chunks_of, chunks_behind, gaps_among, last_of, LinkedTo, Left, OnlyAt, EndsHole, gap_count, gap_below, gap_from, Cleared, free_from, front_gap, ReachesWithGaps}
 use Rattle.heap_core.proofs.Lemmas.Lists.{count_some, count_none, LastGap, last_gap, no_last, below_is, leads_to_gap, only_append, edit_kept, edit_gone, edit_count}
 use Rattle.heap_core.proofs.Lemmas.Gaps.{gaps_append, gap_first, live_first}
 use Rattle.heap_core.proofs.Lemmas.ChunkHeaders.{told_append, told_le, split_at, owner_cases, spliced, joined_swap, Around, around_split, ended, joined_behind}
 
--- chunks without a gap may precede any that are joined
 joined_live : (header : ℕ) (l old new : List Chunk) → gaps_among l ≡ [] → AreJoined header (l ++ old) → AreJoined header new
     → AreJoined header (l ++ new)
 joined_live header [] old new none was joined = joined
@@ -14,7 +13,7 @@ begins_live : (l new : List Chunk) → l ≢ [] → gaps_among l ≡ [] → Begi
 begins_live [] new more none = absurd (more refl)
 begins_live (c ∷ l) new more none = grind (arith, gap_first)
 
--- chunks without a gap at the front
+-- chunks, without the gap at their front, if any
 pub record Rest (header : ℕ) (B : List ℕ) (b x z : ℕ) (l : List Chunk) : Type 0 where
   pub post : List Chunk
   pub gone : List Chunk
@@ -69,7 +68,6 @@ rest_from header B b x z (d ∷ l) t joined = elim (owner_cases d.owner) [
 ]
 
 module _ {heap : Region} {B : List ℕ} {chunk : Chunk} (a : Around heap B chunk) where
-  -- the chunks before it, without a gap that ends where it begins
   record Front (from : ℕ) : Type 0 where
     pub pre : List Chunk
     pub gone : List Chunk
@@ -145,7 +143,7 @@ module _ {heap : Region} {B : List ℕ} {chunk : Chunk} (a : Around heap B chunk
             rw is (front_gap_below gap k short)
       ]
 
-  -- the chunks after it, without a gap that begins where it ends
+  -- the chunks after it, without an adjacent gap
   pub rest_of : Rest heap.header B heap.span.at (chunk.at + chunk.len) heap.footprint a.behind
   rest_of = grind (arith, rest_from)
 
@@ -192,7 +190,7 @@ module _ {heap : Region} {B : List ℕ} {chunk : Chunk} (a : Around heap B chunk
       reached live from to (subst Front (sym begins) (front_of linked below (sym (is ∙ below_is a linked))))
       (ends ∙ ap (λ l. chunk.at + chunk.len + front_gap l) a.behind_is)
 
--- it becomes one gap with those beside it, or a part of the top gap
+-- it becomes one gap with its neighbours, or part of the top gap
 pub cleared : {heap new : Region} {B B' : List ℕ} {chunk : Chunk} {from end : ℕ} {first link : Option ℕ}
     (r : ReachesWithGaps heap B chunk from end) → Left heap new B B' from end first link → new.span ≡ heap.span → new.header ≡ heap.header
     → heap.gaps ≡ length (gaps_among (chunks_of heap B)) → Cleared heap new B B' chunk from end first link

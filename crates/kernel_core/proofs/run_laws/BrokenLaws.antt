@@ -1,4 +1,4 @@
--- Transcripts that no run makes: each breaks one law, which says so.
+-- Transcripts that no run makes: each breaks one law.
 use Rattle.std.proofs.Common.{◌≡◌, ℕ, false, List, [], ◌∷◌, ◌++◌, ap, refl, arith}
 use Rattle.kernel_core.proofs.Common.{decide, ArrayVec, number_event, plain_event, EXITED, TIMER, Call, Entry, Input, Note, Event, Origin, Payload, Stimulus, Refusal, Reply, IsAtRest, HasCall, up_to_call, is_turn_entry, list_any, BlocksAreOwn, EventsArriveInOrder, TimersAreKept}
 use Rattle.kernel_core.proofs.run_laws.Examples.{started, told, turn_of}
@@ -23,7 +23,7 @@ second_given_first : EventsArriveInOrder 2 (posted ++ given 4 (plain_event 141) 
 second_given_first laws =
     omega (arith, ap first_code (laws.in_order 4 refl (posted ++ given 4 (plain_event 141) ∷ []) [] refl refl).1)
 
--- a post that was refused is delivered nevertheless
+-- a refused post is delivered
 abbrev refused_post : List Entry
 refused_post = started 5 (Call.Post 4 140 Payload.Empty) ∷ told 5 (Reply.Refused Refusal.Full) Call.Wait ∷ []
 
@@ -31,11 +31,11 @@ given_though_refused : EventsArriveInOrder 2 (refused_post ++ given 4 (plain_eve
 given_though_refused laws =
     cc (laws.in_order 4 refl (refused_post ++ given 4 (plain_event 140) ∷ []) [] refl refl).1
 
--- an EXITED event with the origin of a post: process 4 receives one that nobody posted
+-- an EXITED event as if it were posted: nobody posted it
 told_of_an_exit : EventsArriveInOrder 2 (started 4 Call.Wait ∷ given 4 (number_event EXITED 5) ∷ []) → ⊥
 told_of_an_exit laws = cc (laws.in_order 4 refl (started 4 Call.Wait ∷ given 4 (number_event EXITED 5) ∷ []) [] refl refl).1
 
--- the last of sixteen applications, process 19, receives one that nobody posted; it doesn't receive one that was posted
+-- process 19, the last of 16, receives an event that nobody posted; it doesn't receive a posted one
 last_told : EventsArriveInOrder 16 (started 19 Call.Wait ∷ given 19 (plain_event 140) ∷ []) → ⊥
 last_told laws = cc (laws.in_order 19 refl (started 19 Call.Wait ∷ given 19 (plain_event 140) ∷ []) [] refl refl).1
 
@@ -58,7 +58,7 @@ armed = started 4 (Call.TimerSet 2 0) ∷ told 4 Reply.Done Call.Wait ∷ []
 never_told : TimersAreKept 1 armed → ⊥
 never_told laws = cc (laws.not_lost 4 refl armed 2 (IsAtRest.at_end refl) refl refl)
 
--- a timer that was stopped before its deadline, and whose event is delivered nevertheless
+-- the event of a timer that was stopped before its deadline is delivered
 abbrev stopped : List Entry
 stopped =
     started 4 (Call.TimerSet 2 5)
@@ -71,7 +71,7 @@ stopped =
 told_though_stopped : TimersAreKept 1 stopped → ⊥
 told_though_stopped laws = omega (arith, laws.not_early 4 refl stopped [] 2 refl)
 
--- and the timers of process 19, the last of sixteen applications
+-- timers of process 19
 last_given_unarmed : TimersAreKept 16 (given 19 (number_event TIMER 2) ∷ []) → ⊥
 last_given_unarmed laws = omega (arith, laws.not_early 19 refl (given 19 (number_event TIMER 2) ∷ []) [] 2 refl)
 
@@ -81,7 +81,7 @@ last_armed = started 19 (Call.TimerSet 2 0) ∷ told 19 Reply.Done Call.Wait ∷
 last_timer_never_told : TimersAreKept 16 last_armed → ⊥
 last_timer_never_told laws = cc (laws.not_lost 19 refl last_armed 2 (IsAtRest.at_end refl) refl refl)
 
--- Blocks of process 4, and of process 19.
+-- Blocks of processes 4 and 19.
 
 abbrev nines : ArrayVec ℕ
 nines = record { items = 9 ∷ 9 ∷ [] }
@@ -89,7 +89,7 @@ nines = record { items = 9 ∷ 9 ∷ [] }
 abbrev not_live : Reply
 not_live = Reply.Refused Refusal.NotLive
 
--- a call with a reply, of a process that made a block before
+-- a call and its reply, after the process made a block
 abbrev answered : ℕ → Call → Call → Reply → List Entry
 answered p made call reply = started p made ∷ told p Reply.Done call ∷ told p reply Call.Wait ∷ []
 
@@ -107,7 +107,7 @@ heap_misread laws = cc ((laws.heap _ (turn_of 4 _) _ (omega arith) (has_answered
 last_misread : BlocksAreOwn (answered 19 (Call.MmemAlloc 0 2) (Call.MmemRead 0 0 2) (Reply.Bytes nines)) → ⊥
 last_misread laws = cc ((laws.managed _ (turn_of 19 _) _ (omega arith) (has_answered 19)).reads nines 0 0 2 refl refl)
 
--- a block that is there is called not live
+-- the reply denies a live block
 managed_denied : BlocksAreOwn (answered 4 (Call.MmemAlloc 0 2) (Call.MmemFree 0) not_live) → ⊥
 managed_denied laws = cc (((laws.managed _ (turn_of 4 _) _ (omega arith) (has_answered 4)).live refl).0 refl)
 
@@ -117,7 +117,7 @@ heap_denied laws = cc (((laws.heap _ (turn_of 4 _) _ (omega arith) (has_answered
 last_denied : BlocksAreOwn (answered 19 (Call.HeapAlloc 0 2) (Call.HeapFree 0) not_live) → ⊥
 last_denied laws = cc (((laws.heap _ (turn_of 19 _) _ (omega arith) (has_answered 19)).live refl).0 refl)
 
--- a block that was freed is freed again
+-- a freed block is freed again
 abbrev freed_before : Call → Call → Call → List Entry
 freed_before made freed call =
     started 4 made ∷ told 4 Reply.Done freed ∷ told 4 Reply.Done call ∷ told 4 Reply.Done Call.Wait ∷ []
@@ -132,7 +132,7 @@ managed_freed_twice laws = cc (((laws.managed _ (turn_of 4 _) _ (omega arith) ha
 heap_freed_twice : BlocksAreOwn (freed_before (Call.HeapAlloc 0 2) (Call.HeapFree 0) (Call.HeapFree 0)) → ⊥
 heap_freed_twice laws = cc (((laws.heap _ (turn_of 4 _) _ (omega arith) has_freed).live refl).1 refl)
 
--- a second block of one name is made
+-- two blocks get one name
 managed_made_twice : BlocksAreOwn (answered 4 (Call.MmemAlloc 0 2) (Call.MmemAlloc 0 2) Reply.Done) → ⊥
 managed_made_twice laws = cc (((laws.managed _ (turn_of 4 _) _ (omega arith) (has_answered 4)).unused refl).1 refl)
 
@@ -148,11 +148,10 @@ not_empty : (earlier between : List Entry) (entry : Entry) → (earlier ++ entry
 not_empty [] between entry same = cc
 not_empty (first ∷ earlier) between entry same = cc
 
--- a frame that nobody sends
 sent_by_nobody : BlocksAreOwn (Entry.Note (Note.Sent nines) ∷ []) → ⊥
 sent_by_nobody laws = not_empty _ _ _ (laws.sent [] [] nines refl).split
 
--- a note after another process's turn: process 4 sends its block, and process 5 takes a turn before the note
+-- process 4 sends its block, and process 5 takes a turn before the note
 abbrev sent_late : List Entry
 sent_late = started 4 (Call.MmemAlloc 0 2) ∷ told 4 Reply.Done (Call.PacketSend 0) ∷ started 5 Call.Wait ∷ []
 

@@ -1,4 +1,4 @@
--- Every note of a packet that was sent is after its sender's turn, and has the bytes of the sender's block.
+-- Each note of a sent packet follows its sender's turn and has the bytes of the sender's block.
 use Rattle.std.proofs.Common.{◌≡◌, ℕ, ◌≤◌, Bool, true, false, List, ◌∷◌, [], refl, arith, append-nil, nat_le, Option, Some, None}
 use Rattle.std.proofs.lemmas.List.{get_or_past}
 use Rattle.node_memory.specs.Frames.{send_refusal}
@@ -10,7 +10,7 @@ use Rattle.kernel_core.specs.Laws.Sent.{IsSent}
 use Rattle.kernel_core.proofs.run_laws.OwnBlocks.{are-own, heap_store, heap-keeps, managed_store, blocks-told, managed-keeps, own_view, own-laws, boot-has}
 use Rattle.kernel_core.proofs.run_laws.Whole.{View, Holds, Fitting, told_cases, boot-holds}
 
--- no note of a packet
+-- no note of a sent packet
 abbrev is_plain : Item → Bool
 is_plain (Item.Show (Entry.Note (Note.Sent bytes))) = false
 is_plain (Item.Show entry) = is_note entry
@@ -19,7 +19,7 @@ is_plain _ = true
 abbrev all_plain : List Item → Bool
 all_plain items = list_all is_plain items
 
--- a note of a packet may be at the front, and has its sender
+-- only the front may be such a note, and it has its sender
 abbrev Front : List Entry → List Item → Type 0
 Front X (Item.Show (Entry.Note (Note.Sent bytes)) ∷ items) = IsSent X bytes × (all_plain items ≡ true)
 Front X items = all_plain items ≡ true
@@ -28,7 +28,6 @@ plain-front : (X : List Entry) (items : List Item) → all_plain items ≡ true 
 plain-front X [] h = h
 plain-front X (item ∷ items) h = grind decide
 
--- what p knows of its blocks
 abbrev view : ℕ → View Blocks
 view p = own_view managed_store p
 

@@ -1,4 +1,4 @@
--- What the calls, the items, the inputs and the kernel's processes change.
+-- What calls, items, inputs and kernel processes change.
 use Rattle.std.proofs.Common.{ℕ, Bool, [], ◌∷◌, length, ◌≡◌, arith, if◌then◌else◌, map, Option, Some, false, List, refl, None, ◌==◌, filter_map, true, zero, suc, ◌&&◌, ◌||◌, not, ◌++◌, nat_le, append_assoc, ◌∙◌}
 use Rattle.kernel_core.specs.TimerProcesses.{etimer, forget_callback_timers, forget_event_timers}
 use Rattle.mote_types.specs.EventNumbers.{CONTINUE, PACKET, SERIAL_LINE}
@@ -10,19 +10,18 @@ use Rattle.kernel_core.specs.SerialProcess.{empty_ring, serial_line_polled, seri
 use Rattle.timer_core.specs.Names.{callback_timer}
 use Rattle.timer_core.specs.Timers.{set_timer, stop_timer}
 
--- What a kernel process does with an event is a chain of a few changes: what each of them preserves, all of it preserves.
+-- A kernel process reacts to an event by a chain of changes: what each one preserves, the chain preserves.
 
--- what kernel processes post, except for timers that run out
+-- what kernel processes post, except for expiries
 abbrev is_notice : Queued Bool → Bool
 is_notice (Queued.To q event) = (q == 2 && event.code == CONTINUE) || event.code == PACKET
 is_notice (Queued.ToAll event) = event.code == SERIAL_LINE
 is_notice (Queued.Expiry q c x) = false
 
--- its devices are in this state
 abbrev with_devices : SerialLine → Bool → PacketQueue → Machine → Machine
 with_devices serial is_waiting packets m = record m { serial = serial; is_serial_waiting = is_waiting; packets = packets }
 
--- R holds of each change that process q may make where it gets the event, and of chains
+-- R holds of each change that q may make on the event, and of chains
 pub record Changes (R : Machine → Machine → Type 0) (q : ℕ) (event : Event) : Type 0 where
   pub same : (m : Machine) → R m m
   pub chained : (a b c : Machine) → R a b → R b c → R a c
@@ -48,7 +47,7 @@ module _ (R : Machine → Machine → Type 0) (q : ℕ) (event : Event) (changes
   repeated : (change : Machine → Machine) → ((m : Machine) → R m (change m)) → (n : ℕ) (m : Machine) → R m (times n change m)
   repeated change keeps n m = times-keeps (R m) change (λ x h. changes.chained m x (change x) h (keeps x)) n m (changes.same m)
 
-  -- a notice after a change of the devices
+  -- the devices change, and a notice is posted
   noticed : (notice : Queued Bool) (serial : SerialLine) (is_waiting : Bool) (packets : PacketQueue) (m : Machine) → is_notice notice ≡ true
       → packets.frames ≡ m.packets.frames → R m (with_event notice (with_devices serial is_waiting packets m))
   noticed notice serial is_waiting packets m n e =
@@ -87,7 +86,7 @@ module _ (R : Machine → Machine → Type 0) (q : ℕ) (event : Event) (changes
 pub of_changes : {R : Machine → Machine → Type 0} {q : ℕ} {event : Event} → Changes R q event → (m : Machine) → R m (serve q event m)
 of_changes {R = R} {q = q} {event = event} = grind (decide, etimer-changes, either, serial_line-changes, packet-changes)
 
--- What an input does to the scheduler: a process is marked, or the note of a lost frame is at the front.
+-- An input marks a process, or puts the note of a lost frame at the front.
 
 abbrev pub is_turn : Entry → Bool
 is_turn (Entry.Turn pid origin stimulus call) = true
@@ -97,7 +96,7 @@ abbrev pub is_note : Entry → Bool
 is_note (Entry.Note note) = true
 is_note _ = false
 
--- before it this item is at the front
+-- with this item at the front
 abbrev pub behind : Item → Scheduler Bool → Scheduler Bool
 behind item s = record s { agenda = item ∷ s.agenda }
 
@@ -135,14 +134,14 @@ module _ (p : ℕ) where
     seats-without [] = grind arith
     seats-without (x ∷ xs) = grind (decide, seats-without xs)
 
--- what holds of the scheduler, and is preserved by both
+-- what both preserve
 pub effect-keeps : (P : Scheduler Bool → Type 0) (input : Input) (m : Machine) → P m.scheduler → ((q : ℕ) → P (marked q m.scheduler))
     → ((refusal : Refusal) → P (in_front (Item.Show (Entry.Note (Note.Lost refusal)) ∷ []) m.scheduler)) → P (effect input m).scheduler
 effect-keeps = grind decide
 
 -- What a call or a kernel process leaves unchanged.
 
--- a kernel process puts nothing on the agenda, adds or removes no process, and counts as no work
+-- a kernel process leaves the agenda, the processes on the list and the work count unchanged
 pub record Untouched (old new : Machine) : Type 0 where
   pub agenda : new.scheduler.agenda ≡ old.scheduler.agenda
   pub processes : length new.scheduler.processes ≡ length old.scheduler.processes
@@ -162,7 +161,7 @@ serve-untouched q event = of_changes changes
 pub call-work : (call : Call) (p : ℕ) (m : Machine) → (after_call call p m).work ≡ m.work
 call-work call p m = grind arith
 
--- What a call does to the event queue: it is unchanged, an event of an application is added at its end, or expiries in it are cancelled.
+-- A call leaves the event queue unchanged, adds an application's event at its end, or cancels expiries in it.
 
 -- what an application may post
 abbrev is_posted : Queued Bool → Bool
@@ -170,12 +169,11 @@ is_posted (Queued.To q event) = not (is_reserved event.code)
 is_posted (Queued.ToAll event) = not (is_reserved event.code)
 is_posted (Queued.Expiry q c x) = false
 
--- P stays true of the queue where such an event is posted, and where expiries are cancelled
+-- posting such an event and cancelling expiries preserve P of the queue
 pub record KeptByCalls (P : List (Queued Bool) → Type 0) : Type 0 where
   pub posted : (event : Queued Bool) (events : List (Queued Bool)) → is_posted event ≡ true → P events → P (events ++ event ∷ [])
   pub cancelled : (test : ℕ → ℕ → Bool) (events : List (Queued Bool)) → P events → P (map (cancelled_if test) events)
 
--- a call that posts
 abbrev pub is_posting : Call → Bool
 is_posting (Call.Post r code payload) = true
 is_posting (Call.Broadcast code payload) = true
@@ -207,13 +205,13 @@ pub kept_by_call : {P : List (Queued Bool) → Type 0} → KeptByCalls P → (ca
     → P (after_call call q m).scheduler.events
 kept_by_call = grind (decide, kept-queue)
 
--- where it posts nothing
+-- if the call posts nothing
 pub kept_unposted : {P : List (Queued Bool) → Type 0}
     → ((test : ℕ → ℕ → Bool) (events : List (Queued Bool)) → P events → P (map (cancelled_if test) events))
     → (call : Call) (q : ℕ) (m : Machine) → is_posting call ≡ false → P m.scheduler.events → P (after_call call q m).scheduler.events
 kept_unposted {P = P} cancelled call q m n h = unposted-queue P q m h cancelled call n
 
--- A call or an item leaves what is on the agenda, and puts before it only what passes a test.
+-- A call or an item keeps the agenda, and puts before it only items that pass a test.
 
 pub all-append : {A : Type 0} (test : A → Bool) (xs ys : List A) → list_all test xs ≡ true → list_all test ys ≡ true
     → list_all test (xs ++ ys) ≡ true
@@ -229,7 +227,6 @@ module _ (test : Item → Bool) where
     none-mapped [] h = refl
     none-mapped (n ∷ ns) h = rw (h n) (none-mapped ns h)
 
-  -- what stands for a delivery
   pub all-delivered : (ns : List ℕ) (event : Option (Queued Bool)) → test Item.Polls ≡ true
       → ((n : ℕ) (event : Event) → test (Item.Give n Origin.Event (Stimulus.Event event)) ≡ true) → list_all test (delivery ns event) ≡ true
   all-delivered ns (Some (Queued.To q event)) p g = grind decide
@@ -261,7 +258,7 @@ abbrev pub is_from_queue : Origin → Bool
 is_from_queue Origin.Event = true
 is_from_queue _ = false
 
--- The kernel's own processes take no turn and never leave, only notes are shown, and TIMER events come only from the queue.
+-- Kernel processes take no turn and never leave, only notes are shown, and TIMER events come only from the queue.
 
 abbrev pub is_regular : Item → Bool
 is_regular (Item.Turn q origin stimulus) = nat_le 4 q
@@ -275,7 +272,7 @@ pub carried-regular : (item : Item) (s : Scheduler Bool) → list_all is_regular
     → list_all is_regular (after_item item s).agenda ≡ true
 carried-regular = grind (decide, all-mapped, all-append, all-delivered)
 
--- what is said to those that stay changes nothing of f
+-- the EXITED events to the others don't change f
 module _ {A : Type 0} (f : List Item → A) (q : ℕ) (same : (n : ℕ) (items : List Item)
     → f (Item.Give n Origin.Synch (Stimulus.Event (number_event EXITED q)) ∷ items) ≡ f items) where
   gives-same : (ns : List ℕ) (items : List Item)

@@ -1,4 +1,4 @@
--- Worked examples: what the turns of a transcript make of blocks, events and timers.
+-- Worked examples: what a transcript shows of blocks, events and timers.
 use Rattle.std.proofs.Common.{◌≡◌, ℕ, true, false, List, [], ◌∷◌, ◌++◌, map, refl, Some, None, length}
 use Rattle.kernel_core.proofs.Common.{blocks_of, use_of, decide, list_any, Call, Reply, Refusal, Origin, Stimulus, EXIT, INIT, TIMER, Entry, Input, Payload, number_event, plain_event, IsAtRest, accepted_events, given_events, has_ended, is_exit, are_names, HasCall, Turn, own, clock_after, ripe_by, standing, timer_events, deed, Deed, Touch, event_for, managed_touch, heap_touch}
 
@@ -8,11 +8,10 @@ started p call = Entry.Turn (record { 0 = p }) Origin.Synch (Stimulus.Event (pla
 abbrev pub told : ℕ → Reply → Call → Entry
 told p reply call = Entry.Turn (record { 0 = p }) Origin.Answer (Stimulus.Answer reply) call
 
--- a turn after a call with the reply Done
 abbrev pub turn_of : ℕ → Call → Turn
 turn_of p call = record { p = p; origin = Origin.Answer; stimulus = Stimulus.Answer Reply.Done; call = call }
 
--- process 4 makes a block of 4 bytes and writes its second one; process 5 frees a block of its own of that name
+-- process 4 makes a block of 4 bytes and writes the second; process 5 frees its own block of that name
 abbrev transcript : List Entry
 transcript =
     started 4 (Call.MmemAlloc 0 4)
@@ -26,17 +25,17 @@ transcript =
 four_turns : length (own 4 transcript) ≡ 4
 four_turns = refl
 
--- the last call has no reply yet, so it counts for nothing
+-- the last call has no reply yet, so it doesn't count
 blocks_made : blocks_of managed_touch transcript 4 0 ∷ blocks_of managed_touch transcript 5 0 ∷ blocks_of heap_touch transcript 4 2 ∷ []
     ≡ Some (0 ∷ 7 ∷ 0 ∷ 0 ∷ []) ∷ None ∷ Some (0 ∷ 0 ∷ []) ∷ []
 blocks_made = refl
 
--- the reply to a call is in the next turn
+-- a call's reply is in the next turn
 write_answered : HasCall transcript (started 4 (Call.MmemAlloc 0 4) ∷ [])
     (turn_of 4 (Call.MmemWrite 0 1 (record { items = 7 ∷ [] }))) Reply.Done
 write_answered = grind decide
 
--- Events and timers: process 5 posts event 140 to process 4, which gets it; 4 sets timer 2 to 5 ticks, and 7 ticks pass.
+-- Process 5 posts event 140 to process 4, which gets it. Process 4 sets timer 2 to 5 ticks, and 7 ticks pass.
 abbrev before_ticks : List Entry
 before_ticks =
     started 4 Call.Wait
@@ -49,7 +48,7 @@ before_ticks =
 abbrev ticked : List Entry
 ticked = before_ticks ++ Entry.Input (Input.Tick 7) ∷ []
 
--- none was posted to 5
+-- nothing was posted to process 5
 event_given : given_events ticked 4 ∷ accepted_events 4 ticked ∷ accepted_events 5 ticked ∷ []
     ≡ (plain_event 140 ∷ []) ∷ (plain_event 140 ∷ []) ∷ [] ∷ []
 event_given = refl
@@ -60,18 +59,17 @@ ripe_armings entries = ripe_by (clock_after entries) (standing entries 4 2)
 now_ripe : ripe_armings ticked ∷ timer_events ticked 4 2 ∷ [] ≡ 1 ∷ 0 ∷ []
 now_ripe = refl
 
--- the timer is armed, and its event was not delivered since
+-- armed, and no event was delivered since
 armed_now : standing ticked 4 2 ≡ record { cell = record { start = 0; interval = 5 }; is_armed = true; was_given = false; ripe = 0 }
 armed_now = refl
 
--- the mote rests before the ticks, and after them
 rests_before_ticks : IsAtRest ticked before_ticks
 rests_before_ticks = IsAtRest.before_input before_ticks [] (Input.Tick 7) refl
 
 rests_at_the_end : IsAtRest ticked ticked
 rests_at_the_end = IsAtRest.at_end refl
 
--- Process 4 gets its timer's event, and then sets the timer anew.
+-- Process 4 gets its timer's event and sets the timer again.
 abbrev set_anew : List Entry
 set_anew =
     told 4 Reply.Done (Call.TimerSet 2 0)
@@ -87,7 +85,7 @@ given_once = refl
 given_before_it_was_set_anew : (standing set_anew 4 2).was_given ≡ false
 given_before_it_was_set_anew = refl
 
--- a process ends by its Exit, or by being killed
+-- a process ends by Exit, or when it is killed
 ended : map (λ entries. has_ended 4 entries)
     (set_anew ∷ (told 4 Reply.Done Call.Exit ∷ [])
     ∷ (Entry.Turn (record { 0 = 4 }) Origin.Synch (Stimulus.Event (plain_event EXIT)) Call.Wait ∷ []) ∷ [])
@@ -112,7 +110,7 @@ heap_blocks_needed = refl
 block_made : (use_of (managed_touch (deed (Call.MmemAlloc 3 9)))).makes ∷ (use_of (heap_touch (deed (Call.HeapAlloc 3 9)))).makes ∷ [] ≡ (3 ∷ []) ∷ (3 ∷ []) ∷ []
 block_made = refl
 
--- a call that no law mentions does nothing to blocks of either kind
+-- calls that no law mentions
 untouched : map (λ call. managed_touch (deed call)) (Call.HeapFree 1 ∷ Call.HeapStats ∷ Call.MembFree 0 1 ∷ Call.Clock ∷ [])
     ≡ Touch.Spares ∷ Touch.Spares ∷ Touch.Spares ∷ Touch.Spares ∷ []
 untouched = refl
@@ -124,7 +122,7 @@ untouched_heap : map (λ call. heap_touch (deed call)) (Call.MmemFree 1 ∷ Call
     ≡ Touch.Spares ∷ Touch.Spares ∷ Touch.Spares ∷ Touch.Spares ∷ []
 untouched_heap = refl
 
--- a timer that calls back is none of these event timers, and a call for its state leaves it
+-- callback timers are none of these, and asking for a timer's state moves no timer
 moves_no_timer : map deed (Call.CallbackSet 2 5 ∷ Call.CallbackStop 2 ∷ Call.TimerExpired 2 ∷ [])
     ≡ Deed.Other ∷ Deed.Other ∷ Deed.Other ∷ []
 moves_no_timer = refl

@@ -1,4 +1,4 @@
--- A memory that nobody else uses replies to a process as a shared one does under a quota.
+-- Under a quota, shared memory replies to a process as private memory would.
 use Rattle.std.proofs.Common.{◌≡◌, ℕ, ◌≤◌, Bool, true, false, length, refl, ◌∙◌, ap, arith, Some, None, sum_by, zero, suc, List, [], ◌∷◌, ◌++◌, cond, append-nil, Option, map, filter, filter_map, is_some, ◌&&◌, take}
 use Rattle.heap_core.specs.HeapStore.{empty_heap}
 use Rattle.mmem_core.specs.ManagedStore.{ManagedStore, empty_store}
@@ -14,18 +14,17 @@ use Rattle.kernel_core.proofs.run_laws.Whole.{At, marks, due, View, Starts, told
 abbrev private_memory : ℕ → Memory
 private_memory bytes = record { managed = empty_store bytes None; heap = empty_heap 0 0; pools = [] }
 
--- a call on managed memory uses no other memory
 ask-managed : (call : Call) (p : ℕ) (m : Memory) → is_managed_call call ≡ true → ask call p m ≡ on_managed (asked_by p call) m
 ask-managed = grind decide
 
--- all blocks of this memory are p's, and no quota limits it
+-- only p has blocks, and no quota limits it
 pub record IsAlone (bytes p : ℕ) (s : Memory) : Type 0 where
   pub unlimited : s.managed.quota ≡ None
   pub capacity : s.managed.capacity ≡ bytes
   pub size : length s.managed.blocks ≡ 272
   pub total : sum_by size_of s.managed.blocks ≡ taken_by p s.managed
 
--- p has the same blocks in a memory under a quota
+-- p has the same blocks in m, which is under a quota
 module _ (quota p : ℕ) (m s : Memory) (limit : m.managed.quota ≡ Some quota) (alone : IsAlone quota p s)
     (own : (h : ℕ) → own_blocks p m h ≡ own_blocks p s h) where
   same-reply : (call : Call) → is_managed_call call ≡ true → as_over_quota (ask call p s).1 ≡ (ask call p m).1
@@ -37,7 +36,6 @@ module _ (quota p : ℕ) (m s : Memory) (limit : m.managed.quota ≡ Some quota)
   same-reply Call.MmemAvail e = grind (arith)
   same-reply call e = grind decide
 
--- after a call of p it is still so
 pub record StaysAlone (bytes p : ℕ) (call : Call) (s : Memory) : Type 0 where
   pub alone : IsAlone bytes p (ask call p s).0
   pub own : own_blocks p (ask call p s).0 ≡ accepted managed_touch call (ask call p s).1 (own_blocks p s)
@@ -63,9 +61,8 @@ module _ (bytes p : ℕ) (s : Memory) (few : p ≤ 19) (mortal : is_kernel_proce
           let same = ask-rest call p s e in
           record { alone = shaped-alone (rw same alone.total); own = same_blocks _ _ (λ h. grind (arith, e, same)) }
 
--- Under a quota a process gets the replies of a memory of its own.
+-- The replies under a quota.
 
--- the quota stays
 call-quota : (call : Call) (q : ℕ) (m : Machine) → (after_call call q m).memory.managed.quota ≡ m.memory.managed.quota
 call-quota call q m =
     each-call (λ x frames. x.managed.quota ≡ m.memory.managed.quota) q m refl (λ slot e. refl) call (ask-shape call q m.memory).quota
@@ -79,20 +76,20 @@ module _ (bytes : ℕ) (p : ℕ) where
       grind (decide, ap (λ (blocks : Blocks). sum_by (λ h. size_of (blocks h)) handles) no-own)
 
 module _ (quota p : ℕ) where
-  -- a memory of p's own, after a call
+  -- p's private memory after a call
   abbrev own_after : Call → Reply → Memory → Memory
   own_after call reply s = cond (is_managed_call call) (ask call p s).0 s
 
   abbrev AsAlone : Memory → Call → Reply → Type 0
   AsAlone s call reply = is_managed_call call ≡ true → as_over_quota (ask call p s).1 ≡ reply
 
-  -- p has the same blocks in it as in the memory of the node, which is under the quota
+  -- p has the same blocks in its private memory as in the node's
   pub record IsLikeOwn (m : Memory) (frames : List Frame) (s : Memory) : Type 0 where
     pub has : HasBlocks managed_store p m frames (own_blocks p s)
     pub limit : m.managed.quota ≡ Some quota
     pub alone : IsAlone quota p s
 
-  -- what p knows of it from its own calls
+  -- what p knows from its own calls
   abbrev alone_view : View Memory
   alone_view = record { p = p; first = private_memory quota; next = own_after; Law = AsAlone; Rel = IsLikeOwn }
 
@@ -137,7 +134,7 @@ module _ (quota p : ℕ) where
   abbrev asking : List OwnTurn → List OwnTurn
   asking turns = filter (λ turn. is_managed_call turn.call && is_some turn.reply) turns
 
-  -- the replies among these turns are those of a memory of p's own
+  -- the replies in these turns are those of p's private memory
   abbrev Replied : List OwnTurn → Memory → Type 0
   Replied turns s = filter_map (λ turn. turn.reply) (asking turns) ≡ replies_from p s.managed (map (λ turn. turn.call) (asking turns))
 

@@ -1,4 +1,4 @@
--- Worked examples: the replies to a process's calls on managed memory under a quota.
+-- Worked examples: replies to calls on managed memory under a quota.
 use Rattle.std.proofs.Common.{◌≡◌, ℕ, true, false, List, [], ◌∷◌, length, get_or, refl, ◌-◌, None, Some, if◌then◌else◌, ◌==◌}
 use Rattle.kernel_core.proofs.Common.{list_all, list_any, Call, Reply, Refusal, Entry, Applications, Config, is_bootable, after_steps, at_start, is_managed_call, managed_calls, managed_replies, IsAnsweredAlone}
 use Rattle.kernel_core.proofs.run_laws.Examples.{started, told}
@@ -10,13 +10,13 @@ six_calls : list_all is_managed_call
     ∷ Call.MmemAvail ∷ []) ≡ true
 six_calls = refl
 
--- what sends a managed block, and what is on other memory, is none of them
+-- sends, and calls on other memory, are no managed calls
 no_others : list_any is_managed_call
     (Call.PacketSend 0 ∷ Call.HeapAlloc 0 1 ∷ Call.HeapRead 0 0 1 ∷ Call.HeapStats ∷ Call.MembAlloc 0 ∷ Call.ListPop 0 ∷ Call.Clock
     ∷ Call.Wait ∷ []) ≡ false
 no_others = refl
 
--- Managed memory has 48 bytes, of which each process may hold 16: process 4 fills its part, and process 5 has all of its own.
+-- 48 bytes, of which each process may hold 16: process 4 fills its part, and process 5 still has all of its own.
 abbrev shared : List Entry
 shared =
     started 4 (Call.MmemAlloc 0 10)
@@ -29,7 +29,7 @@ shared =
     ∷ told 5 Reply.Done Call.Wait
     ∷ []
 
--- so says the machine, where the processes make these calls one after the other, and then wait
+-- the machine agrees, if the processes make these calls in turn and then wait
 abbrev config : Config
 config = record { mmem = 48; heap = 20; apps = 2; quota = Some 16; header = 16 }
 
@@ -67,6 +67,6 @@ second_alone = refl
 not_answered_yet : managed_calls 4 (started 4 (Call.MmemAlloc 0 10) ∷ []) ≡ []
 not_answered_yet = refl
 
--- what process 4 leaves of the 48 bytes is no reply of a memory of one's own
+-- private memory wouldn't reply with what process 4 leaves of the 48 bytes
 told_of_another : IsAnsweredAlone 16 5 (started 5 Call.MmemAvail ∷ told 5 (Reply.Num 32) Call.Wait ∷ []) → ⊥
 told_of_another e = cc

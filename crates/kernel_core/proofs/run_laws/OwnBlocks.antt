@@ -1,4 +1,4 @@
--- From what each call keeps to what a transcript shows, for a kind of memory.
+-- What each call preserves of a kind of memory, and so what a transcript shows.
 use Rattle.std.proofs.Common.{◌≡◌, ℕ, ◌+◌, ◌≤◌, Bool, true, false, List, [], ◌∷◌, refl, Option, Some, None, ◌==◌, if◌then◌else◌, fold, length, zero, suc, ◌<◌, arith, ◌≢◌, sum_by, ◌&&◌, ◌∙◌, sym, subst, append-nil, nat_le, drop, slice_get, get_or, replicate}
 use Rattle.mmem_core.specs.ManagedStore.{with_block}
 use Rattle.node_memory.specs.Answered.{Asked, done, unless_refused}
@@ -19,7 +19,6 @@ use Rattle.kernel_core.proofs.run_laws.event_order.Runs.{Ran}
 abbrev pub accepted : (Deed → Touch) → Call → Reply → Blocks → Blocks
 accepted touch call reply blocks = if is_done (Some reply) then (use_of (touch (deed call))).changes blocks else blocks
 
--- it changes a block
 abbrev pub alters : Touch → Bool
 alters (Touch.Reads name at len) = false
 alters (Touch.Sends name) = false
@@ -30,7 +29,7 @@ alters _ = true
 pub same_blocks : (f g : Blocks) → ((h : ℕ) → f h ≡ g h) → f ≡ g
 same_blocks = grind decide
 
--- a kind of memory: what calls do to its blocks, and a process's blocks in it
+-- a kind of memory: what calls do to its blocks, and the blocks of a process in it
 pub record Store : Type 0 where
   pub touch : Deed → Touch
   pub blocks : ℕ → Memory → Blocks
@@ -45,7 +44,7 @@ module _ (touch : Deed → Touch) (p : ℕ) where
   no_answer : (last : Option Call) (b : Blocks) → answered (accepted touch) last None b ≡ b
   no_answer = grind decide
 
-  -- the fold over p's own turns, and what it received in the entries
+  -- a fold over p's own turns gives the same as one over all entries
   own-told : (entries : List Entry) (clock : ℕ) (last : Option Call) (b : Blocks)
       → over (answered (accepted touch) last (reply_in p entries) b) (own_from p clock entries)
       ≡ (fold (told (accepted touch) p) (record { now = b; last = last }) entries).now
@@ -62,17 +61,16 @@ module _ (touch : Deed → Touch) (p : ℕ) where
   blocks-told = grind (decide, own-told)
 
 module _ (touch : Deed → Touch) where
-  -- what a call and its reply say of the caller's blocks
+  -- the reply fits the caller's blocks
   abbrev pub KindLaw : Blocks → Call → Reply → Type 0
   KindLaw blocks call reply = IsReplyFor (use_of (touch (deed call))) blocks reply
 
-  -- a call that names no block
   nothing : (blocks : Blocks) (call : Call) (reply : Reply) → touch (deed call) ≡ Touch.Spares → KindLaw blocks call reply
   nothing = grind decide
 
--- What a process's managed blocks take, and what all managed blocks take.
+-- Bytes in a process's managed blocks, and in all of them.
 
--- sums over numbers in a row
+-- sums over consecutive numbers
 
 module _ (f : ℕ → ℕ) (g : ℕ → ℕ) where
   same-terms : (n from : ℕ) → ((h : ℕ) → from ≤ h → g h ≡ f h)
@@ -87,9 +85,8 @@ module _ (f : ℕ → ℕ) (g : ℕ → ℕ) where
   other-term k (suc n) from low high e =
       grind (decide, sum_by-cons, other-term k n (from + 1), same-terms n (from + 1))
 
--- Managed memory: what each call keeps of it.
+-- What each call preserves of managed memory.
 
--- a process's blocks
 abbrev pub own_blocks : ℕ → Memory → Blocks
 own_blocks p m h = if is_name h then block_of p h m.managed else None
 
@@ -103,14 +100,14 @@ put_own : (p k h : ℕ) (block : Option (List ℕ)) (m : Memory) → p ≤ 19 �
     → own_blocks p (with_managed (with_block p k block m.managed) m) h ≡ (if h == k then block else own_blocks p m h)
 put_own = grind (decide, get_or-set_same, get_or-set_other)
 
--- what p's blocks take changes as much as what all blocks take
+-- the sizes of p's blocks and of all blocks change by the same amount
 put_total : (p k : ℕ) (block : Option (List ℕ)) (m : Memory) → p ≤ 19 → is_kernel_process p ≡ false → length m.managed.blocks ≡ 272
     → is_name k ≡ true
     → sum_by size_of (with_block p k block m.managed).blocks + taken_by p m.managed ≡ sum_by size_of m.managed.blocks + taken_by p
     (with_block p k block m.managed)
 put_total = grind (decide, get_or-set_same, get_or-set_other, other-term, sum_by-set)
 
--- managed memory itself stays, whatever its blocks are
+-- only the blocks change
 pub record HasShape (old new : Memory) : Type 0 where
   pub size : length new.managed.blocks ≡ length old.managed.blocks
   pub capacity : new.managed.capacity ≡ old.managed.capacity
@@ -119,26 +116,23 @@ pub record HasShape (old new : Memory) : Type 0 where
 abbrev pub managed_store : Store
 managed_store = record { touch = managed_touch; blocks = own_blocks }
 
--- what it is after q's call
 pub record IsChange (store : Store) (call : Call) (q : ℕ) (m : Memory) (asked : Asked Memory) : Type 0 where
   pub own : q ≤ 19 → is_kernel_process q ≡ false → length m.managed.blocks ≡ 272
       → store.blocks q asked.0 ≡ accepted store.touch call asked.1 (store.blocks q m)
   pub others : (p : ℕ) → (q == p) ≡ false → is_kernel_process p ≡ false → store.blocks p asked.0 ≡ store.blocks p m
 
 module _ (call : Call) where
-  -- any other call leaves managed memory unchanged
+  -- other calls leave managed memory unchanged
   pub ask-rest : (p : ℕ) (m : Memory) → alters (managed_touch (deed call)) ≡ false → (ask call p m).0.managed ≡ m.managed
   ask-rest = grind decide
 
-  -- What a call that changes managed memory does to it
   pub record IsManagedChange (q : ℕ) (m : Memory) (asked : Asked Memory) : Type 0 where
     pub shape : HasShape m asked.0
-    -- what all blocks take changes as much as what the caller's take
     pub total : q ≤ 19 → is_kernel_process q ≡ false → length m.managed.blocks ≡ 272
         → sum_by size_of asked.0.managed.blocks + taken_by q m.managed ≡ sum_by size_of m.managed.blocks + taken_by q asked.0.managed
     pub blocks : IsChange managed_store call q m asked
 
-  -- it is refused, or a block replaces another one
+  -- the call is refused, or a block is replaced
   module _ (q k : ℕ) (block : Option (List ℕ)) (m : Memory) where
     is_change : (o : Option Refusal) → (o ≡ None → is_name k ≡ true)
         → (o ≡ None → (h : ℕ) → (if h == k then block else own_blocks q m h) ≡ (use_of (managed_touch (deed call))).changes (own_blocks q m) h)
@@ -152,16 +146,14 @@ managed-change (Call.MmemWrite k at chunk) q m c = is_change _ q k _ m _ (grind 
 managed-change (Call.MmemCopy source target) q m c = is_change _ q target _ m _ (grind decide) (grind decide)
 managed-change call q m c = grind decide
 
--- The heap blocks of a process, as its calls leave them.
+-- A process's heap blocks after its calls.
 
--- a process's blocks
 abbrev own_heap : ℕ → Memory → Blocks
 own_heap p m b = if is_name b then heap_block_of p b m.heap else None
 
 abbrev pub heap_store : Store
 heap_store = record { touch = heap_touch; blocks = own_heap }
 
--- every call on memory keeps its shape
 pub ask-shape : (call : Call) (q : ℕ) (m : Memory) → HasShape m (ask call q m).0
 ask-shape = grind (decide, managed-change, ask-rest)
 
@@ -193,7 +185,7 @@ heap-change (Call.HeapWrite k at chunk) q m c =
     is_heap_change _ q k _ m _ _ (grind decide) (λ e. write-results q k at chunk.items m.heap) (grind decide)
 heap-change call q m c = grind decide
 
--- The blocks of a process are what its own calls make of them: through each call, and so in every run.
+-- A process's blocks are what its own calls make of them: after each call, and so in every run.
 
 pub one_reply : (o : Option Reply) (a b : Reply) → o ≡ Some a → o ≡ Some b → a ≡ b
 one_reply = grind decide
@@ -219,29 +211,29 @@ front_low [] slot h e = absurd (cc)
 front_low (frame ∷ frames) slot h e = grind decide
 
 module _ (store : Store) where
-  -- A kind of memory where each call keeps what it should.
+  -- each call preserves what it must
   pub record Keeps : Type 0 where
     pub law : (call : Call) (p : ℕ) (m : Machine) (reply : Reply)
         → due (marks p (after_call call p m).scheduler.agenda) ≡ Some reply → KindLaw store.touch (store.blocks p m.memory) call reply
     pub asked : (call : Call) → alters (store.touch (deed call)) ≡ true → is_memory_call call ≡ true
     pub change : (call : Call) (q : ℕ) (m : Memory) → alters (store.touch (deed call)) ≡ true → IsChange store call q m (ask call q m)
     pub rest : (call : Call) (q p : ℕ) (m : Memory) → alters (store.touch (deed call)) ≡ false → store.blocks p (ask call q m).0 ≡ store.blocks p m
-    -- frames come and go
+    -- storing or dropping a frame
     pub framed : (slot p : ℕ) (bytes : Option (List ℕ)) (m : Memory) → nat_le slot 15 ≡ true → is_kernel_process p ≡ false
         → store.blocks p (with_managed (with_block 3 slot bytes m.managed) m) ≡ store.blocks p m
     pub boot : (p : ℕ) (c : Config) → store.blocks p (booted c).memory ≡ no_blocks
 
-  -- The machine has p's blocks as p's turns made them
+  -- the machine has the blocks that p's turns made
   pub record HasBlocks (p : ℕ) (m : Memory) (frames : List Frame) (blocks : Blocks) : Type 0 where
     pub sound : IsSound m frames
     pub own : is_kernel_process p ≡ false → store.blocks p m ≡ blocks
 
-  -- what p knows of its blocks from its own calls
+  -- what p knows from its own calls
   abbrev pub own_view : ℕ → View Blocks
   own_view p = record { p = p; first = no_blocks; next = accepted store.touch; Law = KindLaw store.touch; Rel = HasBlocks p }
 
 module _ (call : Call) where
-  -- any other call leaves the heap unchanged
+  -- other calls leave the heap unchanged
   heap-rest : (p : ℕ) (m : Memory) → alters (heap_touch (deed call)) ≡ false → (ask call p m).0.heap ≡ m.heap
   heap-rest = grind decide
 
@@ -258,7 +250,7 @@ module _ (call : Call) where
 
 module _ (store : Store) (keeps : Keeps store) (p : ℕ) (few : p ≤ 19) where
   module _ (call : Call) where
-    -- a call that changes none of p's blocks: no call for it, or another's
+    -- another process's call, or one that changes no block
     left-after : (q : ℕ) (m : Machine) → (alters (store.touch (deed call)) && q == p) ≡ false → is_kernel_process p ≡ false
         → IsSound m.memory m.packets.frames
         → store.blocks p (after_call call q m).memory ≡ store.blocks p m.memory
@@ -299,7 +291,7 @@ module _ (store : Store) where
       (call-law view X before turn reply refl (run-told view (own-laws store keeps turn.p few) run (boot-has keeps turn.p run.config) X []
       (append-nil X)) has)
 
--- Managed memory: the replies to its calls, and that a process's blocks are its own.
+-- Managed memory: the replies, and that a process's blocks are its own.
 
 module _ (p : ℕ) (m : Machine) (reply : Reply) where
   managed-law : (call : Call) → due (marks p (after_call call p m).scheduler.agenda) ≡ Some reply
@@ -332,7 +324,7 @@ managed-keeps = record {
 }
 
 module _ (result : Option HeapStore) where
-  -- Heap memory: the replies to its calls, and that a process's blocks are its own.
+  -- Heap memory: the same.
 
   -- whether or not there is room
   alloc-law : (b n p : ℕ) (m : Memory)

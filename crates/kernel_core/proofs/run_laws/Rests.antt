@@ -1,4 +1,4 @@
--- Every run reaches rest after each input, or is halted: each step lowers a measure.
+-- After each input a run reaches rest or halts: each step lowers a measure.
 use Rattle.std.proofs.Common.{◌≡◌, ℕ, zero, suc, ◌+◌, ◌-◌, ◌*◌, ◌≤◌, Bool, true, false, not, List, [], ◌∷◌, length, refl, arith, Option, Some, if◌then◌else◌, ◌==◌, map, subst, sym}
 use Rattle.kernel_core.proofs.Common.{decide, length-map, Call, Stimulus, Origin, Input, Applications, Item, Job, Scheduler, after_front, job, in_front, Config, Machine, scheduled, after_call, fed, Answers, StepMade, Running, Runs, ComesToRest, one_step, job_done, within_limit, is_still, after_step, answers_after, with_input, at_start, silent, with_more_work, farewells, number_event, EXITED, numbers, without, is_process}
 use Rattle.std.proofs.Math.Nat.{suc-mul}
@@ -7,20 +7,20 @@ use Rattle.kernel_core.proofs.Costs.{length-without, after_front-present, costs-
 use Rattle.kernel_core.proofs.Totals.{total-append, total-none}
 use Rattle.kernel_core.proofs.run_laws.Changes.{serve-untouched, call-work}
 
--- no such job is asked where any work is left
+-- asked only when no work is left
 abbrev is_rest : Option (Job Bool) → Bool
 is_rest (Some Job.Rest) = true
 is_rest _ = false
 
--- the largest number of processes on the list before the next input
+-- the most processes on the list until the next input
 abbrev reserve : Machine → ℕ
 reserve m = present m.scheduler + (10000 - m.work)
 
--- a unit of work is worth what a round puts on the agenda, and the round itself
+-- a unit of work is worth one round and what it puts on the agenda
 unfoldable measure : ℕ → Machine → ℕ
 measure bound m = (10000 - m.work) * suc (round_cost bound) + costs bound m.scheduler.agenda
 
--- what is left where one unit of work more was done
+-- after one more unit of work
 one_less : (work unit : ℕ) → work ≤ 10000 → (work == 10000) ≡ false → (10000 - work) * unit ≡ (10000 - (work + 1)) * unit + unit
 one_less work unit = grind (decide, suc-mul (10000 - (work + 1)) unit)
 
@@ -71,14 +71,14 @@ module _ (bound : ℕ) where
     unfolding measure
     round-falls = grind (decide, one_less, measure)
 
-    -- the machine is the same except for less on its agenda
+    -- only the agenda shrinks
     quiet-falls : (m new : Machine) → m.work ≤ 10000 → new.work ≡ m.work → present new.scheduler ≤ present m.scheduler
         → costs bound new.scheduler.agenda + 1 ≤ old → Falls bound ((10000 - m.work) * suc (round_cost bound) + old) m new
     unfolding measure
     quiet-falls = grind decide
 
   module _ (answers : Answers) where
-    -- a job that was worth so much, and is done
+    -- a job of this worth is done
     module _ (m : Machine) (old : ℕ) (h : length m.scheduler.processes ≤ bound) (w : m.work ≤ 10000) where
       job-falls : (next : Option (Job Bool)) → is_rest next ≡ false → IsPaid bound next old (costs bound m.scheduler.agenda)
           → Falls bound ((10000 - m.work) * suc (round_cost bound) + old) m (job_done answers next m).0
@@ -104,12 +104,11 @@ module _ (bound : ℕ) where
         Falls bound (measure bound m) m (if b then silent m else job_done answers (job m.scheduler) (scheduled after_front m)).0)
         (sym up) (record { work = f.work; reserve = omega (arith, f.reserve, fewer); measure = f.measure })
 
--- the work of an input begins at 0
 fed-work : (input : Input) (m : Machine) → (fed input m).work ≡ 0
 fed-work = grind arith
 
 module _ (says : Applications) where
-  -- the run reaches rest from here, and has an end
+  -- the run reaches rest from here
   abbrev Rests : Running → Type 0
   Rests r = (new : Running) × ComesToRest says r new
 
@@ -134,11 +133,11 @@ module _ (says : Applications) where
           (λ running. omega (arith, f.measure running, h (grind (decide, live)))) in
           (rest.0, (suc rest.1.0, rest.1.1, rest.1.2))
 
-  -- from each machine whose work is within its bound
+  -- from any machine within the work limit
   rests : (r : Running) → r.machine.work ≤ 10000 → Rests r
   rests r w = rests_within (reserve r.machine) (measure (reserve r.machine) r.machine + 1) r w (omega arith) (λ running. omega arith)
 
-  -- where the mote was halted nothing follows, otherwise what the machine makes of the next inputs
+  -- after a halt nothing follows, otherwise the next inputs
   goes_on : (input : Input) (inputs : List Input) (r : Running) → Rests r → ((rested : Running) → Ends inputs (with_input input rested))
       → Ends (input ∷ inputs) r
   goes_on input inputs r (rested, rests) later = go rested.machine.is_halted refl

@@ -6,11 +6,11 @@ use Rattle.kernel_core.proofs.run_laws.event_order.Runs.{Known, carried, facing,
 
 -- what an item is to a process
 pub data Mark : Type 0 where
-  -- a turn, and the reply in it, if there is one
+  -- a turn, with its reply if there is one
   Turns : Option Reply → Mark
   Exits : Mark
   Removes : Mark
-  -- a reply that no turn would deliver: there is none
+  -- a reply without a turn: this never occurs
   Strays : Mark
 
 abbrev stray : Option Reply → Option Mark
@@ -22,7 +22,7 @@ only_removes [] = true
 only_removes (Mark.Removes ∷ rest) = only_removes rest
 only_removes (_ ∷ rest) = false
 
--- at most one turn is on the agenda, and none where the process could be given one
+-- at most one turn is on the agenda, and none if the process is idle
 abbrev fit : Bool → List Mark → Bool
 fit idle (Mark.Turns reply ∷ rest) = not idle && only_removes rest
 fit idle (Mark.Exits ∷ rest) = not idle && only_removes rest
@@ -61,12 +61,11 @@ module _ (p : ℕ) where
   marks-front (x ∷ xs) items h = grind (decide, marks-front xs items)
 
   module _ (before : List Item) (list : List Process) (s : Scheduler Bool) where
-    -- what stays of the agenda for p
+    -- what is preserved for p
     pub record Kept : Type 0 where
       pub is_fit : fit (idle s.processes) (marks s.agenda) ≡ true
       pub same_due : due (marks s.agenda) ≡ due (marks before)
 
-    -- p's state and marks are as they were
     stays : fit (idle list) (marks before) ≡ true
         → state_of p s.processes ≡ state_of p list → marks s.agenda ≡ marks before → Kept
     stays = grind decide
@@ -140,7 +139,7 @@ module _ {S : Type 0} (Law : S → Call → Reply → Type 0) where
   Fine p t (Entry.Turn pid origin stimulus call) = (pid.0 == p) ≡ true → LawAt t.last t.now (reply_of stimulus)
   Fine p t _ = Unit {0}
 
--- what process p may know: what a reply adds to it, what the reply must be, and how the memory has it
+-- what p knows: what a reply adds, what the reply must be, and how the memory agrees
 pub record View (S : Type 0) : Type 1 where
   pub p : ℕ
   pub first : S
@@ -158,9 +157,9 @@ module _ {S : Type 0} (view : View S) where
   abbrev marked : Machine → List Mark
   marked m = marks view.p m.scheduler.agenda
 
-  -- what the calls have to keep
+  -- what calls must preserve
   pub record Laws : Type 0 where
-    -- what p owes after its call
+    -- after p's own call
     pub self : (call : Call) (m : Machine) (s : S) (reply : Option Reply) → is_kernel_process view.p ≡ false → At m s
         → only_removes (marked m) ≡ true → due (marked (after_call call view.p m)) ≡ reply
         → LawAt view.Law (Some call) s reply × At (after_call call view.p m) (answered view.next (Some call) reply s)
@@ -173,7 +172,6 @@ module _ {S : Type 0} (view : View S) where
     pub law : LawAt view.Law t.last t.now (due (marked m))
     pub rel : At m (answered view.next t.last (due (marked m)) t.now)
 
-  -- an item that is no turn
   carried-now : (item : Item) (t : Knowledge S) (m : Machine) → is_turn_item item ≡ false
       → Now t (facing item m) → Now t (carried item m)
   carried-now item t m n h =
@@ -220,7 +218,6 @@ module _ {S : Type 0} (view : View S) where
   well-after t [] ys h = h
   well-after t (x ∷ xs) ys h = well-after (told view.next view.p t x) xs ys h.1
 
-  -- an entry after these
   abbrev pub Fitting : List Entry → Entry → Type 0
   Fitting X entry = Fine view.Law view.p (told_so_far view X) entry
 
@@ -234,7 +231,7 @@ module _ {S : Type 0} (view : View S) where
   )
 
   module _ (known : Known) where
-    -- what it received so far, and that kernel processes take no turn
+    -- what p received so far; kernel processes take no turn
     pub record Holds (m : Machine) (X : List Entry) : Type 0 where
       pub regular : list_all is_regular m.scheduler.agenda ≡ true
       pub now : Now view (told_so_far view X) m
@@ -303,7 +300,7 @@ module _ {S : Type 0} (view : View S) where
       let answered : reply_in view.p has.later ≡ Some reply = rw same at has.is_answered in
       rw (last, answered) at (law-at has.later t later)
 
-  -- so are the replies to p's calls, each by what p knows before it
+  -- so are all replies to p's calls, each by what p knew before it
   abbrev pub OwnTold : S → List OwnTurn → Type 0
   OwnTold s [] = Unit {0}
   OwnTold s (turn ∷ turns) =

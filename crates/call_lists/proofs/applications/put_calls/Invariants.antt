@@ -5,7 +5,7 @@ use Rattle.call_lists.specs.Code.Lists.{AreOfText, ArePut, HasCalls, behind_comm
 use Rattle.call_lists.proofs.Parting.{IsOnward}
 use Rattle.call_lists.proofs.applications.put_calls.Given as goal
 
--- the calls of the parts so far are at the front, and where the text is a list of calls, the others have room after them
+-- the calls so far are at the front; if the text is a list of calls, the others fit after them
 abbrev pub invariant-loop-left : goal.invariant-loop-left
 invariant-loop-left l =
     (made : List Call) × ArePut made 0 l.place l.initial.calls l.calls

@@ -17,6 +17,6 @@ returns-clause-put c =
     let all : c.loop.counter ≡ c.in_ok-count.count = omega arith in
     grind arith
 
--- the first call of a part is refused, and there must be one
+-- the part's first call is refused, and it has one
 pub returns-in_err-calls-clause-only : goal.returns-in_err-calls-clause-only
 returns-in_err-calls-clause-only c = λ made possible are fit. grind (arith, none_made)

@@ -1,4 +1,4 @@
--- What one more entry adds to the events that a transcript shows as accepted for p, and as delivered to it.
+-- What an entry adds to the events accepted for p and delivered to it.
 use Rattle.std.proofs.Common.{◌≡◌, ℕ, ◌+◌, Bool, false, ◌||◌, List, [], ◌∷◌, ◌++◌, refl, append-nil, Option, None, option_to_list, filter_map, if◌then◌else◌, ◌==◌}
 use Rattle.kernel_core.specs.Laws.EventLaws.{is_event_of_code, posted_event}
 use Rattle.kernel_core.proofs.Common.{deed, cons_option, list_any, decide, Call, Reply, Stimulus, Event, Entry, EXIT, heard, OwnTurn, own_from, reply_of, is_done, ticks_in, has_ended, is_exit, given_events, event_for, accepted_events}
@@ -14,7 +14,7 @@ accepted_or known p (Entry.Turn pid origin stimulus call) later =
     if is_done (reply_or (known pid.0) (heard pid.0 later)) then event_for p (deed call) else None
 accepted_or known p _ later = None
 
--- the events accepted for p, where the replies that the entries don't show are those that are known
+-- the events accepted for p; `known` has the replies that the entries don't show
 abbrev pub accepted_with : Known → ℕ → List Entry → List Event
 accepted_with known p [] = []
 accepted_with known p (entry ∷ later) = cons_option (accepted_or known p entry later) (accepted_with known p later)
@@ -50,7 +50,7 @@ module _ (p : ℕ) where
   accepted_with-none [] = refl
   accepted_with-none (entry ∷ later) = grind (decide, accepted_with-none later)
 
-  -- what was delivered, and whether p has ended
+  -- what is delivered, and whether p ended
   abbrev pub given_in : Entry → List Event
   given_in (Entry.Turn pid origin stimulus call) = if pid.0 == p then option_to_list (posted_event origin stimulus) else []
   given_in _ = []

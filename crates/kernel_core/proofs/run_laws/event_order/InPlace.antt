@@ -41,7 +41,7 @@ ordered-walk [] h = refl
 ordered-walk (x ∷ xs) h = grind (arith, ordered-walk xs)
 
 module _ (p : ℕ) where
-  -- what the agenda holds of p, while it hasn't ended
+  -- the agenda's items for p until it ends
 
   abbrev pub is_start : Item → Bool
   is_start (Item.Start q) = q == p
@@ -70,13 +70,13 @@ module _ (p : ℕ) where
   is_kept State.Leaving agenda = list_any is_give_exit agenda
   is_kept State.Ending agenda = list_any is_exit_turn agenda
 
-  -- not on the list, it will be started; on the list it is once
+  -- p is on the list once, or will be started
   abbrev is_placed : List State → List Item → Bool
   is_placed [] agenda = list_any is_start agenda
   is_placed (state ∷ []) agenda = is_kept state agenda
   is_placed _ agenda = false
 
-  -- before it leaves the list it gets EXIT
+  -- p gets EXIT before it leaves the list
   abbrev pub is_covered : List Item → Bool
   is_covered [] = true
   is_covered (item ∷ items) = if is_remove item then false else is_give_exit item || (is_exit_turn item || is_covered items)
@@ -97,7 +97,6 @@ pub carried-ordered : (item : Item) (s : Scheduler Bool) → is_ordered (item �
     → is_ordered (after_item item s).agenda ≡ true
 carried-ordered = grind (decide, append-nil, ordered-walk, all-delivered, ordered-append, all-mapped)
 
--- the items that are no turns
 abbrev pub is_silent : Item → Bool
 is_silent (Item.Turn q origin stimulus) = false
 is_silent _ = true

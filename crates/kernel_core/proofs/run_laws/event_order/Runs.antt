@@ -1,11 +1,11 @@
--- What every step preserves holds in every run: after each entry of its transcript, and where the mote rests.
+-- What every step preserves holds in every run: after each entry, and at rest.
 use Rattle.process_core.specs.Scheduler.{after_front_of, job_at, job_of_event, job_of_item, wants_round}
 use Rattle.kernel_core.proofs.Common.{decide, list_any, Input, Entry, Applications, Job, after_front, job, Config, Machine, scheduled, IsAtRest, effect, Answers, StepMade, Running, Runs, ComesToRest, silent, job_done, within_limit, is_still, is_at_rest, after_step, after_steps, answers_after, at_start, with_input, gone_on, list_any-append, Call, Reply, Stimulus, Event, Origin, Note, Queued, Item, is_kernel_process, reply_of, Scheduler, after_item, in_front, after_call, serve, with_more_work}
 use Rattle.std.proofs.Common.{◌≡◌, ℕ, zero, suc, Bool, true, false, List, [], ◌∷◌, ◌++◌, refl, subst, arith, append-nil, append_assoc, Option, Some, None, option_to_list, if◌then◌else◌, sym, ◌==◌, slice_get}
 use Rattle.mote_types.specs.Entries.{is_halt}
 use Rattle.kernel_core.proofs.run_laws.Changes.{serve-untouched, is_note, is_turn, behind}
 
--- the replies that are known, where the entries don't show them
+-- replies that the entries don't show
 abbrev pub Known : Type 0
 Known = ℕ → Option Reply
 
@@ -17,13 +17,13 @@ abbrev pub told : Entry → Known → Known
 told (Entry.Turn pid origin stimulus call) known = λ p. if p == pid.0 then reply_of stimulus else known p
 told _ known = known
 
--- the reply that is known is the one that is delivered next; the replies of outer activations may be any
+-- the known reply is the next one; the replies of outer activations may be any
 abbrev pub FrontAgrees : Known → List Item → Type 0
 FrontAgrees known (Item.Turn q origin stimulus ∷ items) = known q ≡ reply_of stimulus
 FrontAgrees known (Item.Show entry ∷ items) = FrontAgrees known items
 FrontAgrees known _ = Unit {0}
 
--- so does one
+-- known replies that agree
 abbrev agreeing : List Item → Known
 agreeing (Item.Turn q origin stimulus ∷ items) = λ p. reply_of stimulus
 agreeing (Item.Show entry ∷ items) = agreeing items
@@ -34,11 +34,11 @@ agrees (Item.Turn q origin stimulus ∷ items) = refl
 agrees (Item.Show entry ∷ items) = agrees items
 agrees _ = tt
 
--- what is said of a machine and the entries before it
+-- a statement about a machine and the entries before it
 abbrev Invariant : Type 1
 Invariant = Known → Machine → List Entry → Type 0
 
--- a run of a mote from boot
+-- a run from boot
 pub record Ran : Type 0 where
   pub config : Config
   pub says : Applications
@@ -61,7 +61,7 @@ module _ (R : List Entry → Entry → Type 0) (Q : List Entry → Type 0) where
   abbrev Shown : List Entry → Entry → Type 0
   Shown X e = R X e × (is_input e ≡ true → Q X)
 
-  -- R holds of each entry, after these and those before it, and Q before each input
+  -- R holds of each entry after the earlier ones, and Q before each input
   abbrev pub AllFrom : List Entry → List Entry → Type 0
   AllFrom before [] = Unit {0}
   AllFrom before (e ∷ later) = Shown before e × AllFrom (before ++ e ∷ []) later
@@ -77,7 +77,6 @@ module _ (R : List Entry → Entry → Type 0) (Q : List Entry → Type 0) where
 abbrev pub Anything : List Entry → Type 0
 Anything X = Unit {0}
 
--- P still holds
 abbrev pub Keeps : (List Entry → Type 0) → List Entry → Entry → Type 0
 Keeps P before e = P before → P (before ++ e ∷ [])
 
@@ -86,18 +85,17 @@ all-kept : (P : List Entry → Type 0) (done before later : List Entry) → AllF
 all-kept P done [] later all h = rw append-nil h
 all-kept P done (e ∷ before) later all h = grind (decide, append_assoc, all-kept P (done ++ e ∷ []) before later all.1 (all.0.0 h))
 
--- an item that is neither a turn nor shown
+-- neither a turn nor shown
 abbrev pub is_quiet_item : Item → Bool
 is_quiet_item (Item.Turn q origin stimulus) = false
 is_quiet_item (Item.Show entry) = false
 is_quiet_item _ = true
 
--- an event for a kernel process
 abbrev pub is_served : Item → Bool
 is_served (Item.Give q origin (Stimulus.Event event)) = is_kernel_process q
 is_served _ = false
 
--- an item, by the machine without it: before, and when it is executed
+-- an item and the machine without it: before the item is executed, and after
 abbrev pub facing : Item → Machine → Machine
 facing item m = scheduled (behind item) m
 
@@ -112,7 +110,7 @@ pub kernel_carried : (q : ℕ) (origin : Origin) (stimulus : Stimulus) (m : Mach
     → carried (Item.Give q origin stimulus) m ≡ m
 kernel_carried = grind decide
 
--- a turn with its call, by the machine without it and the entries before it
+-- a turn with its call, the machine without it, and the entries before it
 pub record Taken : Type 0 where
   pub m : Machine
   pub X : List Entry
@@ -133,7 +131,7 @@ entry_of t = Entry.Turn (record { 0 = t.q }) t.origin t.stimulus t.call
 abbrev pub with_turn : Taken → List Entry
 with_turn t = t.X ++ entry_of t ∷ []
 
--- K holds of each machine and its entries, whatever is known that agrees with the first reply; R of each entry
+-- K holds of each machine and its entries, for all `known` that agree with the first reply; R holds of each entry
 pub record Cases (K : Invariant) (R : List Entry → Entry → Type 0) : Type 0 where
   -- an expiry was delivered
   pub called_back : (known : Known) (m : Machine) (X : List Entry) (q c : ℕ) → K known (facing Item.Deliver m) X
@@ -169,14 +167,13 @@ module _ (K : Invariant) (R : List Entry → Entry → Type 0) (cases : Cases K 
   abbrev Holds : Machine → List Entry → Type 0
   Holds m X = (known : Known) → FrontAgrees known m.scheduler.agenda → K known m X
 
-  -- what a step leaves
   record Kept (X : List Entry) (step : StepMade) : Type 0 where
     holds : step.0.is_halted ≡ false → Holds step.0 (X ++ option_to_list step.1)
     shown : (e : Entry) → step.1 ≡ Some e → R X e × (is_input e ≡ false)
     halts : step.0.is_halted ≡ true → list_any is_halt (option_to_list step.1) ≡ true
 
   module _ (X : List Entry) where
-    -- or Halt is shown
+    -- also if Halt is shown
     limit_kept : (m : Machine) (step : StepMade) → Kept X step → Kept X (within_limit m step)
     limit_kept = grind (decide, cases.other)
 
@@ -330,7 +327,7 @@ module _ (K : Invariant) (R : List Entry → Entry → Type 0) (cases : Cases K 
           run-ended run.says run.inputs (at_start run.config) run.after
           (record { each = tt; holds = λ live known agrees. boot known; halts = grind decide }) run.runs
 
-      -- what follows at rest holds wherever the run rests
+      -- Q holds wherever the run rests
       pub at_rest : (before : List Entry) → IsAtRest run.after.entries before → Q before
       at_rest _ (IsAtRest.before_input before later input e) =
           (at-split R Q [] before later (Entry.Input input) (rw e run-good.good.each)).1 refl

@@ -1,4 +1,4 @@
--- The events that were accepted for p are those that it got, in order, and those that wait.
+-- The events accepted for p are those delivered, in order, and those that wait.
 use Rattle.kernel_core.proofs.run_laws.Changes.{is_turn, seats-with_mark, serve-untouched, effect-keeps}
 use Rattle.std.proofs.Common.{◌≡◌, ℕ, ◌+◌, true, false, List, [], ◌∷◌, ◌++◌, refl, arith, append-nil, map, nat_le, append_assoc, zero, suc, nat_lt}
 use Rattle.kernel_core.proofs.Common.{EventsArriveInOrder, list_any, decide, Event, Entry, has_ended, given_events, accepted_events, Item, Machine, is_application, range_with_len, Config, at_start, with_more_work, is_at_rest}
@@ -27,8 +27,7 @@ module _ (p : ℕ) where
   starts-all zero from a b = grind decide
   starts-all (suc n) from a b = grind (decide, starts-all n (suc from))
 
-  -- The events accepted for p are those delivered and those that wait. The first reply counts as made; the replies
-  -- further down make no difference.
+  -- The first reply counts as made; the replies further down make no difference.
   pub record Sound (known : Known) (m : Machine) (X : List Entry) : Type 0 where
     pub ordered : is_ordered m.scheduler.agenda ≡ true
     pub place : has_ended p X ≡ false → stands p m.scheduler ≡ true
@@ -54,7 +53,6 @@ module _ (p : ℕ) where
       still_alive : has_ended p (X ++ e ∷ []) ≡ false → has_ended p X ≡ false
       still_alive = grind (decide, ended-more)
 
-    -- the events delivered to p are all that were accepted for it
     abbrev IsAllGiven : Type 0
     IsAllGiven = has_ended p X ≡ false → given_events X p ≡ accepted_events p X
 

@@ -1,4 +1,4 @@
--- No event that waits for p is lost: it is on the agenda, or in the queue.
+-- No event that waits for p is lost: it is on the agenda or in the queue.
 use Rattle.kernel_core.proofs.run_laws.Changes.{farewells-same, behind, seats, seats-with_mark, Changes, of_changes, is_posting, kept_unposted}
 use Rattle.std.proofs.Common.{◌≡◌, ℕ, Bool, true, false, List, [], ◌∷◌, ◌++◌, refl, append-nil, Option, Some, option_to_list, if◌then◌else◌, ◌==◌, flat_map, map, ap, ◌∙◌, drop, slice_get, nat_le, length, nat_lt}
 use Rattle.mote_types.specs.declared.event.Payload.{Payload}
@@ -34,7 +34,7 @@ module _ (p : ℕ) where
   abbrev queued : List (Queued Bool) → List Event
   queued events = flat_map queued_in events
 
-  -- all receivers of a broadcast get it once
+  -- each receiver of a broadcast gets it once
   waits-broadcast : (event : Event) (list : List Process)
       → waits (delivery (numbers list) (to_all event)) ≡ flat_map (λ _. posted_for event) (seats p list)
   waits-broadcast event [] = refl
@@ -67,7 +67,7 @@ module _ (p : ℕ) where
   carried-waiting Item.Deliver s n a o h = grind (decide, append-nil, delivered)
   carried-waiting item s n a o h = grind decide
 
-  -- The kernel's processes leave every process's position and the events for applications as they are.
+  -- Kernel processes leave all positions and the events for applications unchanged.
 
   pub record Served (old new : Machine) : Type 0 where
     pub places : seats p new.scheduler.processes ≡ seats p old.scheduler.processes
@@ -77,7 +77,7 @@ module _ (p : ℕ) where
   queued-cancelled test [] = refl
   queued-cancelled test (item ∷ events) = grind (decide, queued-cancelled test events)
 
-  -- an event of the kernel's isn't one for an application
+  -- the kernel's events aren't for applications
   queued-silent : (events : List (Queued Bool)) (event : Queued Bool) → queued_in p event ≡ []
       → queued p (events ++ event ∷ []) ≡ queued p events
   queued-silent = grind (decide, flat_map-append, append-nil)
@@ -114,7 +114,7 @@ module _ (p : ℕ) (q : ℕ) (m : Machine) where
       kept_unposted {P = λ events. queued p events ≡ queued p m.scheduler.events}
       (λ test events h. rw (queued-cancelled p test events) h) call q m n refl
 
--- a call that posts an event, for one process or for all
+-- a call that posts, to one process or to all
 data Posting : Call → Type 0 where
   one : (r code : ℕ) (payload : Payload) → Posting (Call.Post r code payload)
   every : (code : ℕ) (payload : Payload) → Posting (Call.Broadcast code payload)

@@ -1,4 +1,4 @@
--- No timer event is early, and none is lost: the machine's timers follow the ledger at each step.
+-- No timer event is early or lost: at each step the machine's timers follow the ledger.
 use Rattle.std.proofs.Common.{◌≡◌, ℕ, true, false, ◌||◌, List, [], ◌∷◌, ◌++◌, ◌+◌, refl, arith, None, nat_le, ◌≤◌, subst, nat_lt, Bool, ◌&&◌, ◌==◌, append_assoc, map, slice_get}
 use Rattle.kernel_core.specs.Laws.TimerLaws.{is_ripe, ripe_by, is_number}
 use Rattle.kernel_core.proofs.Totals.{total-none}
@@ -44,7 +44,7 @@ module _ (p : ℕ) where
   no_farewell-delivery ns (Queued.ToAll event ∷ events) h = no_farewell-broadcast ns event (grind (arith, h))
   no_farewell-delivery ns _ h = refl
 
--- where p isn't doomed after, it wasn't before
+-- if p isn't doomed afterwards, it wasn't before
 not-before : (a b : Bool) → (a ≡ true → b ≡ true) → b ≡ false → a ≡ false
 not-before = grind decide
 
@@ -72,7 +72,7 @@ module _ (p : ℕ) where
   after-doomed call q m h =
       not-before (is_doomed p m.scheduler.agenda) (is_doomed p (after_call call q m).scheduler.agenda) (after-any (dooms p) call q m) h
 
-  -- only who ends, or is doomed, is said farewell
+  -- p's EXITED is sent only if p ends or is doomed
   after-farewell : (call : Call) (q : ℕ) (origin : Origin) (stimulus : Stimulus) (m : Machine)
       → ends_in p (Entry.Turn (record { 0 = q }) origin stimulus call) ≡ false → is_doomed p (after_call call q m).scheduler.agenda ≡ false
       → has_farewell p m.scheduler.agenda ≡ false → has_farewell p (after_call call q m).scheduler.agenda ≡ false
@@ -80,7 +80,7 @@ module _ (p : ℕ) where
   after-farewell (Call.Kill r) q origin stimulus m n d h = grind (decide, append_assoc, list_any-append, no_farewell-others)
   after-farewell call q origin stimulus m n d h = grind (arith, h)
 
--- The clock and the names of the timers, and what waits.
+-- The clock, the names of the timers, and what waits.
 
 pub record Steady (m : Machine) (X : List Entry) : Type 0 where
   pub clock : m.clock ≡ clock_after X
@@ -107,7 +107,6 @@ module _ (t : Taken) where
   steady-turn = grind (decide, after-clock, clock-more, armed-names, after-timers, kept_by_call, after-plain, all-mapped, all-append)
 
 module _ (o : OwnTimer) where
-  -- p lives on
   record Spared (agenda : List Item) (X : List Entry) : Type 0 where
     alive : has_ended o.p X ≡ false
     safe : is_doomed o.p agenda ≡ false
@@ -258,7 +257,7 @@ module _ (o : OwnTimer) where
     heeded = grind (decide, none-mapped, zero-names, all-mapped, zero-cells, total-none, range_with_len);
   }
 
-  -- a timer on the list whose deadline came is one that is due
+  -- a timer on the list after its deadline is due
   due_listed : (clock : ℕ) (timers : Timers) (xs : List Timer) → is_due clock timers (own_timer o) ≡ true
       → list_any (is_timer (own_timer o)) xs ≡ true → list_any (is_due clock timers) xs ≡ true
   due_listed clock timers [] d h = grind decide

@@ -1,4 +1,4 @@
--- The machine's timers against the ledger.
+-- The machine's timers agree with the ledger.
 use Rattle.std.proofs.Common.{◌≡◌, ℕ, true, false, not, List, [], ◌∷◌, refl, map, filter, nat_le, nat_lt, Bool, ◌&&◌, ◌||◌, arith, Option, Some, ◌==◌, ◌+◌, find, ◌≤◌}
 use Rattle.kernel_core.specs.Laws.TimerLaws.{arms, is_number, is_ripe, stops}
 use Rattle.timer_core.specs.Timers.{cell_of}
@@ -32,7 +32,6 @@ pub plain-cancelled : (test : ℕ → ℕ → Bool) (events : List (Queued Bool)
 plain-cancelled test events = all-cancelled is_lawful test (λ event. grind arith) events
 
 module _ (clock : ℕ) (timers : Timers) (timer : Timer) where
-  -- the first that passes does pass, and is on the list
   found : (xs : List Timer) → find (is_due clock timers) xs ≡ Some timer
       → is_due clock timers timer ≡ true
   found [] e = cc
@@ -65,7 +64,7 @@ module _ (o : OwnTimer) where
   abbrev pub in_wait : Machine → ℕ
   in_wait m = count_items m.scheduler.agenda + count_events m.scheduler.events
 
-  -- while p is spared, the last arming is followed by a TIMER event, or one waits, or it is on the list
+  -- while p is spared, the last arming led to a TIMER event, one waits, or the timer is on the list
   pub record Balanced (Spared : Type 0) (timers : Timers) (clock waiting : ℕ) (ledger : Ledger) : Type 0 where
     pub cell : nat_le o.t 7 ≡ true → cell_of (own_timer o) timers ≡ ledger.standing.cell
     -- only a timer that a call can name is on the list
@@ -109,7 +108,7 @@ module _ (o : OwnTimer) where
       expiry_count : queued_one (expiry_of timer) ≡ one_if (is_timer (own_timer o) timer)
       expiry_count = grind decide
 
-      -- a due timer of p is posted, and is off the list
+      -- a due timer of p is posted and leaves the list
       expired-fair : (m : Machine) → first_due m.clock m.timers ≡ Some timer
           → Fair m (post_expiry (Some timer) m)
       expired-fair m e = record {
@@ -169,7 +168,7 @@ module _ (o : OwnTimer) where
         → Balanced Spared timers clock w ledger → Balanced Left timers clock v ledger
     less-balanced = grind decide
 
-    -- a turn with a call whose reply was k
+    -- a turn with a call; k is its reply
     module _ (t : Taken) (k : Option Reply) (new : Timers) (ledger : Ledger)
         (moves : Moves o t.q t.m.clock t.call k t.m.timers new) (w : ℕ) where
       pub turn-follows : (Left → Spared) → Balanced Spared t.m.timers t.m.clock (timer_for t.q t.stimulus + w) ledger

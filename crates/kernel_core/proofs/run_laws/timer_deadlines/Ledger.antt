@@ -10,7 +10,7 @@ use Rattle.kernel_core.proofs.run_laws.event_order.Runs.{Known, nothing_known, t
 use Rattle.std.proofs.lemmas.List.Elements.{filter_map-append}
 use Rattle.kernel_core.proofs.run_laws.timer_deadlines.MovedTimers.{OwnTimer}
 
--- the turns of p, where the replies that the entries don't show are those that are known
+-- the turns of p; `known` has the replies that the entries don't show
 
 abbrev own_turn_or : Known → ℕ → ℕ → Entry → List Entry → Option OwnTurn
 own_turn_or known p clock (Entry.Turn pid origin stimulus call) later =
@@ -43,10 +43,9 @@ module _ (p : ℕ) where
     turns-more clock [] e = grind decide
     turns-more clock (entry ∷ X) e = grind (decide, turn-more, cons_option-append, turns-more (clock + ticks_in entry) X e)
 
--- the ledger of a timer
 pub record Ledger : Type 0 where
   pub standing : Standing
-  -- the TIMER events delivered
+  -- the number of TIMER events delivered
   pub given : ℕ
 
 abbrev pub one_if : Bool → ℕ
@@ -64,7 +63,6 @@ ledger_of t turns =
     fold (ledger_after t)
     (record { standing = record { cell = zero_cell; is_armed = false; was_given = false; ripe = 0 }; given = 0 }) turns
 
--- only an arming changes the cell
 pub unarmed : (t clock : ℕ) (deed : Deed) (cell : Cell) → arms t deed ≡ false → cell_after t clock deed cell ≡ cell
 unarmed = grind decide
 

@@ -1,4 +1,4 @@
--- What a call does to a timer: an arming puts it on the list with its new cell, a stop takes it off, and no other call moves it.
+-- Calls and timers: arming puts a timer on the list with its new cell, a stop takes it off, other calls don't move it.
 use Rattle.std.proofs.Common.{◌≡◌, ℕ, true, false, not, List, [], ◌∷◌, refl, map, filter, nat_le, nat_lt, Bool, ◌&&◌, ◌||◌, arith, Option, Some, None, ◌==◌, if◌then◌else◌}
 use Rattle.kernel_core.specs.Laws.TimerLaws.{arms, cell_after, stops}
 use Rattle.timer_core.specs.Names.{callback_timer, event_timer}
@@ -9,12 +9,10 @@ use Rattle.kernel_core.proofs.Common.{list_any, decide, Timer, all_timers, is_ti
 use Rattle.kernel_core.specs.Calls.{timer_refusal, callback_refusal}
 use Rattle.kernel_core.proofs.run_laws.event_order.Runs.{Known, FrontAgrees, told}
 
--- timer t of process p
 pub record OwnTimer : Type 0 where
   pub p : ℕ
   pub t : ℕ
 
--- the timers that have a cell
 abbrev pub cell_names : List NamedCell → List Timer
 cell_names cells = map (λ named. named.timer) cells
 
@@ -23,7 +21,6 @@ module _ (timer : Timer) (cell : Cell) where
   with_cell-names [] = refl
   with_cell-names (named ∷ cells) = grind (decide, with_cell-names cells)
 
-  -- an arming keeps the names
   pub armed-names : (timers : Timers) → cell_names (armed_with timer cell timers).cells ≡ cell_names timers.cells
   armed-names timers = with_cell-names timers.cells
 
@@ -106,7 +103,7 @@ module _ (call : Call) (q : ℕ) (m : Machine) where
 
 module _ (o : OwnTimer) where
   module _ (q : ℕ) where
-    -- the call of q with reply k arms timer t of p
+    -- q's call with reply k arms timer t of p
     abbrev is_set_by : Call → Option Reply → Bool
     is_set_by call k = q == o.p && (is_done k && arms o.t (deed call))
 
@@ -132,7 +129,6 @@ module _ (o : OwnTimer) where
           → Moves old new
       still_moves = grind decide
 
-    -- a stop of timer u of q
     stopped_moves : (u clock : ℕ) (k : Option Reply) (old : Timers) → ((q == o.p) ≡ true → k ≡ Some Reply.Done)
         → Moves clock (Call.TimerStop u) k old (stop_timer (event_timer q u) old)
     stopped_moves u clock k old told = record {
@@ -143,7 +139,6 @@ module _ (o : OwnTimer) where
       unset = grind (decide, same_timer, stopped-own);
     }
 
-  -- a call that may be refused
   by_refusal : (call : Call) (q : ℕ) (known : Known) (m after : Machine) (refused : Option Refusal)
       → FrontAgrees known (refused_or refused q m (answer_done q after)).scheduler.agenda
       → (refused ≡ None → ((q == o.p) ≡ true → known o.p ≡ Some Reply.Done) → Moves q m.clock call (known o.p) m.timers after.timers)

@@ -69,7 +69,6 @@ watched-carried = grind (
   marks-other,
 )
 
--- these items at the front
 watched-front : (xs : List Item) (m : Machine) → Watched m → Watched (scheduled (in_front xs) m)
 watched-front = grind (decide, list_any-append)
 
@@ -77,17 +76,16 @@ some-find : (test : Timer → Bool) (xs : List Timer) → is_some (find test xs)
 some-find test [] = refl
 some-find test (x ∷ xs) = grind (decide, some-find test xs)
 
--- timers leave the list
 dropped : (keep : Timer → Bool) (m : Machine) → Watched m
     → Watched (record m { timers = record m.timers { armed = filter keep m.timers.armed } })
 dropped = grind (decide, any-filter)
 
--- an item that isn't etimer's POLL is gone
+-- an item other than etimer's POLL is gone
 pub without_item : (item : Item) (m : Machine) → is_etimer_poll item ≡ false → Watched (facing item m) → Watched m
 without_item = grind decide
 
 module _ (call : Call) (q : ℕ) (m : Machine) where
-  -- a call that makes no more timers due
+  -- a call that makes no timer due
   fewer : Watched m → (is_timer_due m.clock (after_call call q m).timers ≡ true → is_timer_due m.clock m.timers ≡ true)
       → Watched (after_call call q m)
   fewer h less =

@@ -1,4 +1,4 @@
-use Rattle.std.proofs.Common.{rules, ◌≡◌, ℕ, ◌∙◌, ap, refl, sym, true, length}
+use Rattle.std.proofs.Common.{rules, ◌≡◌, ℕ, ◌∙◌, ap, refl, sym, length}
 use Rattle.std.specs.Prelude.{Result, Ok, Err, IsErrOf}
 use Rattle.std.proofs.lemmas.Bool.{true_from_ne_false}
 use Rattle.std.specs.Result.{IsErrAnd}
@@ -8,34 +8,33 @@ use Rattle.mote_run.specs.declared.run.RunFault.{RunFault}
 use Rattle.mote_run.specs.declared.fault.MoteFault.{MoteFault}
 use Rattle.mote_run.specs.Code.Faults.{fault_at_boot, fault_in_run}
 use Rattle.kernel_core.specs.declared.config.Config.{Config}
-use Rattle.kernel_core.specs.Machine.{Machine, booted, is_bootable}
+use Rattle.kernel_core.specs.Machine.{Machine, booted}
 use Rattle.node_memory.specs.declared.sizes.Sizes.{Sizes}
 use Rattle.mote_run.specs.Code.Runs.{OfRun, config_of}
 use Rattle.mote_run.proofs.HandedOn.{ended, fault_handed_on, nothing_ran}
 use Rattle.mote_run.proofs.mote.run_boxes.Goals as goal
 
--- an answer that is known to be a fault
 same_fault : {T E : Type 0} (r : Result T E) (fault : E) → IsErrAnd r (λ found. found ≡ fault) → r ≡ Err fault
 same_fault (Ok value) fault is = absurd is
 same_fault (Err found) fault is = ap Err is
 
 -- a fault at boot is no failed read
 boot_is_other : (fault : BootFault) → IsErrOf {T = End} (Err (fault_at_boot fault)) MoteFault.Read → ⊥
-boot_is_other BootFault.BadSizes same = absurd (cc)
-boot_is_other BootFault.Memory same = absurd (cc)
+boot_is_other BootFault.BadSizes same = cc
+boot_is_other BootFault.Memory same = cc
 
--- and a fault in a run is one only where that is
+-- and a fault in a run is one only if reading failed
 read_alike : (fault : RunFault) → IsErrOf {T = End} (Err (fault_in_run fault)) MoteFault.Read → fault ≡ RunFault.Read
 read_alike RunFault.Read same = refl
-read_alike RunFault.Write same = absurd (cc)
+read_alike RunFault.Write same = cc
 
 on_boxes : (sizes : Sizes) {m : Machine} (apps boxes : ℕ) → m ≡ booted (config_of sizes apps) → apps ≡ boxes
     → m ≡ booted (config_of sizes boxes)
 on_boxes sizes apps boxes is same = is ∙ ap (λ apps. booted (config_of sizes apps)) same
 
--- where no mote was booted, nothing ran
+-- if no mote was booted, nothing ran
 pub returns-in_default-clause-ran : goal.returns-in_default-clause-ran
-returns-in_default-clause-ran g c = λ _ _. nothing_ran _ refl (λ is. absurd (cc))
+returns-in_default-clause-ran g c = λ _ _. nothing_ran _ refl (λ is. cc)
 
 pub returns-in-Err-clause-ran : goal.returns-in-Err-clause-ran
 returns-in-Err-clause-ran g c =
@@ -44,10 +43,13 @@ returns-in-Err-clause-ran g c =
 pub run-requires-clause-booted : goal.run-requires-clause-booted
 run-requires-clause-booted g c =
     let config : Config = config_of c.args.sizes c.in-Ok.apps in
-    let bootable : is_bootable config ≡ true = true_from_ne_false _ (λ h.
-    let e = c.in-Ok-boot.ensures.bad_sizes.1 h in absurd (cc)) in
-    let same : c.in-Ok.apps ≡ length c.args.boxes.now = search rules in
-    record { config = config; boots = bootable; for_all = same; is_booted = search rules; no_inputs = search rules }
+    record {
+      config = config;
+      boots = (true_from_ne_false _ (λ h. let e = c.in-Ok-boot.ensures.bad_sizes.1 h in absurd (cc)));
+      for_all = (search rules);
+      is_booted = search rules;
+      no_inputs = search rules;
+    }
 
 pub returns-clause-ran : goal.returns-clause-ran
 returns-clause-ran g c =
@@ -65,12 +67,10 @@ pub returns-in_default-clause-promise : goal.returns-in_default-clause-promise
 returns-in_default-clause-promise g c = λ _ _. tt
 
 module _ (P : Result End RunFault → Type 0) where
-  -- of a run that was handed on
   of_run : (fault : RunFault) → P (Err fault) → OfRun (Err (fault_in_run fault)) P
   of_run RunFault.Read held = held
   of_run RunFault.Write held = held
 
-  -- where no mote was booted, none was run
   of_none : (fault : BootFault) → OfRun (Err (fault_at_boot fault)) P
   of_none BootFault.BadSizes = tt
   of_none BootFault.Memory = tt

@@ -6,5 +6,5 @@ use Rattle.mote_run.proofs.refill.refill.Goals as goal
 
 pub returns-clause-taken : goal.returns-clause-taken
 returns-clause-taken g c =
-    let none = nil_from_length c.args.piece.now (grind (arith, nat_tests)) in
-    MatchResult-weaker c.read.result c.read.ensures.taken (λ _ taken. (c.read.new.self, taken, rw none refl)) (λ _ _. tt)
+    MatchResult-weaker c.read.result c.read.ensures.taken
+    (λ _ taken. (c.read.new.self, taken, rw (nil_from_length c.args.piece.now (grind (arith, nat_tests))) refl)) (λ _ _. tt)

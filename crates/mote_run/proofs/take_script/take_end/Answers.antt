@@ -11,8 +11,7 @@ settle_input-requires-clause-bytes g c = grind (arith, input_can_be_fed)
 
 pub settle_input-requires-clause-clock : goal.settle_input-requires-clause-clock
 settle_input-requires-clause-clock g c =
-    let ticks = (input_can_be_fed _ _ (sym (rw c.in-Ok-true.field-0-test at c.in-Ok-true.ensures.says))).1 in
-    grind arith
+    grind (arith, (input_can_be_fed _ _ (sym (rw c.in-Ok-true.field-0-test at c.in-Ok-true.ensures.says))).1)
 
 pub returns-in-Ok-false-clause-ran : goal.returns-in-Ok-false-clause-ran
 returns-in-Ok-false-clause-ran g c = λ named read earlier start so_far went.

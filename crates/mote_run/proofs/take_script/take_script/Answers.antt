@@ -1,12 +1,12 @@
-use Rattle.std.proofs.Common.{rules, ◌≡◌, ◌≤◌, ◌+◌, ◌-◌, ◌∙◌, ℕ, refl, sym, arith, true, false, []}
+use Rattle.std.proofs.Common.{rules, ◌≤◌, ◌+◌, ◌-◌, ◌∙◌, ℕ, refl, sym, arith, true, false, []}
 use Rattle.std.proofs.lemmas.List.{nil_from_length}
-use Rattle.mote_run.proofs.Common.{append-nil, End, inputs, nat_tests, start}
+use Rattle.mote_run.proofs.Common.{append-nil, End, inputs, start}
 use Rattle.mote_run.proofs.Pieces.{not_read}
 use Rattle.mote_run.proofs.LoopInvariant.{come_refilled, failed, few_come, finished, goes_on_so, nothing_read, read_while_running, too_long, wrote_whole_lines}
 use Rattle.mote_run.proofs.Ways.{went_further, went_on, went_written}
 use Rattle.mote_run.proofs.take_script.take_script.Goals as goal
 
--- what is read at once keeps within the limit
+-- one read stays within the limit
 within_limit : {taken before after : ℕ} → taken ≤ 16777216 → taken + before ≤ 16777217
     → (before ≤ 16777217 - taken → after ≤ 16777217 - taken) → taken + after ≤ 16777217
 within_limit limit few more = grind arith
@@ -25,7 +25,7 @@ part-init g c = record {
     read = [];
     earlier = [];
     taken = λ s. sym (append-nil _);
-    so_far = grind (arith, nat_tests, start);
+    so_far = grind (arith, start);
     went = c.in_ok-settle.ensures.goes;
   };
   no_further = λ s k. nothing_read;
@@ -42,12 +42,11 @@ part-init g c = record {
 
 pub returns-then-halted-clause-ran : goal.returns-then-halted-clause-ran
 returns-then-halted-clause-ran g c = λ s k.
-    let i = c.part.invariant.has_come in
-    let halted : c.part.work.kernel.machine.is_halted ≡ true = sym c.halted.ensures ∙ c.if-halted.true in (
+    let i = c.part.invariant.has_come in (
       i.read,
       i.taken s,
       finished (i.went k) End.Halted c.part.invariant.still
-          (λ more limits. let l = goes_on_so i.so_far more in (l.0, l.1, λ no. absurd (cc))) (rw halted refl),
+          (λ more limits. let l = goes_on_so i.so_far more in (l.0, l.1, λ no. cc)) (rw (sym c.halted.ensures ∙ c.if-halted.true) refl),
     )
 
 pub returns-in_err-refill-clause-ran : goal.returns-in_err-refill-clause-ran
@@ -59,7 +58,7 @@ returns-in_err-refill-clause-ran g c = λ s k.
           (λ more limits. goes_on_so i.so_far more)
           (λ failed. wrote_whole_lines i.so_far c.part.invariant.ready.endless c.part.invariant.ready.few
           (went_further (i.went k) (went_written (c.in_err-refill.ensures.written_first
-          (grind (arith, failed, c.from_residual-in_err-refill.ensures.1)) k))) c.part.invariant.still refl
+          (grind (arith, c.from_residual-in_err-refill.ensures.1)) k))) c.part.invariant.still refl
           (nil_from_length c.part.script.piece c.in_err-refill.ensures.used_up)),
     )
 
@@ -74,8 +73,7 @@ returns-then-is_empty-clause-ran g c = λ s k.
 
 pub returns-then-script-eq-LIMIT-clause-ran : goal.returns-then-script-eq-LIMIT-clause-ran
 returns-then-script-eq-LIMIT-clause-ran g c = λ s k.
-    let i = come_refilled c.part.invariant.has_come c.in_ok-refill.ensures.taken c.in_ok-refill.ensures.written in
-    let running : c.part.work.kernel.machine.is_halted ≡ false = sym c.halted.ensures ∙ c.if-halted.false in (
+    let i = come_refilled c.part.invariant.has_come c.in_ok-refill.ensures.taken c.in_ok-refill.ensures.written in (
       i.read,
       i.taken s,
       finished (i.went k) End.TooLong c.part.invariant.still (λ more limits. (
@@ -83,32 +81,31 @@ returns-then-script-eq-LIMIT-clause-ran g c = λ s k.
         rw append-nil (too_long i.so_far c.part.invariant.ready.endless c.part.invariant.ready.few c.if-script-eq-LIMIT.true
             (sym c.is_empty.ensures ∙ c.if-is_empty.false) more),
         λ _. refl,
-      )) (rw running refl),
+      )) (rw (sym c.halted.ensures ∙ c.if-halted.false) refl),
     )
 
 pub returns-in_err-settle_input-in-Ok-true-clause-ran : goal.returns-in_err-settle_input-in-Ok-true-clause-ran
 returns-in_err-settle_input-in-Ok-true-clause-ran g c = λ s k.
-    let i = come_refilled c.part.invariant.has_come c.in_ok-refill.ensures.taken c.in_ok-refill.ensures.written in
-    let so_far = (rw c.in-Ok-true.field-0-test at c.in-Ok-true.ensures.takes) i.read i.earlier i.so_far in (
+    let i = come_refilled c.part.invariant.has_come c.in_ok-refill.ensures.taken c.in_ok-refill.ensures.written in (
       i.read,
       i.taken s,
       failed (went_on (i.went k) (c.in_err-settle_input-in-Ok-true.ensures.goes k).3)
-          c.from_residual-in_err-settle_input-in-Ok-true.ensures.0 (λ more limits. goes_on_so so_far more)
+          c.from_residual-in_err-settle_input-in-Ok-true.ensures.0
+          (λ more limits. goes_on_so ((rw c.in-Ok-true.field-0-test at c.in-Ok-true.ensures.takes) i.read i.earlier i.so_far) more)
           (not_read c.from_residual-in_err-settle_input-in-Ok-true.result
           (rw c.in_err-settle_input-in-Ok-true.ensures.failures.2 at c.from_residual-in_err-settle_input-in-Ok-true.ensures.1)),
     )
 
 pub returns-in-Err-clause-ran : goal.returns-in-Err-clause-ran
 returns-in-Err-clause-ran g c = λ s k.
-    let i = come_refilled c.part.invariant.has_come c.in_ok-refill.ensures.taken c.in_ok-refill.ensures.written in
-    let running : c.part.work.kernel.machine.is_halted ≡ false = sym c.halted.ensures ∙ c.if-halted.false in (
+    let i = come_refilled c.part.invariant.has_come c.in_ok-refill.ensures.taken c.in_ok-refill.ensures.written in (
       i.read,
       i.taken s,
       finished (i.went k) _ c.part.invariant.still (λ more limits. (
         ([], End.BadLine c.take.new.self.reader.number),
         rw append-nil (c.in-Err.ensures.takes i.read i.earlier i.so_far more),
         λ _. refl,
-      )) (rw running refl),
+      )) (rw (sym c.halted.ensures ∙ c.if-halted.false) refl),
     )
 
 pub returns-in_err-settle-clause-no_further : goal.returns-in_err-settle-clause-no_further
@@ -194,8 +191,8 @@ part-preserved g c =
           (c.part.invariant.no_further s k);
       boxes = c.part.invariant.boxes;
       still = c.part.invariant.still;
-      clock = omega (arith, c.part.invariant.clock, c.in-Ok-false.ensures.some);
-      inputs = omega (arith, c.part.invariant.inputs, c.in-Ok-false.ensures.some);
+      clock = omega (arith, c.in-Ok-false.ensures.some);
+      inputs = omega (arith, c.in-Ok-false.ensures.some);
       ready = c.in-Ok-false.ensures.ready;
       few = grind arith;
       unended = grind arith;
@@ -223,7 +220,7 @@ part-preserved-in-Continue-branch-3 g c =
       clock = grind arith;
       inputs = grind arith;
       ready = c.in-Ok-true.ensures.ready;
-      few = omega (arith, c.take.ensures.bytes, within_limit c.part.invariant.ready.few c.part.invariant.few c.in_ok-refill.ensures.few);
+      few = omega (arith, within_limit c.part.invariant.ready.few c.part.invariant.few c.in_ok-refill.ensures.few);
       unended = grind arith;
       reads = search rules;
       writes = search rules;

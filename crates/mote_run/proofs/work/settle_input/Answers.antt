@@ -29,7 +29,7 @@ returns-then-accept_idle_tick-clause-still g c =
 
 pub returns-clause-goes : goal.returns-clause-goes
 returns-clause-goes g c = λ named.
-    let same = c.accept_idle_tick.ensures.else_nothing c.if-accept_idle_tick.false in
     goes_further c.settle.result _
     (went_input c.args.input.now c.requires.still c.requires.running (c.in_ok-make_room.ensures.written named)
-    ((rw same at c.accept.ensures.machine) _) c.accept.ensures.running c.put_input.ensures) (c.settle.ensures.goes named)
+    ((rw (c.accept_idle_tick.ensures.else_nothing c.if-accept_idle_tick.false) at c.accept.ensures.machine) _) c.accept.ensures.running
+    c.put_input.ensures) (c.settle.ensures.goes named)

@@ -21,13 +21,12 @@ last_is [] entry = refl
 last_is (first ∷ []) entry = refl
 last_is (first ∷ next ∷ entries) entry = last_is (next ∷ entries) entry
 
--- what it is to rest
 rest_is : (turn : Option AwaitedCall) (halted idle : Bool) → (is_none turn && (not halted && idle)) ≡ true →
     (turn ≡ None) × (halted ≡ false) × ((halted || (not halted && idle)) ≡ true)
 rest_is turn halted idle h = grind (arith, nat_tests)
 
 module _ {history : History} {old new : SessionView} (is : IsHistoryOf history old) (same : HasSameInputs old new) where
-  -- after an entry, which is made from where the entries before it lead to
+  -- an entry is made from the machine that the entries before it lead to
   behind_entry : (before : Machine) (entry : Entry) → HasComeTo history before → new.turn ≡ None → new.last ≡ Some entry →
       ((says : Applications) → AnswersAs says (history.entries ++ entry ∷ []) →
       MakesEntry (answers_after says history.entries) before entry new.machine) →

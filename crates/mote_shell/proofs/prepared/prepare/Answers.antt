@@ -18,7 +18,7 @@ module _ {A : Type 0} (by_name : List ℕ → Option A) (words : List (List ℕ)
       → of_boxes.config_of named.sizes applications ≡ config_of (named_in by_name words)
   same_config named applications is as_many = ap (of_boxes.config_of named.sizes) as_many ∙ ap config_of is
 
-  -- where no kernel boots with it, the arguments name bad sizes, or memory was refused
+  -- if no kernel boots, the arguments name bad sizes, or memory was refused
   boot_refused : {T : Type 0} (config : Config) (fault : BootFault) → config ≡ config_of (named_in by_name words)
       → NamesApplications by_name words → IsErrOf {T = T} (Err fault) BootFault.BadSizes ↔ (is_bootable config ≡ false)
       → Refuses by_name words (failure_at_boot fault)

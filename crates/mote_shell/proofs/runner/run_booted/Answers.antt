@@ -16,7 +16,6 @@ module _ {config : Config} {says : Applications} {quiet : Bool} {taken_old taken
       Exchanged taken_old taken_new is_ended given_old given_new (HasRunAs config says quiet (Ok end))
   ended_as x = grind arith
 
-  -- where a device failed
   failed_as : (fault : RunFault) → Exchanged taken_old taken_new is_ended given_old given_new (RunPromise config says quiet (Err fault)) →
       Exchanged taken_old taken_new is_ended given_old given_new (HasRunAs config says quiet (Err (failure_in_run fault)))
   failed_as RunFault.Read x = holding x (record {

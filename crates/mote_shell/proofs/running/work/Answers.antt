@@ -5,7 +5,7 @@ use Rattle.mote_shell.specs.NamedRuns.{IsStatusFor}
 use Rattle.command_line.specs.declared.failure.Failure.{Failure}
 use Rattle.mote_text.specs.declared.script.End.{End}
 
--- a status of an outcome that the arguments allow, whatever was done
+-- a status of an outcome that the arguments allow
 allowed : {A : Type 0} (by_name : List ℕ → Option A) (words : List (List ℕ)) (IsDone : Result End Failure → Type 0)
     (result : Result ℕ Failure) →
     IfOk result (IsStatusFor by_name words IsDone) → IfOk result (IsStatusFor by_name words (λ _. ⊤))

@@ -1,10 +1,10 @@
-use Rattle.std.proofs.Common.{◌≡◌, ◌*◌, ◌+◌, ℕ, arith}
+use Rattle.std.proofs.Common.{◌≡◌, ◌*◌, ◌+◌, arith}
 use Rattle.mote_text.proofs.HexPairs.{read_more}
 use Rattle.mote_text.proofs.hex_blocks.read_block.Goals as goal
 
 pub bytes-preserved : goal.bytes-preserved
 bytes-preserved c =
-    let at : ℕ = c.args.at + c.bytes.i in
+    let at = c.args.at + c.bytes.i in
     let high : 2 * at ≡ 2 * c.args.at + 2 * c.bytes.i = omega arith in
     let low : 2 * at + 1 ≡ 2 * c.args.at + (2 * c.bytes.i + 1) = omega arith in
     let next : c.args.at + (c.bytes.i + 1) ≡ at + 1 = omega arith in

@@ -1,4 +1,4 @@
-use Rattle.std.proofs.Common.{◌≡◌, ◌*◌, ◌+◌, ◌^◌, ◌<◌, ◌≤◌, ℕ, List, add-one, arith}
+use Rattle.std.proofs.Common.{◌≡◌, ◌*◌, ◌+◌, ◌^◌, ◌<◌, ◌≤◌, ℕ, add-one, arith}
 use Rattle.std.proofs.Math.Nat.{pow-le-pow_right, pow-succ'}
 use Rattle.std.proofs.lemmas.Int.Digits.{digits_value_more}
 use Rattle.mote_text.proofs.Common.{is_ascii_digit, nat_tests, list_all_more}
@@ -18,8 +18,8 @@ overflow_add-number c =
 
 pub loop-i-preserved : goal.loop-i-preserved
 loop-i-preserved c =
-    let digits : List ℕ = c.args.piece.now in
-    let i : ℕ = c.loop-i.i in
+    let digits = c.args.piece.now in
+    let i = c.loop-i.i in
     let next = digits_value_more 10 digits i (omega arith) in
     let more = list_all_more is_ascii_digit digits i 0 (omega arith) in
     let small : c.from.result ≤ 9 = grind (arith, nat_tests) in

@@ -8,12 +8,12 @@ pub returns-in-Some-clause-endless : goal.returns-in-Some-clause-endless
 returns-in-Some-clause-endless c = grind (arith, no_end_append, no_end_before)
 
 pub returns-then-kept-near-clause-endless : goal.returns-then-kept-near-clause-endless
-returns-then-kept-near-clause-endless c = grind (arith, common_steps, no_end_append, no_end_before)
+returns-then-kept-near-clause-endless c = grind (arith, no_end_append, no_end_before)
 
 pub returns-then-kept-near-clause-too_wide : goal.returns-then-kept-near-clause-too_wide
 returns-then-kept-near-clause-too_wide c =
-    let near = take c.min.result c.args.piece.now in
-    let e : c.try_extend_from_slice-2.new.self.items ≡ c.args.bytes.now.items ++ take c.min-kept.result near =
+    let e : c.try_extend_from_slice-2.new.self.items ≡ c.args.bytes.now.items ++ take c.min-kept.result
+    (take c.min.result c.args.piece.now) =
     grind (arith, common_steps) in (
       λ _. (
         rw e (grind (arith, common_steps)),
@@ -23,16 +23,11 @@ returns-then-kept-near-clause-too_wide c =
     )
 
 pub returns-else-kept-near-clause-endless : goal.returns-else-kept-near-clause-endless
-returns-else-kept-near-clause-endless c = grind (arith, common_steps, no_end_append, no_end_before)
+returns-else-kept-near-clause-endless c = grind (arith, no_end_append, no_end_before)
 
 pub returns-else-kept-near-clause-too_wide : goal.returns-else-kept-near-clause-too_wide
 returns-else-kept-near-clause-too_wide c = (
   λ e. cc,
   λ h.
-      absurd (omega (
-        arith,
-        length-take c.min.result c.args.piece.now,
-        h.0,
-        slice_get_within c.args.piece.now c.min-kept.result h.1.0 h.1.1,
-      )),
+      absurd (omega (arith, length-take c.min.result c.args.piece.now, slice_get_within c.args.piece.now c.min-kept.result h.1.0 h.1.1)),
 )

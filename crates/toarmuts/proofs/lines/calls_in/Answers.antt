@@ -4,7 +4,7 @@ use denote.Ref.{Bor}
 use Rattle.toarmuts.specs.Reasons.{HasCalls, HasNoCalls}
 use Rattle.toarmuts.proofs.lines.calls_in.Goals as goal
 
--- what is left behind the word, if the line begins with it
+-- the rest after the word, if the line begins with it
 abbrev IsLeft : List ℕ → Option (Bor (List ℕ)) → Type 0
 IsLeft line o =
     MatchOption o (FindsTextPrefix (codes "calls ") line None) (λ x. StripsPrefix (FindsTextPrefix (codes "calls ")) line x.now)
@@ -13,7 +13,7 @@ has : (line : List ℕ) (o : Option (Bor (List ℕ))) → IsLeft line o → IfSo
 has line None h = tt
 has line (Some x) h = inr (h.1.1 ∙ ap (λ rest. codes "calls " ++ rest) (sym h.2))
 
--- where nothing is, the line has no calls, since it is not the word alone
+-- without a rest the line has no calls: it is not the word alone
 has_none : (line : List ℕ) (o : Option (Bor (List ℕ))) → (line ≡ codes "calls" → ⊥) → IsLeft line o → IfNone o (HasNoCalls line)
 has_none line (Some x) other h = tt
 has_none line None other h = lacks where

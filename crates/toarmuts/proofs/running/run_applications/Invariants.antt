@@ -5,7 +5,6 @@ use Rattle.call_lists.specs.Applications.{application_says}
 use Rattle.toarmuts.proofs.running.run_applications.OwnLists.{own-1}
 use Rattle.toarmuts.proofs.running.run_applications.Given as goal
 
--- the applications so far are boxed, and the others are still to come
 abbrev pub invariant-loop-application : goal.invariant-loop-application
 invariant-loop-application l =
     AreBoxed (λ b. (own-1.entry b.vtable).1.says b.value) application_says l.boxes.items l.yielded (into_iter_items l.application-iterator)

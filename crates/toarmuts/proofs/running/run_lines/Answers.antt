@@ -14,7 +14,7 @@ use Rattle.toarmuts.specs.declared.refusal.SizeReason.{SizeReason}
 use Rattle.toarmuts.proofs.ReadLines.{as_many, handed_on}
 use Rattle.toarmuts.proofs.running.run_lines.Goals as goal
 
--- no mote boots with sizes of which one is bad
+-- no mote boots with a bad size
 not_bootable : (sizes : Sizes) (applications : ℕ) (reason : SizeReason) → size_reason sizes applications ≡ Some reason
     → is_bootable (config_of sizes applications) ≡ false
 not_bootable sizes applications reason is = grind (arith, nat_tests, is)

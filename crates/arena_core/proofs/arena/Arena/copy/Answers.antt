@@ -4,7 +4,7 @@ use Rattle.arena_core.specs.Code.Contents.{contents}
 use Rattle.arena_core.proofs.Ranges.{length-written, written-same}
 use Rattle.arena_core.proofs.arena.Arena.copy.Goals as goal
 
--- what was read is written back as it was, and the same bytes are in the target
+-- the bytes that were read are unchanged, and in the target
 pub returns-clause-bytes : goal.returns-clause-bytes
 returns-clause-bytes c =
     let xs = c.args.self.now.bytes in let source = c.args.source in let target = c.args.target in let len = c.args.len in

@@ -1,7 +1,7 @@
 use Rattle.std.proofs.Common.{codes, bytes_eq, arith}
 use Rattle.std.proofs.lemmas.Bool.Decides.{nat_tests}
 use Rattle.call_lists.proofs.Fitting.{chunk_passes, no_bytes_fail, no_hex_fails}
-use Rattle.call_lists.proofs.words.Words.chunk.Goals.{in_default-via-in-Some+else-not-is_empty, in_default-via-in_default}
+use Rattle.call_lists.proofs.words.Words.chunk.Goals.{in_default-via-in_default}
 use Rattle.call_lists.proofs.words.Words.chunk.Goals as goal
 
 pub returns-in-Some-clause-left : goal.returns-in-Some-clause-left

@@ -2,7 +2,7 @@ use Rattle.std.proofs.Common.{◌≡◌, ◌≤◌, length}
 use Rattle.device_core.proofs.Lines.{ServesAlike, state}
 use Rattle.device_core.proofs.serial_line.SerialLine.serve.Given as goal
 
--- what was taken from the ring has gone into the line, so serving the rest is serving all of it
+-- bytes taken from the ring are in the line, so serving the rest serves all
 abbrev pub invariant-loop-byte : goal.invariant-loop-byte
 invariant-loop-byte l = record {
   alike : ServesAlike (state l.self-inside.ring.items l.self-inside.overflow l.self-inside.line.items) l.fn.self;

@@ -2,7 +2,6 @@ use Rattle.heap_core.proofs.Lemmas.{rules, arith, [], ◌≡◌, ℕ, ◌≤◌,
 use Rattle.heap_core.proofs.heap.Heap.alloc.Goals as goal
 use Rattle.heap_core.proofs.heap.Heap.alloc.Goals.{After-join}
 
--- the position found in the joined heap is that found in the one before
 chosen : (c : After-join) (o : Option Place) → place c.args.n (store_of c.join.new.self c.join.new.arena.bytes) ≡ o
     → place c.args.n (heap_of c.args.self.now c.args.arena.now.bytes) ≡ o
 chosen c o is =

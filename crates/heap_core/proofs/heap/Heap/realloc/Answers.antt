@@ -2,7 +2,6 @@ use Rattle.heap_core.proofs.Lemmas.{Resizing, moved_elsewhere, elsewhere, arith,
 use Rattle.heap_core.proofs.heap.Heap.realloc.Goals as goal
 use Rattle.heap_core.proofs.heap.Heap.realloc.Goals.{After-live_chunk-chunk}
 
--- the heap was joined, and the block's chunk found
 module _ (c : After-live_chunk-chunk) where
   abbrev heap : Region
   heap = c.join.new.self
@@ -38,7 +37,7 @@ module _ (c : After-live_chunk-chunk) where
   named : (new : HeapStore) → after store ≡ Some new → (other : ℕ) → count other new.blocks ≤ 1
   named new is = named_after resizing (λ other. subst (λ (k : HeapStore). count other k.blocks ≤ 1) all (joined.named other)) new is
 
-  -- the result for the joined heap is that for the one before
+  -- the same result as before the heap was joined
   told : (o : Option HeapStore) → after store ≡ o → after (heap_of c.args.self.now c.args.arena.now.bytes) ≡ o
   told o is =
       subst (λ (r : Region). after (heap_of r c.args.arena.now.bytes) ≡ o) c.self.view_is

@@ -15,7 +15,6 @@ returns-then-target-self c =
       link = grind (arith, above_all);
     }
 
--- the gap that the position is in
 found : (c : Else-target-self) → (low : InGap c.args.self.now c.args.arena.now.bytes c.args.target c.args.n)
     × Around c.args.self.now c.args.arena.now.bytes low.gap.gap
 found c = elim (place_cases c.requires.gaps.chunks c.requires.some c.requires.place)

@@ -19,7 +19,6 @@ returns-then-end-self-clause-left c =
 pub returns-then-from-end-clause-left : goal.returns-then-from-end-clause-left
 returns-then-from-end-clause-left c = grind arith
 
--- they are as long as a gap
 long : (c : Else-from-end) → LeavesGap c.args.self.now.header c.args.from c.args.end × (16 ≤ c.args.end - c.args.from)
 long c = grind (arith, lengths c.args.self.now)
 

@@ -15,7 +15,7 @@ next_word-below-requires-clause-inside c =
 pub next_word-below-requires-clause-free : goal.next_word-below-requires-clause-free
 next_word-below-requires-clause-free c = ap is_a_name (walk_step c.loop-next.invariant.0 c.loop-next-test.true c.ranges.at.fits).free
 
--- the state of the walk after the first gap of a turn
+-- the walk after the first gap of a turn
 walked : (c : After-next_word-below)
     → Walked c.args.self.now c.args.arena.now.bytes c.args.at (place_in_link c.loop-next.next) (place_in_link c.next_word-below.result)
 walked c = walk_more c.loop-next.invariant.0 c.loop-next-test.true c.ranges.at.fits c.next_word-below.ensures.link

@@ -23,7 +23,6 @@ give_bytes-requires-clause-apart c =
       | inr high ↦ inr (omega (arith, high, r.enough, r.rest))
     ])
 
--- it was laid there
 laid : (c : After-lay-first)
     → Put c.args.self.now c.lay-first.new.self c.args.arena.now.bytes c.give_bytes.new.arena.bytes c.lay-first.new.arena.bytes c.args.target
     c.args.name c.args.n (gap_count (c.free_end-end.result.at - c.args.target.at))

@@ -2,14 +2,13 @@ use Rattle.heap_core.proofs.Lemmas.{◌+◌, refl, arith, filter, chunks_of, sto
 use Rattle.heap_core.proofs.region.Region.resize.Goals as goal
 use Rattle.heap_core.proofs.region.Region.resize.Goals.{After-gap_behind-gap, After-lay-first}
 
--- the bytes that the block has once it is resized
+-- the bytes of the resized block
 room : (c : After-gap_behind-gap)
     → Room c.args.self.now c.args.arena.now.bytes (at_place c.args.chunk.at c.args.room)
     (c.args.chunk.at + c.args.chunk.len + c.gap_behind-gap.result) c.args.n (gap_count c.gap_behind-gap.result)
     (filter (elsewhere c.args.chunk.at) (store_of c.args.self.now c.args.arena.now.bytes).blocks)
 room c = own_room c.requires.divided.chunks c.requires.owned c.gap_behind-gap.ensures c.requires.some c.requires.room
 
--- it was laid there
 laid : (c : After-lay-first)
     → Put c.args.self.now c.lay-first.new.self c.args.arena.now.bytes c.clear.new.arena.bytes c.lay-first.new.arena.bytes
     (at_place c.args.chunk.at c.args.room) c.args.name c.args.n (gap_count c.gap_behind-gap.result)
@@ -25,7 +24,6 @@ pub overflow_add-self : goal.overflow_add-self
 overflow_add-self c =
     omega (arith, (own_room c.requires.divided.chunks c.requires.owned refl c.requires.some c.requires.room).inside, c.args.self.now.small)
 
--- the room stays
 pub refill-requires-clause-fits : goal.refill-requires-clause-fits
 refill-requires-clause-fits c =
     omega (arith, (own_room c.requires.divided.chunks c.requires.owned refl c.requires.some c.requires.room).enough, c.if-self-room.true)

@@ -2,7 +2,6 @@ use Rattle.memb_core.proofs.Lemmas.{arith, length, ◌≡◌, Some, slice_get, s
 use Rattle.memb_core.proofs.lists.Lists.numbers.Goals as goal
 use Rattle.memb_core.proofs.lists.Lists.numbers.Goals.{In-Some}
 
--- the position of the block
 at : (c : In-Some)
     → slice_get (list_of c.args.name c.args.self.now c.args.pool.now c.args.arena.now.bytes) (length c.loop-link.numbers.items)
     ≡ Some c.in-Some.b

@@ -8,7 +8,6 @@ returns-in_default-clause-list c =
     grind arith in
     grind (arith, without_none, no_place)
 
--- the position of the block
 at : (c : In-Some) → slice_get (list_of c.args.name c.args.self.now c.args.pool.now c.args.arena.now.bytes) c.in-Some.place ≡ Some c.args.b
 at c = found c.args.b c.in-Some.place (list_of c.args.name c.args.self.now c.args.pool.now c.args.arena.now.bytes)
     (c.in-Some.ensures ∙ ap (position (λ other. eqb other c.args.b)) (c.deref.ensures.0 ∙ c.numbers-numbers.ensures))
@@ -23,7 +22,6 @@ link-next-requires c =
           (list_of c.args.name c.args.self.now c.args.pool.now c.args.arena.now.bytes) (at (goal.at.link-next-requires c).In-Some),
     )
 
--- the position of the one before it
 prev : (c : After-deref-else-place-eq0)
     → slice_get (list_of c.args.name c.args.self.now c.args.pool.now c.args.arena.now.bytes) c.in-Some.place ≡ Some c.args.b
     → slice_get (list_of c.args.name c.args.self.now c.args.pool.now c.args.arena.now.bytes) (c.in-Some.place - 1)

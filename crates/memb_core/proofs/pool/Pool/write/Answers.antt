@@ -6,7 +6,6 @@ pub usable_span-block-requires : goal.usable_span-block-requires
 usable_span-block-requires c = used_below c.args.self.now.used c.args.b
     (used_if_room c.args.self.now c.args.arena.now.bytes c.args.b (c.args.at + length c.args.bytes.now) c.requires.range)
 
--- the bytes fit the block
 fit : (c : After-usable_span-block)
     → (is_used c.args.b c.args.self.now ≡ true) × (c.args.at + length c.args.bytes.now ≤ c.args.self.now.usable)
 fit c = room_of c.args.self.now c.usable_span-block.ensures.fills c.args.arena.now.bytes c.requires.within c.args.b

@@ -9,7 +9,7 @@ use Rattle.mote.proofs.runner.BoxingRunnerBundled.run_words.OwnLists.{own-1}
 use Rattle.mote_apps.specs.Bundled.{bundled_says}
 use Rattle.mote_apps.specs.declared.bundled.Bundled.{Bundled}
 
--- what is said by a box that was made of this application
+-- what a box of this application says
 told_as : (at i : own-1.I) (y : (own-1.entry i).0.Denot) (x : (own-1.entry at).0.Denot)
     → Made (λ j. (own-1.entry j).0.coded.code) (own-1.entry at).0.coded.code at i y x → (own-1.entry i).1.says y ≡ (own-1.entry at).1.says x
 told_as at i y x made = read_made own-1 (own-1.entry at) at refl Says (λ object value. object.1.says value) i y x made

@@ -3,7 +3,7 @@ use Rattle.mote.proofs.runner.BoxingRunnerBundled.run_words.Given as goal
 use Rattle.mote.proofs.runner.BoxingRunnerBundled.run_words.OwnLists.{own-1}
 use Rattle.mote_apps.specs.Bundled.{bundled_says}
 
--- a box for each application so far, which says what that one says, and the others follow
+-- a box for each application so far, which says the same, and the others follow
 abbrev pub invariant-loop-application : goal.invariant-loop-application
 invariant-loop-application g l =
     AreBoxed (λ b. (own-1.entry b.vtable).1.says b.value) bundled_says l.boxes.items l.yielded l.application-iterator

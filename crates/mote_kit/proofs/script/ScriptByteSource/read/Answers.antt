@@ -3,7 +3,7 @@ use Rattle.std.proofs.Math.Seq.{take-add, take-append_seam}
 use Rattle.std.proofs.lemmas.List.{length-take-le, length-drop, take_all}
 use Rattle.mote_kit.proofs.script.ScriptByteSource.read.Goals as goal
 
--- what was written over the front of a buffer is its front
+-- a prefix written over a buffer is its prefix
 front_read : (size : ℕ) (text front rest : List ℕ) → front ≡ take size text → size ≤ length text →
     take size (front ++ rest) ≡ take size text
 front_read size text front rest same few =

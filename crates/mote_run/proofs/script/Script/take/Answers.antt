@@ -1,5 +1,5 @@
 use Rattle.std.proofs.Common.{arith}
-use Rattle.mote_run.proofs.Common.{length-drop, length-take, nat_tests}
+use Rattle.mote_run.proofs.Common.{length-drop, length-take}
 use Rattle.mote_run.proofs.GivenBytes.{part_can_be_fed}
 use Rattle.mote_run.proofs.ReadOn.{endless_after, takes}
 use Rattle.mote_run.proofs.script.Script.take.Goals as goal
@@ -11,7 +11,7 @@ pub returns-clause-input : goal.returns-clause-input
 returns-clause-input c = part_can_be_fed c.take-used.result.1 c.take-used.ensures.says
 
 pub returns-clause-ready : goal.returns-clause-ready
-returns-clause-ready c = grind (arith, nat_tests, endless_after, length-take)
+returns-clause-ready c = grind (arith, endless_after, length-take)
 
 pub returns-clause-some : goal.returns-clause-some
 returns-clause-some c = grind arith

@@ -5,9 +5,7 @@ use Rattle.mote_text.proofs.hex_digits.DigitPairs.new.Goals as goal
 
 pub invariant_of-result : goal.invariant_of-result
 invariant_of-result c =
-    let bytes = c.every_byte.result in
     record {
       pairs = λ byte below.
-          let at = encode_with-at lower_digits bytes byte (omega (arith, c.every_byte.auto, c.every_byte.type_inv)) in
-          grind arith;
+          grind (arith, encode_with-at lower_digits c.every_byte.result byte (omega (arith, c.every_byte.auto, c.every_byte.type_inv)));
     }

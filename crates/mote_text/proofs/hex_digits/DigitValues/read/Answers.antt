@@ -1,7 +1,7 @@
 use Rattle.std.proofs.Common.{◌*◌, ◌+◌, ℕ, List, slice_index, arith}
 use Rattle.std.specs.Result.{result_ok}
 use Rattle.hex.proofs.Pairs.{decode_sized-pairs}
-use Rattle.mote_text.proofs.Common.{cases_lt, le-ltb, lt-ltb}
+use Rattle.mote_text.proofs.Common.{cases_lt, le-ltb}
 use Rattle.mote_text.proofs.HexPairs.{read_all, read_more}
 use Rattle.mote_text.proofs.hex_digits.DigitValues.read.Goals as goal
 
@@ -14,4 +14,4 @@ bytes-preserved c =
     (c.args.self.now.right (slice_index digits (2 * i + 1)) (omega (arith, c.type_inv.digits (2 * i + 1)))) c.bytes.invariant
 
 pub returns : goal.returns
-returns c = grind (arith, result_ok, decode_sized-pairs, cases_lt, read_all, lt-ltb, le-ltb)
+returns c = grind (arith, result_ok, decode_sized-pairs, cases_lt, read_all, le-ltb)

@@ -5,7 +5,8 @@ use Rattle.mote_text.proofs.SmallNumbers.{narrow}
 use Rattle.mote_text.proofs.page.Page.put_small_number.Goals as goal
 
 pub put_block-requires-clause-few : goal.put_block-requires-clause-few
-put_block-requires-clause-few c = omega (arith, narrow c.args.n (omega arith), (c.small_numbers-numbers.ensures.numbers c.args.n (omega arith)).1)
+put_block-requires-clause-few c =
+    omega (arith, narrow c.args.n (omega arith), (c.small_numbers-numbers.ensures.numbers c.args.n (omega arith)).1)
 
 pub returns : goal.returns
 returns c =
@@ -15,7 +16,7 @@ returns c =
       text =
           c.put_block.ensures.text
           ∙ ap (λ text. take c.args.at c.args.self.now.bytes ++ text) (
-          grind (arith, few, number.1, take-take) ∙ number.0 ∙ sym (blanked_one (decimal c.args.n))
+          grind (arith, number.1, take-take) ∙ number.0 ∙ sym (blanked_one (decimal c.args.n))
           );
-      few = omega (arith, c.put_block.ensures.few, few, number.1);
+      few = omega (arith, c.put_block.ensures.few, number.1);
     }

@@ -1,10 +1,8 @@
-use Rattle.std.proofs.Common.{◌≡◌, Some, codes, rules}
-use Rattle.mote_text.proofs.Common.{argument_of}
+use Rattle.std.proofs.Common.{rules}
 use Rattle.mote_text.proofs.Ticks.{tick_at}
 use Rattle.mote_text.proofs.script_lines.Lines.whole_tick.Goals as goal
 
 pub returns-clause-tick : goal.returns-clause-tick
 returns-clause-tick c =
-    let begins : argument_of (codes "tick ") c.args.piece.now ≡ Some c.in_ok-text.text.now = search rules in
-    tick_at _ _ c.in_ok-digits.digits c.in_ok-digits.number c.put_tick.ensures begins c.in_ok-digits.ensures.short
+    tick_at _ _ c.in_ok-digits.digits c.in_ok-digits.number c.put_tick.ensures (search rules) c.in_ok-digits.ensures.short
     c.in_ok-digits.ensures.ended c.in_ok-digits.ensures.number

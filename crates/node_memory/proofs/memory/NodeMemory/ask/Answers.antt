@@ -1,12 +1,11 @@
 use Rattle.node_memory.proofs.Others.{leaves-asked}
-use Rattle.std.proofs.Common.{rules}
 use Rattle.node_memory.proofs.memory.NodeMemory.ask.Goals as goal
 
 pub returns-in-Some-Managed-clause-others : goal.returns-in-Some-Managed-clause-others
-returns-in-Some-Managed-clause-others c = search (rules, leaves-asked)
+returns-in-Some-Managed-clause-others c = search leaves-asked
 
 pub returns-in-Some-Heap-clause-others : goal.returns-in-Some-Heap-clause-others
-returns-in-Some-Heap-clause-others c = search (rules, leaves-asked)
+returns-in-Some-Heap-clause-others c = search leaves-asked
 
 pub returns-in-Some-Pool-clause-others : goal.returns-in-Some-Pool-clause-others
 returns-in-Some-Pool-clause-others c =

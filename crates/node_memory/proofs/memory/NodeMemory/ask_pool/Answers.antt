@@ -1,8 +1,7 @@
 use Rattle.node_memory.proofs.LaidOut.{after-pool, asked-pool, refused-pool, pool-at}
-use Rattle.node_memory.proofs.Others.{refused-then}
 use Rattle.node_memory.specs.Code.Layout.{end_of}
 use Rattle.node_memory.specs.Code.Placed.{PlacedMemory}
-use Rattle.std.proofs.Common.{arith, length, ◌<◌, ap, ◌∙◌, sym}
+use Rattle.std.proofs.Common.{arith, ap, ◌∙◌, sym}
 use Rattle.std.proofs.lemmas.Option.{slice_get-get_or}
 use Rattle.node_memory.specs.Code.Ask.{ask}
 use Rattle.node_memory.specs.Code.ListCalls.{pool_in_part}
@@ -15,15 +14,15 @@ ask-requires-clause-linked c =
 
 pub invariant_of-self : goal.invariant_of-self
 invariant_of-self c =
-    let below : c.args.pool < length c.self.inside.pools = omega (arith, c.self.invariant.count, c.if-pool-ge-POOLS.false) in
-    (after-pool c.args.pool c.index-self-pool.result c.ask.new.self below c.self.invariant c.ask.ensures.rest c.ask.ensures.linked).0
+    (after-pool c.args.pool c.index-self-pool.result c.ask.new.self
+    (omega (arith, c.if-pool-ge-POOLS.false)) c.self.invariant c.ask.ensures.rest c.ask.ensures.linked).0
 
 pub returns-clause-asked : goal.returns-clause-asked
 returns-clause-asked c =
-    let below : c.args.pool < length c.self.inside.pools = omega (arith, c.self.invariant.count, c.if-pool-ge-POOLS.false) in
     λ p. ap (λ (v : PlacedMemory). ask c.args.call.now p v.contents) (sym c.self.view_is)
-    ∙ asked-pool c.args.pool c.index-self-pool.result c.ask.new.self below c.self.invariant c.ask.ensures.rest c.ask.ensures.linked
+    ∙ asked-pool c.args.pool c.index-self-pool.result c.ask.new.self
+    (omega (arith, c.if-pool-ge-POOLS.false)) c.self.invariant c.ask.ensures.rest c.ask.ensures.linked
     c.args.call.now c.ask.result p (grind arith) (ap pool_in_part c.requires.part) c.ask.ensures.asked
 
 pub returns-clause-refused : goal.returns-clause-refused
-returns-clause-refused c = grind (arith, refused-then, refused-pool)
+returns-clause-refused c = grind (arith, refused-pool)

@@ -2,21 +2,18 @@ use Rattle.mote_types.specs.Bytes.{zeros}
 use Rattle.node_memory.proofs.HeapBlocks.{asked-found, asked-no-room}
 use Rattle.node_memory.proofs.LaidOut.{heap-shown}
 use Rattle.node_memory.proofs.Stays.{heap_leaves}
-use Rattle.node_memory.specs.BlockRefusals.{alloc_refusal}
-use Rattle.std.proofs.Common.{rules, arith, ap, sym, ◌∙◌, ◌≡◌, refl, None}
+use Rattle.std.proofs.Common.{rules, arith, ap, sym, ◌∙◌, ◌≡◌, refl}
 use Rattle.std.specs.Option.{option_map}
 use Rattle.heap_core.specs.Code.HeapBytes.{heap_of}
 use Rattle.mote_types.specs.BlockNames.{number_of}
 use Rattle.mote_types.specs.declared.call.Call.{Call}
-use Rattle.heap_core.specs.HeapStore.{block_of, with_block, block_at, allocated}
+use Rattle.heap_core.specs.HeapStore.{with_block, block_at, allocated}
 use Rattle.node_memory.proofs.memory.NodeMemory.heap_alloc.Goals as goal
 
 pub returns-then-is_none-clause-asked : goal.returns-then-is_none-clause-asked
 returns-then-is_none-clause-asked c =
     let same : heap_of c.self.inside.heap c.self.inside.arena.bytes ≡ c.args.self.now.contents.heap = grind arith in
-    let accepted : alloc_refusal c.args.block c.args.n (block_of c.args.pid.0 c.args.block c.args.self.now.contents.heap) ≡ None =
-    grind arith in
-    asked-no-room c.args.self.now.contents accepted (ap (allocated c.args.pid.0 c.args.block c.args.n) (sym same)
+    asked-no-room c.args.self.now.contents (grind arith) (ap (allocated c.args.pid.0 c.args.block c.args.n) (sym same)
     ∙ ap (option_map (λ spot. with_block (block_at spot (number_of c.args.pid.0 c.args.block) (zeros c.args.n)) (heap_of
     c.self.inside.heap c.self.inside.arena.bytes)))
     (c.alloc.ensures.refused.0 (search rules)))
@@ -35,7 +32,5 @@ returns-then-is_none-clause-refused c =
 pub returns-clause-asked : goal.returns-clause-asked
 returns-clause-asked c =
     let same : heap_of c.self.inside.heap c.self.inside.arena.bytes ≡ c.args.self.now.contents.heap = grind arith in
-    let accepted : alloc_refusal c.args.block c.args.n (block_of c.args.pid.0 c.args.block c.args.self.now.contents.heap) ≡ None =
-    grind arith in
-    asked-found c.args.self.now.contents accepted (ap (allocated c.args.pid.0 c.args.block c.args.n) (sym same) ∙ search rules)
+    asked-found c.args.self.now.contents (grind arith) (ap (allocated c.args.pid.0 c.args.block c.args.n) (sym same) ∙ search rules)
     (heap-shown c.self.invariant c.alloc.ensures.rest c.alloc.ensures.laid_out c.args.self.now _ c.self.view_is refl)

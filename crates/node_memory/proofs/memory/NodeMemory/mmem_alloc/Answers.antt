@@ -21,10 +21,10 @@ returns-clause-accepted c = (
 )
 
 pub returns-then-is_none-clause-refused : goal.returns-then-is_none-clause-refused
-returns-then-is_none-clause-refused c = let told = c.shortage.ensures c.self.inside.arena.bytes in grind arith
+returns-then-is_none-clause-refused c = grind (arith, c.shortage.ensures c.self.inside.arena.bytes)
 
 pub returns-clause-others : goal.returns-clause-others
 returns-clause-others c =
     rw (managed-shown c.self.invariant c.alloc.ensures.rest (allocated c.args.pid.0 c.args.handle c.args.n) (search rules)
     c.args.self.now c.self.view_is)
-    (leaves-block c.args.pid.0 c.args.handle _ c.args.self.now.contents c.requires.least (grind arith))
+    (grind (arith, leaves-block))

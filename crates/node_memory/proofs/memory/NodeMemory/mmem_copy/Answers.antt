@@ -19,4 +19,4 @@ returns-clause-others c =
     rw (managed-shown c.self.invariant c.copy.ensures.rest (copied c.args.pid.0 c.args.source c.args.pid.0 c.args.target)
     c.copy.ensures.block
     c.args.self.now c.self.view_is)
-    (leaves-block c.args.pid.0 c.args.target _ c.args.self.now.contents c.requires.least (grind arith))
+    (grind (arith, leaves-block))

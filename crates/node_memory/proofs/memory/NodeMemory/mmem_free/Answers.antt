@@ -18,4 +18,4 @@ pub returns-clause-others : goal.returns-clause-others
 returns-clause-others c =
     rw (managed-shown c.self.invariant c.free.ensures.rest (freed c.args.pid.0 c.args.handle) c.free.ensures.block
     c.args.self.now c.self.view_is)
-    (leaves-block c.args.pid.0 c.args.handle _ c.args.self.now.contents c.requires.least (grind arith))
+    (grind (arith, leaves-block))

@@ -19,4 +19,4 @@ returns-clause-others c =
     rw (managed-shown c.self.invariant c.write.ensures.rest (with_bytes c.args.pid.0 c.args.handle c.args.at c.args.bytes.now)
     c.write.ensures.block
     c.args.self.now c.self.view_is)
-    (leaves-block c.args.pid.0 c.args.handle _ c.args.self.now.contents c.requires.least (grind arith))
+    (grind (arith, leaves-block))

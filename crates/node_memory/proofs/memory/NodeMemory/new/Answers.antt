@@ -5,4 +5,4 @@ pub invariant_of-result : goal.invariant_of-result
 invariant_of-result c = grind arith
 
 pub returns-clause-fresh : goal.returns-clause-fresh
-returns-clause-fresh c = let none_managed = c.new-mmem.ensures.empty c.pools_over-pools.new.arena.bytes in grind arith
+returns-clause-fresh c = grind (arith, c.new-mmem.ensures.empty c.pools_over-pools.new.arena.bytes)

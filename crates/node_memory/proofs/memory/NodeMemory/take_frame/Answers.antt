@@ -1,6 +1,6 @@
 use Rattle.node_memory.proofs.LaidOut.{after-frame, frame-held, frame-shown}
 use Rattle.node_memory.proofs.Others.{leaves-frame}
-use Rattle.std.proofs.Common.{arith, rules, Some}
+use Rattle.std.proofs.Common.{arith, rules}
 use Rattle.node_memory.proofs.memory.NodeMemory.take_frame.Goals as goal
 
 pub invariant_of-self-2 : goal.invariant_of-self-2
@@ -24,7 +24,7 @@ pub returns-clause-others : goal.returns-clause-others
 returns-clause-others c =
     rw (frame-shown c.args.slot c.args.bytes.now c.self.invariant c.requires.slot c.alloc.ensures.rest (search rules)
     c.write.ensures.rest c.write.ensures.block c.args.self.now c.self.view_is)
-    (leaves-frame c.args.slot (Some c.args.bytes.now) c.args.self.now.contents (grind arith))
+    (grind (arith, leaves-frame))
 
 pub returns-then-is_none-clause-refused : goal.returns-then-is_none-clause-refused
-returns-then-is_none-clause-refused c = let told = c.shortage.ensures c.self.inside.arena.bytes in grind arith
+returns-then-is_none-clause-refused c = grind (arith, c.shortage.ensures c.self.inside.arena.bytes)

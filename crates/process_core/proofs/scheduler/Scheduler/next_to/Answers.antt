@@ -2,7 +2,7 @@ use Rattle.process_core.proofs.Lemmas.{Some, scheduler_of, ComesTo, FindsJob, jo
 use Rattle.process_core.proofs.scheduler.Scheduler.next_to.Goals as goal
 use Rattle.process_core.proofs.scheduler.Scheduler.next_to.Goals.{in-Some, in-None}
 
--- either the front led to the job, or the work after it
+-- the front or the work after it led to the job
 finds : (c : goal.After-each_is_once)
     → FindsJob (scheduler_of c.self.inside.fields) (Some c.match-take_front.ready) c.match-take_front.told
     c.match-take_front.self-inside.fields

@@ -3,7 +3,7 @@ use Rattle.template_averager.proofs.runner.BoxingRunnerAverager.run_words.Given 
 use Rattle.template_averager.proofs.runner.BoxingRunnerAverager.run_words.OwnLists.{own-1}
 use Rattle.template_averager.specs.contracts.averager.AveragerApp.TheImpl.{says-value}
 
--- a box for each application so far, which says what that one says, and the others follow
+-- a box for each application so far, which says the same, and the others follow
 abbrev pub invariant-loop-application : goal.invariant-loop-application
 invariant-loop-application g l =
     AreBoxed (λ b. (own-1.entry b.vtable).1.says b.value) says-value.it l.boxes.items l.yielded l.application-iterator

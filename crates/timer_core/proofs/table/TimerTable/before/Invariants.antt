@@ -1,7 +1,7 @@
 use Rattle.timer_core.proofs.Lemmas.{◌≡◌, false, List, Timer, is_timer, length, led_to, list_any, listed_from, Walked}
 use Rattle.timer_core.proofs.table.TimerTable.before.Given as goal
 
--- those that were passed are not the timer
+-- none of the passed timers is this one
 abbrev pub invariant-loop-link : goal.invariant-loop-link
 invariant-loop-link l =
     record {

@@ -1,7 +1,7 @@
 use Rattle.timer_core.proofs.Lemmas.{◌≡◌, ℕ, ◌<◌, false, List, Timer, is_due, length, led_to, list_any, listed_from, timers_of, Walked}
 use Rattle.timer_core.proofs.table.TimerTable.look.Given as goal
 
--- none of those that were passed is due, nor will be before the earliest deadline of them
+-- no passed timer is due, nor will be before the earliest of their deadlines
 abbrev pub invariant-loop-link : goal.invariant-loop-link
 invariant-loop-link l =
     record {

@@ -4,7 +4,7 @@ use Rattle.timer_core.specs.Code.Earliest.{earliest_with}
 use Rattle.timer_core.specs.Deadlines.{earliest_of, next_deadline}
 use Rattle.timer_core.proofs.table.TimerTable.next_deadline.Given as goal
 
--- what is known so far, with those ahead
+-- what is known so far, with the timers ahead
 abbrev pub invariant-loop-link : goal.invariant-loop-link
 invariant-loop-link l =
     record {

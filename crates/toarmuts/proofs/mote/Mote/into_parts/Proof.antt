@@ -1,4 +1,4 @@
--- `into_parts` gives the pointer its type again, where there is one. Assumes `Logic`.
+-- `into_parts` gives the pointer its type again, if there is one. Assumes `Logic`.
 use Rattle.core.proofs.alloc.Calls.{Goes-blank, handle_tells}
 use Rattle.core.proofs.alloc.Shapes.{after}
 use Rattle.core.proofs.atomic.Steps.{Ptr-Good}

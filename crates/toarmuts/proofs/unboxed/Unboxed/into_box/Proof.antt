@@ -1,4 +1,4 @@
--- `into_box` hands the pointer, and what is owned there, to `from_raw`. Assumes `Logic`.
+-- `into_box` passes the pointer, and what is owned there, to `from_raw`. Assumes `Logic`.
 use Rattle.core.proofs.alloc.Calls.{Goes-blank}
 use Rattle.core.proofs.alloc.Shapes.{after}
 use Rattle.core.proofs.atomic.Steps.{fm}
