@@ -26,7 +26,6 @@ open_refusal p m =
 abbrev pub front_bytes : Machine → Bytes
 front_bytes m = option_map_or (λ slot. bytes_of packet_process slot m.memory.managed) (front_slot m.packets) []
 
--- only the receiver may read the front frame and release it
 abbrev pub front_refusal : ProcessNumber → Machine → Option Refusal
 front_refusal p m =
     if not (is_receiver m.packets p) then Some Refusal.NotReceiver

@@ -1,12 +1,12 @@
 -- Process 2 (serial line), which broadcasts the lines that arrived.
-use Rattle.std.specs.Prelude.{ℕ, suc, true, false, Option, Some, None, if◌then◌else◌, ◌==◌, filter, length}
+use Rattle.std.specs.Prelude.{suc, true, false, Option, Some, None, if◌then◌else◌, ◌==◌, filter, length}
 use Rattle.mote_types.specs.Kinds.{Bytes}
 use Rattle.mote_types.specs.Limits.{serial_line_process}
 use Rattle.mote_types.specs.declared.event.Event.{Event}
 use Rattle.mote_types.specs.declared.event.Payload.{Payload}
 use Rattle.mote_types.specs.EventNumbers.{POLL, CONTINUE, SERIAL_LINE}
 use Rattle.mote_types.specs.Codes.{plain_event}
-use Rattle.device_core.specs.SerialLine.{SerialLine, is_line_end, line_of, next_line, after_line}
+use Rattle.device_core.specs.SerialLine.{is_line_end, line_of, next_line, after_line}
 use Rattle.process_core.specs.Agenda.{Queued}
 use Rattle.process_core.specs.Scheduler.{has_room}
 use Rattle.kernel_core.specs.Machine.{Machine, with_serial, with_event}

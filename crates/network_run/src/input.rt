@@ -7,8 +7,8 @@ ghost use Rattle.network_text.specs.NetworkRuns.{IsResting};
 ghost use Rattle.network_text.specs.NetworkScript.{is_for_some};
 ghost use Rattle.network_text.specs.declared.input.NetworkInput.{NetworkInput};
 
-use crate::due_text::DueText;
 use crate::fault::RunFault;
+use crate::pending_text::PendingText;
 use crate::settle::run_to_rest;
 use mote_session::caller::Caller;
 use mote_types::device::ByteSink;
@@ -40,7 +40,7 @@ fn is_behind(network: &Network, mote: usize) -> bool
 /// Lets the clock go on. Returns whether the network rests after that; otherwise the input has used up its rounds.
 fn pass_time<K: ByteSink, H: Caller>(
     sink: &mut K,
-    text: &mut DueText,
+    text: &mut PendingText,
     caller: &mut H,
     network: &mut Network,
     ticks: u32,
@@ -63,7 +63,7 @@ fn pass_time<K: ByteSink, H: Caller>(
 /// Gives the time to a mote whose clock is behind, and lets it work.
 fn catch_up<K: ByteSink, H: Caller>(
     sink: &mut K,
-    text: &mut DueText,
+    text: &mut PendingText,
     caller: &mut H,
     network: &mut Network,
     mote: usize,
@@ -98,7 +98,7 @@ fn catch_up<K: ByteSink, H: Caller>(
 /// Submits an input to a mote that isn't behind. A halted mote misses it.
 fn feed<K: ByteSink, H: Caller>(
     sink: &mut K,
-    text: &mut DueText,
+    text: &mut PendingText,
     caller: &mut H,
     network: &mut Network,
     mote: usize,
@@ -126,7 +126,7 @@ fn feed<K: ByteSink, H: Caller>(
 /// Carries out an input, if there is the mote that it is for. Returns whether the network rests after that.
 pub(crate) fn take_input<K: ByteSink, H: Caller>(
     sink: &mut K,
-    text: &mut DueText,
+    text: &mut PendingText,
     caller: &mut H,
     network: &mut Network,
     input: NetworkInput,

@@ -1,9 +1,9 @@
 //! The run of a network: the lines of its script in, its transcript out.
 #![tactic(auto)]
 
-mod due_text;
 pub mod fault;
 mod input;
+mod pending_text;
 pub mod run;
 pub mod script;
 mod settle;

@@ -8,9 +8,9 @@ ghost use Rattle.network_session.specs.Network.{NetworkView};
 ghost use Rattle.network_text.specs.NetworkRuns.{IsResting};
 ghost use Rattle.network_text.specs.NetworkScript.{read_network_line, read_network_lines, with_network_line};
 
-use crate::due_text::DueText;
 use crate::fault::RunFault;
 use crate::input::take_input;
+use crate::pending_text::PendingText;
 use crate::script::{Line, first_line, read_line};
 use crate::settle::run_to_rest;
 pub use mote_session::caller::Caller;
@@ -22,7 +22,7 @@ use network_text::laws::texts_go_on;
 /// Carries out a line, which has this number. Returns how the run ends, if it ends here.
 fn take_line<K: ByteSink, H: Caller>(
     sink: &mut K,
-    text: &mut DueText,
+    text: &mut PendingText,
     caller: &mut H,
     network: &mut Network,
     line: &[u8],
@@ -55,7 +55,7 @@ fn take_line<K: ByteSink, H: Caller>(
 /// Carries out the lines of a script, the first of which has the number `first`. Returns how the run ends.
 fn take_lines<K: ByteSink, H: Caller>(
     sink: &mut K,
-    text: &mut DueText,
+    text: &mut PendingText,
     caller: &mut H,
     network: &mut Network,
     script: &[u8],
@@ -86,7 +86,7 @@ fn take_lines<K: ByteSink, H: Caller>(
 /// Starts the motes, and executes the lines of a script. Returns how the run ends.
 fn carry_out<K: ByteSink, H: Caller>(
     sink: &mut K,
-    text: &mut DueText,
+    text: &mut PendingText,
     caller: &mut H,
     network: &mut Network,
     script: &[u8],
@@ -108,7 +108,7 @@ fn carry_out<K: ByteSink, H: Caller>(
 }
 
 /// Writes all pending output, and the last line of a run with this end.
-fn close<K: ByteSink>(sink: &mut K, text: &mut DueText, end: End) -> Result<End, RunFault>
+fn close<K: ByteSink>(sink: &mut K, text: &mut PendingText, end: End) -> Result<End, RunFault>
     requires countable { K.failure_count sink.old < 2 ^ 64 - 1 }
     ensures ran { K.is_named →
         (quiet : Bool) (script : Reading) (start net : NetworkView) (voices later : Voices) (given : List ℕ) →
@@ -134,7 +134,7 @@ fn is_write(fault: RunFault) -> bool
 }
 
 /// Writes all pending output after a fault, unless writing failed.
-fn fail<K: ByteSink>(sink: &mut K, text: &mut DueText, fault: RunFault) -> Result<End, RunFault>
+fn fail<K: ByteSink>(sink: &mut K, text: &mut PendingText, fault: RunFault) -> Result<End, RunFault>
     requires countable { is_write fault ≡ false → K.failure_count sink.old < 2 ^ 64 - 1 }
     ensures ran { K.is_named →
         (quiet : Bool) (script : Reading) (start net : NetworkView) (voices later : Voices) (given : List ℕ) →
@@ -175,7 +175,7 @@ pub fn run_network<K: ByteSink, H: Caller>(
         (read_network_lines (length network.motes) first (script_lines script.now)) written result) }
 {
     let mut network = network;
-    let mut text = DueText::new();
+    let mut text = PendingText::new();
     match carry_out(sink, &mut text, caller, &mut network, script, first, quiet) {
         Ok(end) => close(sink, &mut text, end),
         Err(fault) => fail(sink, &mut text, fault),

@@ -9,8 +9,8 @@ ghost use Rattle.network_run.specs.Code.Steps.{DidDueStep, rests_after};
 ghost use Rattle.network_session.specs.Network.{NetworkView};
 ghost use Rattle.network_run.specs.Code.Way.{CountsFaults, Goes, RestsIf, place};
 
-use crate::due_text::DueText;
 use crate::fault::RunFault;
+use crate::pending_text::PendingText;
 use crate::steps::{put_entry, put_step};
 use mote_session::caller::Caller;
 use mote_session::session::Worked;
@@ -21,7 +21,7 @@ use network_session::outcome::Outcome;
 /// Puts the lines of what the mote at work did, which left the network so.
 fn put_work<K: ByteSink>(
     sink: &mut K,
-    text: &mut DueText,
+    text: &mut PendingText,
     network: &Network,
     worked: Worked,
     mote: usize,
@@ -47,7 +47,7 @@ fn put_work<K: ByteSink>(
 /// Lets the mote that is at work make an entry, with the call of a turn, or come to rest; and puts the entry's lines.
 fn work_once<K: ByteSink, H: Caller>(
     sink: &mut K,
-    text: &mut DueText,
+    text: &mut PendingText,
     caller: &mut H,
     network: &mut Network,
     mote: usize,
@@ -70,7 +70,7 @@ fn work_once<K: ByteSink, H: Caller>(
 /// Lets the mote that is at work come to rest.
 fn settle<K: ByteSink, H: Caller>(
     sink: &mut K,
-    text: &mut DueText,
+    text: &mut PendingText,
     caller: &mut H,
     network: &mut Network,
     quiet: bool,
@@ -92,7 +92,7 @@ fn settle<K: ByteSink, H: Caller>(
 /// Puts the lines of a step of the network itself, which left the network in this state.
 fn finish_step<K: ByteSink>(
     sink: &mut K,
-    text: &mut DueText,
+    text: &mut PendingText,
     network: &Network,
     outcome: Outcome,
     quiet: bool,
@@ -109,7 +109,7 @@ fn finish_step<K: ByteSink>(
 /// Does the next pending step, when no mote is at work, and puts its lines.
 fn take_step<K: ByteSink>(
     sink: &mut K,
-    text: &mut DueText,
+    text: &mut PendingText,
     network: &mut Network,
     quiet: bool,
 ) -> Result<Outcome, RunFault>
@@ -144,7 +144,7 @@ fn rests_after(outcome: Outcome) -> Option<bool>
 /// Works until nothing is left to do, or the input has used up its rounds. Returns whether nothing is left to do.
 pub(crate) fn run_to_rest<K: ByteSink, H: Caller>(
     sink: &mut K,
-    text: &mut DueText,
+    text: &mut PendingText,
     caller: &mut H,
     network: &mut Network,
     quiet: bool,

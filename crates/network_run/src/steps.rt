@@ -6,8 +6,8 @@ ghost use Rattle.network_run.specs.Code.StepText.{entry_text, step_text};
 ghost use Rattle.network_run.specs.Code.Writing.{CountsFailure, Puts};
 ghost use Rattle.network_text.specs.NetworkText.{fate_lines, if_shown, sent_lines};
 
-use crate::due_text::DueText;
 use crate::fault::RunFault;
+use crate::pending_text::PendingText;
 use medium_core::link::Link;
 use mote_session::session::Session;
 use mote_types::device::ByteSink;
@@ -17,7 +17,7 @@ use network_session::outcome::Outcome;
 /// Puts a line for each link that didn't carry the frame that was sent last.
 fn put_fates<K: ByteSink>(
     sink: &mut K,
-    text: &mut DueText,
+    text: &mut PendingText,
     from: usize,
     links: &[Link],
 ) -> Result<(), RunFault>
@@ -35,7 +35,7 @@ fn put_fates<K: ByteSink>(
 /// Puts what became of the frame that a mote's last entry sent, if it sent one.
 fn put_losses<K: ByteSink>(
     sink: &mut K,
-    text: &mut DueText,
+    text: &mut PendingText,
     network: &Network,
     mote: usize,
     session: &Session,
@@ -60,7 +60,7 @@ fn put_losses<K: ByteSink>(
 #[inline(always)]
 pub(crate) fn put_entry<K: ByteSink>(
     sink: &mut K,
-    text: &mut DueText,
+    text: &mut PendingText,
     network: &Network,
     mote: usize,
     quiet: bool,
@@ -82,7 +82,7 @@ pub(crate) fn put_entry<K: ByteSink>(
 /// Puts the lines of a step of the network itself, when no mote was at work, which left it in this state.
 pub(crate) fn put_step<K: ByteSink>(
     sink: &mut K,
-    text: &mut DueText,
+    text: &mut PendingText,
     network: &Network,
     outcome: Outcome,
     quiet: bool,

@@ -67,7 +67,7 @@ fn work_in(motes: &mut Vec<Session>, m: usize) -> Result<Next, NetworkFault>
     }
 }
 
-/// Hands an input to one mote.
+/// Passes an input to one mote.
 fn hand_in(motes: &mut Vec<Session>, m: usize, input: Input) -> Result<(), NetworkFault>
     requires { m < length motes.old.items }
     ensures handed { IfOk result (λ _. HandedIn m input motes.old.items motes.new.items) }
@@ -505,7 +505,7 @@ impl Network {
         self.hand_over(m, input)
     }
 
-    /// Hands an input from outside to a mote that has got the time.
+    /// Passes an input from outside to a mote that has got the time.
     fn hand_over(&mut self, m: usize, input: Input) -> Result<(), NetworkFault>
         requires closed { self.old.active ≡ None }
         requires within { m < length self.old.motes }

@@ -16,7 +16,6 @@ use Rattle.node_memory.specs.Answered.{Asked, unless_refused, done, bytes_read}
 abbrev pub free_refusal : BlockNumber → PoolWithLists → Option Refusal
 free_refusal b s = option_or (block.live_refusal b (block_of b s.pool)) (if is_linked b s then Some Refusal.Linked else None)
 
--- a block that enters a list must be live, and not in the other list
 abbrev pub link_refusal : ListName → BlockNumber → PoolWithLists → Option Refusal
 link_refusal name b s =
     option_or (block.live_refusal b (block_of b s.pool))

@@ -11,7 +11,10 @@ is_region_size least size = nat_le least size && nat_le size region_limit && siz
 abbrev pub is_quota : ℕ → ℕ → ℕ → Bool
 is_quota mmem applications quota = is_region_size 4 quota && nat_le (quota * (applications + 1)) mmem
 
+abbrev pub is_header : ℕ → Bool
+is_header header = header == 16 || header == 8
+
 abbrev pub are_sizes : Sizes → ℕ → Bool
 are_sizes sizes applications =
-    is_region_size 4 sizes.mmem && is_region_size 20 sizes.heap && (sizes.header == 16 || sizes.header == 8)
+    is_region_size 4 sizes.mmem && is_region_size 20 sizes.heap && is_header sizes.header
     && option_map_or (is_quota sizes.mmem applications) sizes.quota true

@@ -1,10 +1,10 @@
 -- Why there was no run: the reasons, where they apply, and the numbers that C gets.
-use Rattle.std.specs.Prelude.{◌≡◌, ◌≢◌, ◌+◌, ◌⊎◌, ◌*◌, ◌==◌, ◌||◌, ℕ, List, [], ◌++◌, length, codes, flat_map, not, nat_lt, if◌then◌else◌, Option, Some, None}
+use Rattle.std.specs.Prelude.{◌≡◌, ◌≢◌, ◌+◌, ◌⊎◌, ◌*◌, ℕ, List, [], ◌++◌, length, codes, flat_map, not, nat_lt, if◌then◌else◌, Option, Some, None}
 use Rattle.std.specs.List.{All}
 use Rattle.call_lists.specs.Applications.{IsListed}
 use Rattle.call_lists.specs.Faults.{IsNoList, IsNoName}
 use Rattle.call_lists.specs.declared.applications.Application.{Application}
-use Rattle.node_memory.specs.Sizes.{is_region_size}
+use Rattle.node_memory.specs.Sizes.{is_header, is_region_size}
 use Rattle.node_memory.specs.declared.sizes.Sizes.{Sizes}
 use Rattle.toarmuts.specs.declared.refusal.CallReason.{CallReason}
 use Rattle.toarmuts.specs.declared.refusal.LineReason.{LineReason}
@@ -25,7 +25,7 @@ abbrev pub size_reason : Sizes → ℕ → Option SizeReason
 size_reason sizes applications =
     if not (is_region_size 4 sizes.mmem) then Some SizeReason.Mmem
     else if not (is_region_size 20 sizes.heap) then Some SizeReason.Heap
-    else if not (sizes.header == 16 || sizes.header == 8) then Some SizeReason.Header
+    else if not (is_header sizes.header) then Some SizeReason.Header
     else quota_reason sizes.mmem applications sizes.quota
 
 -- applications

@@ -1,5 +1,5 @@
 use Rattle.network_run.proofs.Writing.{prefix_written, puts_lost}
-use Rattle.network_run.proofs.due_text.DueText.flush.Goals as goal
+use Rattle.network_run.proofs.pending_text.PendingText.flush.Goals as goal
 
 pub returns-in_err-write_all-clause-puts : goal.returns-in_err-write_all-clause-puts
 returns-in_err-write_all-clause-puts g c = λ named.

@@ -2,7 +2,7 @@ use Rattle.mote_session.specs.Code.Shown.{is_last_shown}
 use Rattle.network_text.specs.Code.StepLines.{last_entry_line}
 use Rattle.network_text.specs.NetworkText.{if_shown}
 use Rattle.network_run.proofs.Writing.{lost_then, puts_lost}
-use Rattle.network_run.proofs.due_text.DueText.put_entry.Goals as goal
+use Rattle.network_run.proofs.pending_text.PendingText.put_entry.Goals as goal
 
 pub returns-in_err-make_room-clause-puts : goal.returns-in_err-make_room-clause-puts
 returns-in_err-make_room-clause-puts g c = λ named.

@@ -1,7 +1,7 @@
 use Rattle.std.proofs.Common.{codes}
 use Rattle.network_text.specs.NetworkText.{frame_line}
 use Rattle.network_run.proofs.Writing.{lost_then, puts_lost}
-use Rattle.network_run.proofs.due_text.DueText.put_missed.Goals as goal
+use Rattle.network_run.proofs.pending_text.PendingText.put_missed.Goals as goal
 
 pub returns-in_err-make_room-clause-puts : goal.returns-in_err-make_room-clause-puts
 returns-in_err-make_room-clause-puts g c = λ named.

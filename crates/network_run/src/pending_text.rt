@@ -21,15 +21,15 @@ use network_text::lines::{
 
 /// Lines that were made and aren't written yet.
 #[derive(Drop)]
-pub(crate) struct DueText {
+pub(crate) struct PendingText {
     pub(crate) due: OutputBuffer,
 }
 
-impl DueText {
+impl PendingText {
     pub(crate) fn new() -> Self
         ensures { result.due.items ≡ [] }
     {
-        DueText {
+        PendingText {
             due: OutputBuffer::new(),
         }
     }

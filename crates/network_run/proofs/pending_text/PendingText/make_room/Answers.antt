@@ -1,5 +1,5 @@
 use Rattle.network_run.proofs.Writing.{puts_lost}
-use Rattle.network_run.proofs.due_text.DueText.make_room.Goals as goal
+use Rattle.network_run.proofs.pending_text.PendingText.make_room.Goals as goal
 
 pub returns-in_err-flush-clause-puts : goal.returns-in_err-flush-clause-puts
 returns-in_err-flush-clause-puts g c = λ named.

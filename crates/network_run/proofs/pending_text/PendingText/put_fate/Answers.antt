@@ -1,6 +1,6 @@
 use Rattle.network_text.specs.NetworkText.{fate_line}
 use Rattle.network_run.proofs.Writing.{lost_then, puts_lost}
-use Rattle.network_run.proofs.due_text.DueText.put_fate.Goals as goal
+use Rattle.network_run.proofs.pending_text.PendingText.put_fate.Goals as goal
 
 pub returns-in_err-make_room-clause-puts : goal.returns-in_err-make_room-clause-puts
 returns-in_err-make_room-clause-puts g c = λ named.
