@@ -5,7 +5,7 @@
 --     changes_only                            a write changes only its range
 --     take_past                               a prefix of two lists that reaches into the second
 use Rattle.std.proofs.Common.{◌≡◌, ℕ, ◌+◌, ◌-◌, ◌≤◌, ◌⊎◌, inl, inr, List, ◌++◌, length, take, slice_range, ap, arith, length-take, length-drop}
-use Rattle.std.proofs.lemmas.List.{drop_at, drop-drop, take-append-drop, take-take, take-append-le, take_at, append_assoc}
+use Rattle.std.proofs.lemmas.List.{drop_at, drop-drop, take-append-drop, take-take, take-append-le, take_at}
 use Rattle.std.proofs.lemmas.Slice.{between_is}
 use Rattle.std.proofs.Math.Seq.{take-append-add}
 use Rattle.arena_core.specs.Code.Written.{written}
@@ -23,11 +23,11 @@ range-range xs at n i j le within = grind (arith, between_is, take-take, drop-dr
 
 module _ (xs : List ℕ) (at : ℕ) (ws : List ℕ) (fits : at + length ws ≤ length xs) where
   pub range-written : slice_range (written xs at ws) at (at + length ws) ≡ ws
-  range-written = grind (arith, written_is, between_is, take_at, drop_at, length-take, append_assoc)
+  range-written = grind (arith, written_is, take_at, drop_at, length-take)
 
   pub range-written_apart : (from n : ℕ) → (from + n ≤ at) ⊎ (at + length ws ≤ from)
       → slice_range (written xs at ws) from (from + n) ≡ slice_range xs from (from + n)
-  range-written_apart from n (inl below) = grind (arith, written_is, between_is, take-append-le, length-take, take-take)
+  range-written_apart from n (inl below) = grind (arith, between_is, take-append-le, length-take, take-take)
   range-written_apart from n (inr above) = ap (take (from + n - from)) (drop-written xs at ws fits from above)
 
   pub changes_only : (low len : ℕ) → low ≤ at → at + length ws ≤ low + len → ChangesOnly low len xs (written xs at ws)

@@ -1,7 +1,6 @@
 -- Texts cut at their first blank, also with hex digits in lower case.
-use Rattle.std.proofs.Common.{◌≡◌, ◌∙◌, ◌≢◌, ◌<◌, ◌==◌, ◌&&◌, ℕ, suc, Bool, true, false, not, List, [], ◌∷◌, ◌++◌, length, get_or, drop, nat_le, refl, ap, ne_eqb, arith, eq-eqb, append-nil}
+use Rattle.std.proofs.Common.{◌≡◌, ◌∙◌, ◌≢◌, ◌<◌, ◌==◌, ◌&&◌, ℕ, suc, Bool, true, false, not, List, [], ◌∷◌, ◌++◌, length, get_or, drop, nat_le, refl, ap, ne_eqb, arith, append-nil}
 use Rattle.std.proofs.lemmas.Bool.{and_parts}
-use Rattle.std.proofs.lemmas.Bool.Decides.{nat_tests}
 use Rattle.std.proofs.lemmas.List.Sums.{AllPass-from_list_all}
 use Rattle.std.specs.Prelude.{⊤}
 use Rattle.std.specs.List.{list_all}
@@ -11,7 +10,7 @@ use Rattle.call_lists.specs.Calls.{hex_lowered}
 use Rattle.call_lists.specs.Code.Readings.{behind_first, first_word}
 
 pub differ : {a b : ℕ} {front back : List ℕ} → a ∷ front ≡ b ∷ back → (a == b) ≡ false → ⊥
-differ {a} {b} same other = let is = eq-eqb a b (ap (λ text. get_or text 0 0) same) in absurd (cc)
+differ {a} {b} same other = grind arith
 
 abbrev pub is_plain : ℕ → Bool
 is_plain c = not (c == 32) && not (c == 44)
@@ -34,22 +33,21 @@ pub cut_of_free : (word left : List ℕ) → ((i : ℕ) → i < length word → 
 cut_of_free [] [] free is = (refl, refl)
 cut_of_free [] (c ∷ left) free is = rw is (refl, refl)
 cut_of_free (c ∷ word) left free is =
-    let others = cut_of_free word left (λ i inside. free (suc i) (omega (arith, inside))) is in
-    let other : (c == 32) ≡ false = ne_eqb c 32 (free 0 (omega arith)) in
-    rw (other, others.0, others.1) (refl, refl)
+    let others = cut_of_free word left (λ i inside. free (suc i) (omega arith)) is in
+    rw (ne_eqb c 32 (free 0 (omega arith)), others.0, others.1) (refl, refl)
 
 pub whole_word : (word : List ℕ) → ((i : ℕ) → i < length word → get_or word i 0 ≢ 32) → (first_word word ≡ word) × (behind_first word ≡ [])
 whole_word word free = rw (append-nil word) at (cut_of_free word [] free tt)
 
 no_blank : (c : ℕ) → is_plain c ≡ true → (c == 32) ≡ false
-no_blank c is = grind (arith, nat_tests, is)
+no_blank c is = grind arith
 
 pub cut_of_plain : (word left : List ℕ) → IsPlain word → IsBehind left → (first_word (word ++ left) ≡ word)
     × (behind_first (word ++ left) ≡ left)
 cut_of_plain word left plain is = cut_of_free word left free is
   where
     free : (i : ℕ) → i < length word → get_or word i 0 ≢ 32
-    free i inside same = let here = AllPass-from_list_all is_plain word plain i 0 inside in grind (arith, nat_tests)
+    free i inside same = grind (arith, AllPass-from_list_all is_plain word plain i 0 inside)
 
 -- no hex letter, so unchanged in lower case
 abbrev pub is_kept : ℕ → Bool
@@ -68,19 +66,14 @@ module _ (c : ℕ) where
     tail_of : (text others : List ℕ) → hex_lowered (c ∷ text) ≡ d ∷ others → hex_lowered text ≡ others
     tail_of text others same = ap (drop 1) same
 
-    blank_lowered : lowered ≡ d → d ≡ 32 → c ≡ 32
-    blank_lowered same is = grind arith
-
     plain_lowered : lowered ≡ d → is_plain d ≡ true → is_plain c ≡ true
     plain_lowered same is = grind arith
 
     pub kept : lowered ≡ d → is_kept d ≡ true → c ≡ d
-    kept same is = grind (arith, nat_tests)
+    kept same is = grind arith
 
 pub behind_lowered : (text left : List ℕ) → IsBehind left → hex_lowered text ≡ left → IsBehind text
-behind_lowered [] left is same = tt
-behind_lowered (c ∷ text) [] is same = cc same
-behind_lowered (c ∷ text) (d ∷ left) is same = blank_lowered c d (head_of c d text left same) is
+behind_lowered text left is same = grind arith
 
 pub kept_lowered : (text word : List ℕ) → list_all is_kept word ≡ true → hex_lowered text ≡ word → text ≡ word
 kept_lowered [] word all same = same
@@ -94,13 +87,12 @@ pub lowered_cut : (text word left : List ℕ) → IsPlain word → IsBehind left
 lowered_cut [] [] left plain is same = (refl, same)
 lowered_cut [] (d ∷ word) left plain is same = cc same
 lowered_cut (c ∷ text) [] [] plain is same = cc same
-lowered_cut (c ∷ text) [] (d ∷ left) plain is same =
-    let blank : c ≡ 32 = blank_lowered c d (head_of c d text left same) is in
-    let here : (c == 32) ≡ true = rw blank refl in
-    rw here (refl, same)
+lowered_cut (c ∷ text) [] (d ∷ left) plain is same = grind arith
 lowered_cut (c ∷ text) (d ∷ word) left plain is same =
     let parts = and_parts (is_plain d) (list_all is_plain word) plain in
-    let head : lowered c ≡ d = head_of c d text (word ++ left) same in
+    let head = head_of c d text (word ++ left) same in
     let others = lowered_cut text word left parts.1 is (tail_of c d text (word ++ left) same) in
-    let here : (c == 32) ≡ false = no_blank c (plain_lowered c d head parts.0) in
-    rw here (ap (λ c. c ∷ hex_lowered (first_word text)) head ∙ ap (λ word. d ∷ word) others.0, others.1)
+    rw (no_blank c (plain_lowered c d head parts.0)) (
+      ap (λ c. c ∷ hex_lowered (first_word text)) head ∙ ap (λ word. d ∷ word) others.0,
+      others.1,
+    )

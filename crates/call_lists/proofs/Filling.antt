@@ -1,7 +1,7 @@
 -- A list that is filled with the calls of its parts, from the front.
 use Rattle.std.proofs.Common.{◌≡◌, ◌∙◌, ◌≤◌, ◌<◌, ◌+◌, ℕ, List, [], ◌∷◌, ◌++◌, sym, ap, subst, arith, length, drop, set}
 use Rattle.std.proofs.lemmas.Grind.{common_steps}
-use Rattle.std.proofs.lemmas.List.{append-nil, append_assoc, drop-drop, drop-set-lt, length-append, take_more_set, take-append-drop}
+use Rattle.std.proofs.lemmas.List.{append-nil, append_assoc, drop-drop, length-append, take-append-drop}
 use Rattle.mote_types.specs.declared.call.Call.{Call}
 use Rattle.std.proofs.lemmas.List.Elements.{All-drop}
 use Rattle.call_lists.specs.Calls.{AreCalls, AreWaits, IsCall, IsListOf}
@@ -11,13 +11,13 @@ pub none_put : (place : ℕ) (calls : List Call) → place ≤ length calls → 
 none_put place calls fits = grind (arith, append-nil)
 
 one_put : (end : ℕ) (calls : List Call) (call : Call) → end < length calls → ArePut (call ∷ []) end (end + 1) calls (set calls end call)
-one_put end calls call fits = grind (arith, common_steps, take_more_set, drop-set-lt)
+one_put end calls call fits = grind (arith, common_steps)
 
 pub put_more : (made more : List Call) (place middle end : ℕ) (old calls new : List Call) → ArePut made place middle old calls
     → ArePut more middle end calls new → ArePut (made ++ more) place end old new
 put_more made more place middle end old calls new first second =
     record {
-      is_end = omega (arith, first.is_end, second.is_end, length-append made more);
+      is_end = omega (arith, length-append made more);
       fits = second.fits;
       front = grind (arith, append_assoc);
       others =

@@ -1,7 +1,5 @@
 -- Which words of a text fit the words of a call; hex digits are of either case.
-use Rattle.std.proofs.Common.{◌≡◌, ◌∙◌, ◌<◌, ◌^◌, ◌*◌, ◌||◌, ℕ, Bool, true, false, List, [], ◌∷◌, ◌++◌, length, get_or, drop, codes, decimal, bytes_eq, Some, None, Ok, Option, refl, sym, ap, subst, le-leb, lt-ltb, arith}
-use Rattle.std.proofs.lemmas.Bool.{and_parts}
-use Rattle.std.proofs.lemmas.Bool.Decides.{nat_tests}
+use Rattle.std.proofs.Common.{◌≡◌, ◌∙◌, ◌<◌, ◌^◌, ◌||◌, ℕ, Bool, true, false, List, [], ◌∷◌, ◌++◌, length, get_or, drop, codes, decimal, bytes_eq, Some, None, Ok, Option, refl, sym, ap, subst, lt-ltb, arith}
 use Rattle.std.proofs.lemmas.Fmt.{decimal_nonempty}
 use Rattle.std.proofs.lemmas.List.{length-map}
 use Rattle.std.proofs.lemmas.List.Folds.{list_all-map}
@@ -45,20 +43,19 @@ module _ (text : List ℕ) where
   -- ---- numbers
 
   pub plain_digits : list_all is_ascii_digit text ≡ true → IsPlain text
-  plain_digits all = all_weaker is_ascii_digit is_plain text (λ c is. grind (arith, nat_tests, is)) all
+  plain_digits all = all_weaker is_ascii_digit is_plain text (λ c is. grind arith) all
 
   -- ---- bytes
 
   plain_hex : AllPass is_hex_digit text → IsPlain text
   plain_hex all =
-      all_weaker is_hex_digit is_plain text (λ c is. grind (arith, nat_tests, is)) (list_all-from_AllPass is_hex_digit text all)
+      all_weaker is_hex_digit is_plain text (λ c is. grind arith) (list_all-from_AllPass is_hex_digit text all)
 
   hex_digits_lowered : AllPass is_hex_digit (hex_lowered text) → AllPass is_hex_digit text
   hex_digits_lowered all =
-      let lowered_all = list_all-from_AllPass is_hex_digit (hex_lowered text) all in
       AllPass-from_list_all is_hex_digit text
-      (all_weaker (λ c. is_hex_digit (lowered c)) is_hex_digit text (λ c is. grind (arith, nat_tests, is))
-      (sym (list_all-map is_hex_digit lowered text) ∙ lowered_all))
+      (all_weaker (λ c. is_hex_digit (lowered c)) is_hex_digit text (λ c is. grind arith)
+      (sym (list_all-map is_hex_digit lowered text) ∙ (list_all-from_AllPass is_hex_digit (hex_lowered text) all)))
 
 module _ (most : ℕ) (bytes : List ℕ) where
   digits_of : AreBytes most bytes → AllPass is_hex_digit (encode_lower bytes)
@@ -67,16 +64,15 @@ module _ (most : ℕ) (bytes : List ℕ) where
   hex_fits : AreBytes most bytes → (text : List ℕ) → hex_lowered text ≡ encode_lower bytes
       → is_hex most text ≡ true
   hex_fits are text same =
-      let long : length text ≡ 2 * length bytes = grind (arith, length-map, length-encode_with, lower_digits) in
-      let digits : AllPass is_hex_digit text = hex_digits_lowered text (subst (AllPass is_hex_digit) (sym same) (digits_of are)) in
-      grind (arith, decode_of-digits, le-leb)
+      let digits = hex_digits_lowered text (subst (AllPass is_hex_digit) (sym same) (digits_of are)) in
+      grind (arith, decode_of-digits, length-map, length-encode_with, lower_digits)
 
 module _ (b : ℕ) (bytes : List ℕ) where
   some_digits : (text : List ℕ) → hex_lowered text ≡ encode_lower (b ∷ bytes) → 0 < length text
-  some_digits text same = grind (arith, length-map, length-encode_with, lower_digits)
+  some_digits text same = grind (arith, length-map, length-encode_with)
 
   hex_some : hex (b ∷ bytes) ≡ encode_lower (b ∷ bytes)
-  hex_some = grind (arith, nat_tests)
+  hex_some = grind arith
 
 pub bytes_fit : (bytes : List ℕ) → AreBytes 64 bytes → Fits is_chunk (hex bytes)
 bytes_fit [] are = (refl, λ text same. rw (kept_lowered text (codes "-") refl same) refl)
@@ -94,9 +90,7 @@ chunk_fits chunk is = bytes_fit chunk.items is
 
 number_text : (text : List ℕ) → list_all is_ascii_digit text ≡ true → 0 < length text → is_payload text ≡ is_wide text
 number_text [] all some = absurd (omega arith)
-number_text (c ∷ text) all some =
-    let digit = (and_parts (is_ascii_digit c) (list_all is_ascii_digit text) all).0 in
-    grind (arith, nat_tests, digit)
+number_text (c ∷ text) all some = grind arith
 
 line_word : (text : List ℕ) → is_payload (120 ∷ text) ≡ is_hex 127 text
 line_word text = grind arith
@@ -114,23 +108,23 @@ module _ (n : ℕ) where
     number_lowered : IsWide n → hex_lowered text ≡ decimal n → text ≡ decimal n
     number_lowered wide same =
         kept_lowered text (decimal n)
-        (all_weaker is_ascii_digit is_kept (decimal n) (λ c is. grind (arith, nat_tests, is)) (all_digits (omega arith))) same
+        (all_weaker is_ascii_digit is_kept (decimal n) (λ c is. grind arith) (all_digits (omega arith))) same
 
     read_lowered : IsWide n → hex_lowered text ≡ decimal n → read_number text ≡ Some n
     read_lowered wide same = ap read_number (number_lowered wide same) ∙ read_decimal n wide
 
   pub small_fits : IsByte n → Fits is_small (decimal n)
-  small_fits small = grind (arith, plain_digits, decimal, all_digits, read_lowered, le-leb)
+  small_fits small = grind (arith, plain_digits, all_digits, read_lowered)
 
   pub wide_fits : IsWide n → Fits is_wide (decimal n)
-  wide_fits wide = grind (arith, plain_digits, decimal, all_digits, read_lowered, le-leb)
+  wide_fits wide = grind (arith, plain_digits, all_digits, read_lowered)
 
 pub payload_fits : (payload : Payload) → IsPayload payload → Fits is_payload (payload_word payload)
 payload_fits Payload.Empty is = (refl, λ text same. rw (kept_lowered text (codes "-") refl same) refl)
 payload_fits (Payload.Num n) is = (
   plain_digits (decimal n) (all_digits n (omega arith)),
   λ text same.
-      let is_text : text ≡ decimal n = number_lowered n text (omega arith) same in
+      let is_text = number_lowered n text (omega arith) same in
       ap is_payload is_text ∙ number_text (decimal n) (all_digits n (omega arith)) (decimal_nonempty n (omega arith))
       ∙ (wide_fits n is).1 (decimal n) (ap hex_lowered (sym is_text) ∙ same),
 )
@@ -156,13 +150,10 @@ call_taken None words left fit same = absurd fit
 call_taken (Some tests) words left fit same = all_taken tests words left fit same
 
 module _ (word : List ℕ) where
-  pub no_hex_fails : bytes_eq word (codes "-") ≡ false → is_hex 64 word ≡ false → is_chunk word ≡ false
-  no_hex_fails other is = grind arith
-
   module _ (bytes : List ℕ) where
     -- a word of bytes, if it is no dash
     pub chunk_passes : is_hex 64 word ≡ true → decode_of word ≡ Ok bytes → 0 < length bytes → is_chunk word ≡ true
-    chunk_passes is decoded some = grind (arith, decode_of-ok, or_right, bytes_eq, codes, lt-ltb)
+    chunk_passes is decoded some = grind (arith, decode_of-ok)
 
     pub no_bytes_fail : bytes_eq word (codes "-") ≡ false → decode_of word ≡ Ok bytes → length bytes ≡ 0
         → is_chunk word ≡ false

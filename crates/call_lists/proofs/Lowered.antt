@@ -1,27 +1,20 @@
 -- Numbers and bytes with hex digits in lower case.
-use Rattle.std.proofs.Common.{◌≡◌, ◌<◌, ◌+◌, ◌*◌, ◌||◌, ℕ, true, List, [], ◌∷◌, decimal, nat_lt, slice_index, Option, Some, None, Result, Ok, Err, refl, ap, arith}
+use Rattle.std.proofs.Common.{◌≡◌, ◌+◌, ◌*◌, ℕ, true, List, [], ◌∷◌, decimal, slice_index, Option, Some, None, Result, Ok, Err, refl, arith}
 use Rattle.std.proofs.lemmas.Bool.Decides.{nat_tests}
-use Rattle.std.proofs.lemmas.List.Sums.{AllPass-from_list_all}
 use Rattle.std.specs.Char.{is_ascii_digit}
 use Rattle.std.specs.List.{list_all}
-use Rattle.std.specs.Result.{result_unwrap_or}
-use Rattle.hex.proofs.HexLemmas.{IsDigits-lower_digits, decode_of-even, decode_of-ok}
 use Rattle.hex.specs.Hex.{decode_of, decode_pairs, digit_or_error, encode_lower, encode_with, hex_digit_value, lower_digits, ◌>>=◌}
 use Rattle.hex.specs.declared.error.FromHexError.{FromHexError}
 use Rattle.mote_text.specs.Script.{read_number}
-use Rattle.mote_text.proofs.Ticks.{decimal_of_read, digits_of_read}
+use Rattle.mote_text.proofs.Ticks.{decimal_of_read}
 use Rattle.call_lists.specs.Calls.{hex_lowered}
 
 digit : (c v : ℕ) → hex_digit_value c ≡ Some v → hex_lowered (c ∷ []) ≡ slice_index lower_digits v ∷ []
-digit c v is =
-    let small : v < 16 = grind arith in
-    let digit = IsDigits-lower_digits v small in
-    let lower = AllPass-from_list_all (λ d. nat_lt d 58 || nat_lt 96 d) lower_digits refl v 0 small in
-    grind (arith, nat_tests)
+digit c v is = grind (arith, nat_tests)
 
 pairs : (i : ℕ) (text bytes : List ℕ) → decode_pairs i text ≡ Ok bytes → hex_lowered text ≡ encode_lower bytes
 unfolding decode_pairs encode_with
-pairs i [] bytes is = rw (← ap (λ r. result_unwrap_or r []) is) refl
+pairs i [] bytes is = cc
 pairs i (high ∷ []) bytes is = cc is
 pairs i (high ∷ low ∷ rest) bytes is =
     by (hex_digit_value high) (hex_digit_value low) (decode_pairs (i + 2) rest) refl refl (λ more is. pairs (i + 2) rest more is) is
@@ -34,19 +27,17 @@ pairs i (high ∷ low ∷ rest) bytes is =
     by (Some h) (Some l) (Ok more) is_h is_l lowered is =
         let first = digit high h is_h in
         let second = digit low l is_l in
-        let later = lowered more refl in
-        let all : (h * 16 + l) ∷ more ≡ bytes = ap (λ r. result_unwrap_or r []) is in
         grind (arith, nat_tests)
     by (Some h) (Some l) (Err fault) is_h is_l lowered is = cc is
     by (Some h) None more is_h is_l lowered is = cc is
     by None l more is_h is_l lowered is = cc is
 
 pub lowered_hex : (text bytes : List ℕ) → decode_of text ≡ Ok bytes → hex_lowered text ≡ encode_lower bytes
-lowered_hex text bytes is = grind (arith, nat_tests, pairs, decode_of-even, decode_of-ok)
+lowered_hex text bytes is = grind (arith, pairs)
 
 numeral : (text : List ℕ) → list_all is_ascii_digit text ≡ true → hex_lowered text ≡ text
 numeral [] all = refl
-numeral (c ∷ rest) all = grind (arith, nat_tests, numeral rest)
+numeral (c ∷ rest) all = grind (arith, numeral rest)
 
 pub lowered_number : (text : List ℕ) (n : ℕ) → read_number text ≡ Some n → hex_lowered text ≡ decimal n
-lowered_number text n reads = grind (arith, numeral, digits_of_read, decimal_of_read)
+lowered_number text n reads = grind (arith, numeral, decimal_of_read)

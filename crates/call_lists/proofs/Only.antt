@@ -1,7 +1,6 @@
 -- A text makes calls in one way: their number, the calls, and where its parts end.
 use Rattle.std.proofs.Common.{◌≡◌, ◌∙◌, ◌≢◌, ◌<◌, ◌≤◌, ◌⊎◌, ◌+◌, ◌^◌, ◌==◌, ℕ, Bool, true, false, not, List, [], ◌∷◌, ◌++◌, length, slice_index, get_or, drop, codes, decimal, Option, Some, None, IsSome, inl, inr, refl, sym, ap, subst, append-nil, append_assoc, length-append, drop_at, arith}
 use Rattle.std.proofs.lemmas.Bool.{and_parts, cases_lt}
-use Rattle.std.proofs.lemmas.Bool.Decides.{nat_tests}
 use Rattle.std.proofs.lemmas.List.Folds.{list_all-append, list_all-map}
 use Rattle.std.proofs.lemmas.Fmt.{decimal_nonempty}
 use Rattle.std.specs.Char.{is_ascii_digit}
@@ -58,12 +57,12 @@ letter_of (c ∷ name) rest is = is
 digit_of : (digits rest : List ℕ) → list_all is_ascii_digit digits ≡ true → 0 < length digits
     → is_ascii_digit (slice_index (digits ++ rest) 0) ≡ true
 digit_of [] rest all some = absurd (omega arith)
-digit_of (c ∷ digits) rest all some = (and_parts (is_ascii_digit c) (list_all is_ascii_digit digits) all).0
+digit_of (c ∷ digits) rest all some = grind arith
 
 module _ (text : List ℕ) where
   others_lowered : HasNoComma (hex_lowered text) → HasNoComma text
   others_lowered are =
-      all_weaker (λ c. is_other (lowered c)) is_other text (λ c is. grind (arith, nat_tests, is))
+      all_weaker (λ c. is_other (lowered c)) is_other text (λ c is. grind arith)
       (sym (list_all-map is_other lowered text) ∙ are)
 
   abbrev pub has_digit : Bool
@@ -72,8 +71,8 @@ module _ (text : List ℕ) where
 module _ (text : List ℕ) where
   of_call : (call : Call) → IsPossible call → IsCall text call → HasNoComma text × (has_digit text ≡ false)
   of_call call possible is = (
-    grind (arith, well_formed, others_lowered, arguments_other, both_other, name_of, plain_is_other),
-    grind (arith, well_formed, is_ascii_digit, slice_index, letter_of, name_of),
+    grind (arith, well_formed, others_lowered, arguments_other, name_of, plain_is_other),
+    grind (arith, well_formed, name_of),
   )
 
   of_calls : (made : List Call) → ArePossible made → 0 < length made → AreCalls text made → HasNoComma text × (has_digit text ≡ false)
@@ -94,16 +93,25 @@ module _ (text : List ℕ) where
 
   numbered : (rest : List ℕ) (n : ℕ) → n < 2 ^ 32 → text ≡ decimal n ++ codes " " ++ rest → IsNumbered n rest
   numbered rest n wide whole =
-      let is : text ≡ decimal n ++ (codes " " ++ rest) = grind (arith, append_assoc, decimal, codes) in
       let digits = all_digits n wide in
-      let cut = cut_of_plain (decimal n) (32 ∷ rest) (plain_digits (decimal n) digits) refl in
-      grind (arith, is_ascii_digit, slice_index, digit_of, decimal, decimal_nonempty, read_decimal)
+      grind (
+        arith,
+        is_ascii_digit,
+        slice_index,
+        digit_of,
+        decimal,
+        decimal_nonempty,
+        read_decimal,
+        cut_of_plain (decimal n) (32 ∷ rest) (plain_digits (decimal n) digits) refl,
+        append_assoc,
+        codes,
+      )
 
   module _ (made : List Call) (possible : ArePossible made) (few : length made ≤ 128) where
     made_other : AreMade text made → HasNoComma text
-    made_other (inl once) = (of_calls text made possible (omega (arith, once.0)) once.1).0
+    made_other (inl once) = (of_calls text made possible (omega arith) once.1).0
     made_other (inr counted) =
-        let digits : HasNoComma (decimal (length made)) =
+        let digits =
         plain_is_other (decimal (length made)) (plain_digits (decimal (length made)) (all_digits (length made) (omega arith))) in
         subst HasNoComma (sym (counted.2 ∙ append_assoc (decimal (length made)) (codes " ") counted.0))
         (both_other (decimal (length made)) (32 ∷ counted.0) digits (of_calls counted.0 made possible counted.1 counted.3).0)
@@ -117,7 +125,7 @@ module _ (text : List ℕ) where
 
     counted_only : has_digit text ≡ true → AreMade text made
         → (rest : List ℕ) × (0 < length made) × IsNumbered (length made) rest × AreCalls rest made
-    counted_only digit (inl once) = let letter = (of_calls text made possible (omega (arith, once.0)) once.1).1 in absurd (cc)
+    counted_only digit (inl once) = let letter = (of_calls text made possible (omega arith) once.1).1 in absurd (cc)
     counted_only digit (inr counted) = (counted.0, counted.1, numbered counted.0 (length made) (omega arith) counted.2, counted.3)
 
     module _ (count : List ℕ) where
@@ -125,8 +133,7 @@ module _ (text : List ℕ) where
           → read_number count ≡ Some n → AreMade text made → (length made ≡ n) × AreCalls rest made
       numbered_only rest n digit first behind reads are =
           let counted = counted_only digit are in
-          let same_rest : counted.0 ≡ rest = ap (drop 1) (sym counted.2.behind ∙ sym behind) in
-          (grind (arith, counted.2.reads), subst (λ text. AreCalls text made) same_rest counted.3)
+          (grind arith, subst (λ text. AreCalls text made) (ap (drop 1) (sym counted.2.behind ∙ sym behind)) counted.3)
 
       pub misnumbered : (fault : CallFault) → has_digit text ≡ true → count ≡ first_word text → IsNoNumber count 1 128 fault
           → AreMade text made → ⊥
@@ -135,8 +142,8 @@ module _ (text : List ℕ) where
           outside counted.1 (subst (LiesOutside 1 128) (ap read_number first ∙ counted.2.reads) is.3)
         where
           outside : 0 < length made → LiesOutside 1 128 (Some (length made)) → ⊥
-          outside some (inl below) = absurd (omega (arith, below))
-          outside some (inr above) = absurd (omega (arith, above))
+          outside some (inl below) = absurd (omega arith)
+          outside some (inr above) = absurd (omega arith)
       misnumbered fault digit first is are = absurd is
 
 -- ---- part by part
@@ -148,14 +155,11 @@ comma_fails (c ∷ front) rest are = comma_fails front rest (and_parts (is_other
 same_front : (a b rest others : List ℕ) → HasNoComma b → length a ≤ length b → a ++ (codes ", " ++ rest) ≡ b ++ (codes ", " ++ others)
     → (a ≡ b) × (rest ≡ others)
 same_front [] [] rest others are short same = (refl, ap (drop 2) same)
-same_front [] (c ∷ b) rest others are short same =
-    let comma : 44 ≡ c = ap (λ text. get_or text 0 0) same in
-    absurd (comma_fails [] b (subst (λ c. HasNoComma (c ∷ b)) (sym comma) are))
-same_front (c ∷ a) [] rest others are short same = absurd (omega (arith, short))
+same_front [] (c ∷ b) rest others are short same = cc
+same_front (c ∷ a) [] rest others are short same = absurd (omega arith)
 same_front (c ∷ a) (d ∷ b) rest others are short same =
-    let first : c ≡ d = ap (λ text. get_or text 0 0) same in
     let tail = same_front a b rest others (and_parts (is_other d) (list_all is_other b) are).1 (omega (arith, short)) (ap (drop 1) same) in
-    (ap (λ c. c ∷ a) first ∙ ap (λ a. d ∷ a) tail.0, tail.1)
+    (ap (λ c. c ∷ a) (ap (λ text. get_or text 0 0) same) ∙ ap (λ a. d ∷ a) tail.0, tail.1)
 
 possible_parts : (a b : List Call) → ArePossible (a ++ b) → ArePossible a × ArePossible b
 possible_parts [] b are = (tt, are)
@@ -174,7 +178,7 @@ module _ (text part : List ℕ) where
       absurd (comma_fails part (32 ∷ others.now) (subst HasNoComma (sym (append-nil first) ∙ sym whole ∙ cut) are))
   same_cut first None (next ∷ parts) are whole cut leads = cc (leads first (next ++ behind_commas parts) whole).1
   same_cut first (Some others) (next ∷ parts) are whole cut leads =
-      let rest : List ℕ = next ++ behind_commas parts in
+      let rest = next ++ behind_commas parts in
       let same = same_front part first others.now rest are (leads first rest whole).0 (sym cut ∙ whole) in
       (sym same.0, ap (λ rest. codes ", " ++ rest) same.1)
 
@@ -192,17 +196,17 @@ first_part {text = text} part others place room is cut leads few (calls, possibl
         × HasCalls (behind_comma others) (place + length made) room
     by [] whole are = cc whole
     by (front ∷ parts) whole are =
-        let made : List Call = are.0 in
-        let more : List Call = are.1 in
+        let made = are.0 in
+        let more = are.1 in
         let both = possible_parts made more (subst ArePossible are.2 possible) in
-        let size : length calls ≡ length made + length more = ap length are.2 ∙ length-append made more in
-        let same = same_cut text.now part front others parts (made_other front made both.0 (omega (arith, fit, few, size)) are.3)
+        let size = ap length are.2 ∙ length-append made more in
+        let same = same_cut text.now part front others parts (made_other front made both.0 (omega (arith, size)) are.3)
         (ap (drop 2) whole) cut leads in (
           made,
           both.0,
           subst (λ part. AreMade part made) same.0 are.3,
-          omega (arith, fit, size),
-          (more, both.1, (parts, same.1, are.4), omega (arith, fit, size)),
+          omega arith,
+          (more, both.1, (parts, same.1, are.4), omega arith),
         )
 
 module _ (text : List ℕ) where
@@ -213,12 +217,12 @@ module _ (text : List ℕ) where
     where
       by : (parts : List (List ℕ)) → text ≡ join_by (λ part. part) (codes ", ") parts → AreOfParts parts list.made
           → HasCalls (codes ", " ++ text) 0 room
-      by [] is are = absurd (omega (arith, some, ap length is))
+      by [] is are = absurd (omega (arith, ap length is))
       by (part ∷ parts) is are = (
         list.made,
         (possible_parts list.made list.waits (subst ArePossible list.are_calls possible)).0,
         (part ∷ parts, ap (λ text. codes ", " ++ text) is, are),
-        omega (arith, ap length list.are_calls, length-append list.made list.waits, long),
+        omega (arith, ap length list.are_calls, length-append list.made list.waits),
       )
 
   -- a word that is not found before byte i

@@ -9,7 +9,7 @@ use Rattle.call_lists.specs.Calls.{HasWords, IsCall, hex_lowered}
 use Rattle.call_lists.specs.Ranges.{IsPossible}
 use Rattle.call_lists.specs.Code.Readings.{behind_first, first_word, left_by_call, left_in, process_words}
 use Rattle.call_lists.specs.declared.words.Words.{Words}
-use Rattle.call_lists.proofs.Cuts.{IsBehind, IsPlain, behind_lowered, behind_spaced, cut_of_plain}
+use Rattle.call_lists.proofs.Cuts.{IsPlain, behind_lowered, behind_spaced, cut_of_plain}
 use Rattle.call_lists.proofs.Fitting.{FitsCall, call_taken, chunk_fits, payload_fits, small_fits, wide_fits}
 
 pub of_each : {T E : Type 0} (A : Type 0) (result : Result T E) → A → IfErr result (λ (_ : E). A)
@@ -54,7 +54,7 @@ module _ (text : List ℕ) where
     taken_call possible is =
         let formed = well_formed call possible in
         let words = words_in formed is in
-        let behind : IsBehind words.0 =
+        let behind =
         behind_lowered words.0 (spaced (argument_words call)) (behind_spaced (argument_words call)) words.2 in
         let cut = cut_of_plain (name_of call) words.0 formed.plain behind in
         rw (words.1, cut.0, cut.1) (call_taken (process_words (name_of call)) (argument_words call) words.0 formed.fit words.2)

@@ -1,7 +1,6 @@
 -- A row's calls, part by part.
-use Rattle.std.proofs.Common.{◌≡◌, ◌+◌, ℕ, List, [], ◌∷◌, ◌++◌, ap, arith, codes, length, drop}
+use Rattle.std.proofs.Common.{◌≡◌, ◌+◌, ℕ, List, [], ◌∷◌, ◌++◌, arith, codes, length}
 use Rattle.std.proofs.lemmas.Grind.{common_steps}
-use Rattle.std.proofs.lemmas.List.{append_assoc}
 use Rattle.call_lists.specs.Code.Lists.{AreBehind}
 use Rattle.call_lists.specs.RowTexts.{AreCalls, AreOfParts, AreSteps, IsStep}
 use Rattle.call_lists.specs.declared.rows.row.Step.{Step}
@@ -21,9 +20,9 @@ module _ (words : List ℕ) where
 
   pub copies_more : (count : ℕ) (old new : List Step) (step : Step) → AreCopies count old new → IsStep words step
       → AreCopies (count + 1) old (new ++ step ∷ [])
-  copies_more count old new step copies is = grind (arith, steps_more, common_steps, append_assoc)
+  copies_more count old new step copies is = grind (arith, steps_more, common_steps)
 
 -- a text has at least one part
 pub of_text : (text : List ℕ) (steps : List Step) → AreBehind AreOfParts (codes ", " ++ text) steps → AreCalls text steps
 of_text text steps ([], is, are) = cc is
-of_text text steps (part ∷ parts, is, are) = (part, parts, ap (drop 2) is, are)
+of_text text steps (part ∷ parts, is, are) = grind arith

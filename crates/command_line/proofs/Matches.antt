@@ -75,7 +75,7 @@ module _ (f : Found) (id : Text) where
   pub names_given : (o : Option (Bor (List (Bor Text)))) → id ≡ codes "APP" →
       option_map (λ s. map (λ v. v.now) s.now) o ≡ option_map raw_values (matched_of f id) →
       names_of (rows_of f) ≡ unwrap_or (option_map (λ s. texts s.now) o) []
-  names_given o is given = grind (arith, unwrap_or, raw_values-rows, all_of, rows_of)
+  names_given o is given = grind (arith, raw_values-rows, all_of, rows_of)
 
   -- the source of an argument's value
   pub source_given : option_and_then (λ a. a.source) (matched_of f id)

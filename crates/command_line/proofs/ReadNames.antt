@@ -5,9 +5,6 @@ use Rattle.command_line.proofs.Common.{nat_tests, texts, find-map, RefusesNames,
 use Rattle.command_line.specs.Code.Names.{Name, application_of, refusal_of, is_strange}
 use Rattle.command_line.specs.declared.refusal.Refusal.{Refusal}
 
-some≢none : {A : Type 0} (x : A) → Some x ≡ None → ⊥
-some≢none x e = search rules
-
 module _ {A : Type 0} (by_name : List ℕ → Option A) where
   pub applications_of_texts : (names : List Name) → filter_map (application_of by_name) names ≡ applications_of by_name (texts names)
   applications_of_texts [] = refl
@@ -26,7 +23,7 @@ module _ {A : Type 0} (by_name : List ℕ → Option A) where
 
     pub known_texts : refusal_of by_name names ≡ None → (find (is_unknown by_name) (texts names) ≡ None)
         × (length (texts names) ≤ 16)
-    known_texts known = grind (arith, nat_tests, some≢none, unknown_of_texts, length-map)
+    known_texts known = grind (arith, unknown_of_texts, length-map)
 
     pub refused_texts : (refusal : Refusal) → refusal_of by_name names ≡ Some refusal
         → RefusesNames by_name (texts names) refusal

@@ -1,6 +1,6 @@
 -- Lines, byte by byte.
 use Rattle.std.proofs.Common.{◌≡◌, ℕ, zero, suc, ◌≤◌, ◌<◌, Bool, true, false, List, [], ◌∷◌, ◌++◌, length, take, drop, refl, ap, ◌∙◌, arith, append_assoc, Some, None, length-append, ◌⊎◌, slice_get}
-use Rattle.device_core.proofs.Common.{nat_tests, after_byte, with_bytes, take_all, take_at, append-nil, before_first, after_first, SerialLine, next_line, after_line, is_line_end}
+use Rattle.device_core.proofs.Common.{after_byte, with_bytes, take_all, take_at, append-nil, before_first, after_first, SerialLine, next_line, after_line, is_line_end}
 use Rattle.circular_buffer.specs.Buffer.{keep_last}
 
 abbrev pub state : List ℕ → Bool → List ℕ → SerialLine
@@ -15,10 +15,6 @@ take_take_append : (n : ℕ) (xs ys : List ℕ) → take n (take n xs ++ ys) ≡
 take_take_append zero xs ys = refl
 take_take_append (suc n) [] ys = refl
 take_take_append (suc n) (x ∷ xs) ys = ap (λ l. x ∷ l) (take_take_append n xs ys)
-
-nothing_first : (xs : List ℕ) → slice_get xs 0 ≡ None → xs ≡ []
-nothing_first [] h = refl
-nothing_first (x ∷ xs) h = absurd (cc)
 
 module _ (line : List ℕ) where
   with_bytes_nil : length line ≤ 127 → with_bytes line [] ≡ line
@@ -37,38 +33,26 @@ module _ (line : List ℕ) where
 
 module _ (byte : ℕ) where
   module _ (ring : List ℕ) where
-    before_first_past : is_line_end byte ≡ false
-        → before_first is_line_end (byte ∷ ring) ≡ byte ∷ before_first is_line_end ring
-    before_first_past h = grind arith
-
     after_first_past : is_line_end byte ≡ false
         → after_first is_line_end (byte ∷ ring) ≡ after_first is_line_end ring
-    after_first_past h = grind (arith, nat_tests)
+    after_first_past h = grind arith
 
     serves_alike_past : (overflow : Bool) (line : List ℕ) → is_line_end byte ≡ false
         → ServesAlike (state ring overflow (with_bytes line (byte ∷ []))) (state (byte ∷ ring) overflow line)
     serves_alike_past overflow line h =
-        grind (arith, nat_tests, before_first_past, with_bytes_one_more, after_first_past)
+        grind (arith, with_bytes_one_more, after_first_past)
 
 pub keep_last_all : (n : ℕ) (xs : List ℕ) (x : ℕ) → length xs < n → keep_last n (xs ++ x ∷ []) ≡ xs ++ x ∷ []
-keep_last_all n xs x room = grind (arith, nat_tests, length-append)
+keep_last_all n xs x room = grind (arith, length-append)
 
 module _ (ring : List ℕ) where
-  -- if the ring has room, a byte that isn't ignored is taken; in overflow only a line end is
-  pub byte_taken : (overflow : Bool) (line : List ℕ) (byte : ℕ) → (byte ≡ 13 → ⊥) → length ring < 127
-      → (overflow ≡ false) ⊎ ((overflow ≡ true) × (byte ≡ 10))
-      → after_byte (state ring overflow line) byte ≡ state (ring ++ byte ∷ []) false line
-  byte_taken overflow line byte other room is = grind (arith, nat_tests, other)
-
   module _ (line : List ℕ) where
     -- a byte that is no line end goes into the current line
     pub alike_one_more : (kept : List ℕ) (overflow : Bool) (byte : ℕ) (s : SerialLine) → ServesAlike (state ring overflow line) s
         → slice_get ring 0 ≡ Some byte → (byte ≡ 10 → ⊥) → kept ≡ with_bytes line (byte ∷ [])
         → ServesAlike (state (drop 1 ring) overflow kept) s
     alike_one_more kept overflow byte s alike first other is_kept =
-        let end : is_line_end byte ≡ false = grind (arith, nat_tests, other) in
-        let past = serves_alike_past byte (drop 1 ring) overflow line end in
-        grind arith
+        grind (arith, serves_alike_past byte (drop 1 ring) overflow line (grind arith))
 
     module _ (overflow : Bool) where
       pub answer_at_line_end : (byte : ℕ) (s : SerialLine) → ServesAlike (state ring overflow line) s
@@ -79,4 +63,4 @@ module _ (ring : List ℕ) where
 
       pub rest_at_empty_ring : (s : SerialLine) → ServesAlike (state ring overflow line) s
           → slice_get ring 0 ≡ None → length line ≤ 127 → after_line s ≡ state (drop 1 ring) overflow line
-      rest_at_empty_ring s alike empty fits = grind (arith, nat_tests, nothing_first, with_bytes_nil)
+      rest_at_empty_ring s alike empty fits = grind (arith, with_bytes_nil)

@@ -1,6 +1,6 @@
 -- Slots of frames: which are held, and the least free one.
 use Rattle.std.proofs.Common.{◌≡◌, ℕ, zero, suc, ◌+◌, ◌-◌, ◌≤◌, ◌<◌, Bool, true, false, List, [], ◌∷◌, ◌++◌, length, drop, map, refl, ◌∙◌, arith, eqb, Option, Some, None, All, not, ◌==◌}
-use Rattle.device_core.proofs.Common.{nat_tests, list_any, PacketQueue, free_slot, IsWellFormed, find, range_with_len, IsDistinct, length-map, length_push, map_push, no_packets, is_held, with_frame, Frame}
+use Rattle.device_core.proofs.Common.{list_any, PacketQueue, free_slot, IsWellFormed, find, range_with_len, IsDistinct, length-map, length_push, map_push, no_packets, is_held, with_frame, Frame}
 use Rattle.std.proofs.lemmas.Bool.{eqb-true}
 use Rattle.std.proofs.lemmas.Cmp.{nat_eq_equiv}
 use Rattle.std.proofs.lemmas.List.Elements.{All-append}
@@ -25,7 +25,7 @@ slots_below (frame ∷ frames) below q h =
     split (eqb q frame.slot) refl (slots_below frames (λ k d lt. below (suc k) d (omega arith)) q)
   where
     split : (b : Bool) → eqb q frame.slot ≡ b → (list_any (eqb q) (slots_of frames) ≡ true → q < 8) → q < 8
-    split true e more = let is = eqb-true q frame.slot e in let here : frame.slot < 8 = below 0 frame (omega arith) in omega arith
+    split true e more = omega (arith, eqb-true q frame.slot e, below 0 frame (omega arith))
     split false e more = more (rw e at h)
 
 below_where_one : (slot len : ℕ) → slot < 8 → let new : Frame = record { slot = slot; len = len } in
@@ -36,13 +36,13 @@ below_where_one slot len below (suc k) d lt = absurd (omega arith)
 pub well_formed_without_front : (frames : List Frame) (announced : ℕ) (receiver : Option ℕ)
     → IsWellFormed (record { frames = frames; announced = announced; receiver = receiver })
     → IsWellFormed (record { frames = drop 1 frames; announced = announced - 1; receiver = receiver })
-well_formed_without_front [] announced receiver well = grind (arith, nat_tests, well.told)
+well_formed_without_front [] announced receiver well = grind (arith, well.told)
 well_formed_without_front (frame ∷ frames) announced receiver well =
     record {
-      few = omega (arith, well.few);
+      few = omega arith;
       distinct = IsDistinct-tail eqb frame.slot (slots_of frames) well.distinct;
       slots = λ k d lt. well.slots (suc k) d (omega arith);
-      told = omega (arith, well.told);
+      told = omega arith;
       receiver = well.receiver;
     }
 
@@ -54,7 +54,7 @@ module _ (queue : PacketQueue) where
   module _ (slot : ℕ) where
     pub free_slot_from_more : slot < 8 → is_held queue slot ≡ true
         → free_slot_from (slot + 1) queue ≡ free_slot_from slot queue
-    free_slot_from_more below held = grind (arith, nat_tests, get_or-range_with_len 0 8 slot 0 below)
+    free_slot_from_more below held = grind (arith, get_or-range_with_len 0 8 slot 0 below)
 
     pub unused_where_free : free_slot queue ≡ Some slot → (slot < 8) × (is_held queue slot ≡ false)
     unfolding free_slot
@@ -71,20 +71,18 @@ module _ (queue : PacketQueue) where
         let new : Frame = record { slot = slot; len = len } in
         let frames = queue.frames ++ new ∷ [] in
         let unused = unused_where_free h in
-        let absent = member_where_held queue.frames slot ∙ unused.1 in
-        let slots : All (λ frame. frame.slot < 8) frames =
+        let slots =
         All-append (λ frame. frame.slot < 8) queue.frames (new ∷ []) well.slots (below_where_one slot len unused.0) in
         let pushed : slots_of frames ≡ slots_of queue.frames ++ slot ∷ [] = grind (arith, map_push) in
         let distinct : IsDistinct eqb (slots_of frames) =
-        rw pushed (IsDistinct-push nat_eq_equiv (slots_of queue.frames) slot well.distinct absent) in
+        rw pushed (IsDistinct-push nat_eq_equiv (slots_of queue.frames) slot well.distinct
+        (member_where_held queue.frames slot ∙ unused.1)) in
         let few : length (slots_of frames) ≤ 8 = grind (arith, length-le_from_distinct_below, slots_below) in
         grind (arith, length-map, length_push)
 
     pub room_where_free : IsWellFormed queue → free_slot queue ≡ Some slot → length queue.frames < 8
     room_where_free well h =
-        let new : Frame = record { slot = slot; len = 0 } in
-        let few = (well_formed_with_frame 0 well h).few in
-        omega (arith, length_push queue.frames new)
+        omega (arith, length_push queue.frames (record { slot = slot; len = 0 }), (well_formed_with_frame 0 well h).few)
 
   pub full_where_none_free : free_slot queue ≡ None → 8 ≤ length queue.frames
   full_where_none_free h =

@@ -31,4 +31,4 @@ module _ (heap : Region) (at len : ℕ) (old new : List ℕ) (changes : ChangesO
   heap_of-elsewhere = grind (arith, store_same)
 
   pub IsLaidOut-elsewhere : IsLaidOut heap new
-  IsLaidOut-elsewhere = grind (arith, told, same, heap_of-elsewhere, store_same)
+  IsLaidOut-elsewhere = grind (arith, told, same, store_same)

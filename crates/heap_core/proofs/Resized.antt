@@ -1,5 +1,5 @@
 -- The bytes of a resized block.
-use Rattle.heap_core.proofs.Lemmas.Words.{◌≡◌, ℕ, ◌+◌, ◌-◌, ◌≤◌, List, [], ◌++◌, length, take, slice_range, arith, append-nil, take-append-le, take-take, take-replicate, drop-replicate, cases_lt, zeros, resized, written, length-range, take_past, written-range, written_is}
+use Rattle.heap_core.proofs.Lemmas.Words.{◌≡◌, ℕ, ◌+◌, ◌-◌, ◌≤◌, List, [], ◌++◌, length, take, slice_range, arith, append-nil, take-append-le, take-take, take-replicate, drop-replicate, zeros, resized, written, length-range, take_past, written-range, written_is}
 
 -- a prefix of a range
 pub front_range : (xs : List ℕ) (at m n : ℕ) → n ≤ m → take n (slice_range xs at (at + m)) ≡ slice_range xs at (at + n)
@@ -28,4 +28,4 @@ copied_front xs at n ws le within fresh = let start : at ≡ at + 0 = omega arit
 
 pub resized_copy : (xs : List ℕ) (at m n k : ℕ) → at + m ≤ length xs → (m ≤ n → k ≡ m) → (n ≤ m → k ≡ n)
     → slice_range xs at (at + k) ++ zeros (n - k) ≡ resized n (slice_range xs at (at + m))
-resized_copy xs at m n k within shorter longer = grind (arith, cases_lt, length-range, resized_longer, append-nil, resized_shorter)
+resized_copy xs at m n k within shorter longer = grind (arith, length-range, resized_longer, append-nil, resized_shorter)

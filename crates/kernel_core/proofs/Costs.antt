@@ -14,7 +14,7 @@ after_item-present : {X : Type 0} (item : Item) (s : Scheduler X) → present (a
 after_item-present = grind (decide, total-append, length-map, length-without, total-none, total-nowhere)
 
 pub after_front-present : {X : Type 0} (s : Scheduler X) → present (after_front s) ≤ present s
-after_front-present = grind (decide, after_item-present, total-append)
+after_front-present = grind (decide, after_item-present)
 
 module _ (bound : ℕ) where
   pub costs-nil : costs bound [] ≡ 0
@@ -47,7 +47,7 @@ module _ (bound : ℕ) where
   paid_item : {X : Type 0} (item : Item) (s : Scheduler X) (items : List Item) → length s.processes ≤ bound →
       IsPaid bound (job_of_item item s) (cost bound item + costs bound items)
       (costs bound (after_item item (record s { agenda = items })).agenda)
-  paid_item = grind (decide, length-map, costs-cons, costs-nil, costs-append, costs-delivery, costs-polls)
+  paid_item = grind (decide, length-map, costs-cons, costs-append, costs-delivery, costs-polls)
 
   pub paid : {X : Type 0} (s : Scheduler X) → present s ≤ bound
       → IsPaid bound (job s) (costs bound s.agenda) (costs bound (after_front s).agenda)
@@ -59,7 +59,7 @@ module _ (bound : ℕ) where
   job_is_paid s after next h (n, asks, works) =
       let r = after_items-keep (λ t. (costs bound t.agenda ≤ costs bound s.agenda) × (present t ≤ present s))
       (λ t none so_far. (
-        omega (arith, rw none at (paid t (omega (arith, so_far.1, h))), so_far.0),
+        omega (arith, rw none at (paid t (omega (arith, so_far.1, h)))),
         omega
             (arith, after_front-present t, so_far.1),
       )) n s (omega arith, omega arith) in

@@ -1,19 +1,16 @@
 -- The number of arming numbers that the agenda will draw.
-use Rattle.kernel_core.proofs.Common.{decide, All-head, All-tail, IsDistinct, AllByRecursion, Event, Stimulus, Origin, EXITED, number_event, Queued, Item, Job, Process, numbers, without, IsDistinct-head, IsDistinct-tail, Scheduler, after_front_of, job_at, job_of_item, job_of_event, after_item, delivery, ComesTo, draws, draws_of_event, draws_of_job, IsQueueable, IsQueueableJob}
-use Rattle.std.proofs.Common.{◌≡◌, ℕ, ◌+◌, ◌≤◌, false, List, [], ◌∷◌, refl, arith, All, Option, Some, None, map, slice_get, drop, ◌==◌, eqb}
+use Rattle.kernel_core.proofs.Common.{decide, All-head, All-tail, IsDistinct, AllByRecursion, Stimulus, Origin, EXITED, number_event, Queued, Item, Job, Process, numbers, without, IsDistinct-head, IsDistinct-tail, Scheduler, after_front_of, job_at, job_of_item, job_of_event, after_item, delivery, ComesTo, draws, draws_of_job, IsQueueable, IsQueueableJob}
+use Rattle.std.proofs.Common.{◌≡◌, ℕ, ◌+◌, ◌≤◌, false, List, [], ◌∷◌, refl, arith, All, Option, Some, None, map, slice_get, drop, eqb}
 use Rattle.process_core.specs.Requests.{ended, killed_by}
 use Rattle.kernel_core.proofs.Repeating.{after_items-keep}
 use Rattle.kernel_core.proofs.Totals.{total-append, total-none, total-nowhere}
-
-draws_of_event-none : (p : ℕ) (event : Event) → (event.code == EXITED) ≡ false → draws_of_event p event ≡ 0
-draws_of_event-none = grind decide
 
 module _ (drawn : ℕ) where
   draws-delivery : (ns : List ℕ) (events : List (Queued ℕ)) → All (IsQueueable drawn) events
       → draws (delivery ns (slice_get events 0)) ≡ 0
   draws-delivery ns [] fit = refl
   draws-delivery ns (event ∷ events) fit =
-      grind (decide, total-nowhere, draws_of_event-none, All-head (IsQueueable drawn) event events fit)
+      grind (decide, total-nowhere, All-head (IsQueueable drawn) event events fit)
 
   pub all_fit_rest : (events : List (Queued ℕ)) → All (IsQueueable drawn) events → All (IsQueueable drawn) (drop 1 events)
   all_fit_rest [] fit = fit
@@ -48,7 +45,7 @@ module _ (drawn : ℕ) where
 
     after_front_of-draws : s.agenda ≡ agenda → All (IsQueueable drawn) s.events
         → draws (after_front_of agenda s).agenda + draws_asked (job_at agenda s) ≤ draws agenda
-    after_front_of-draws = grind (decide, total-append, after_item-draws)
+    after_front_of-draws = grind (decide, after_item-draws)
 
     fit_asked : All (IsQueueable drawn) s.events → IsQueueableAsked (job_at agenda s)
     fit_asked = grind (decide, fit_delivery)
@@ -58,7 +55,6 @@ module _ (drawn : ℕ) where
   job_is_fit s after next fit (n, asks, works) =
       grind (
         decide,
-        after_front_of-draws,
         fit_after_front_of,
         fit_asked,
         after_items-keep (λ t. All (IsQueueable drawn) t.events × (draws t.agenda ≤ draws s.agenda))
@@ -74,7 +70,7 @@ module _ (p : ℕ) where
 
   none_told : (k : ℕ) (list : List Process) → AllByRecursion (λ y. eqb k y ≡ false) (numbers list) → k ≡ 1 → draws (told list) ≡ 0
   none_told k [] none one = refl
-  none_told k (process ∷ list) none one = grind (decide, none.0, draws, none_told k list none.1 one)
+  none_told k (process ∷ list) none one = grind (decide, draws, none_told k list none.1 one)
 
   -- ctimer is on the list once, so it is notified once
   pub one_told : (list : List Process) → IsDistinct eqb (numbers list) → draws (told list) ≤ 4
@@ -82,7 +78,6 @@ module _ (p : ℕ) where
   one_told (process ∷ list) distinct =
       grind (
         decide,
-        draws,
         one_told list (IsDistinct-tail eqb process.number (numbers list) distinct),
         none_told process.number list
             (IsDistinct-head eqb process.number (numbers list) distinct),

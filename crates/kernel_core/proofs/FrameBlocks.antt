@@ -1,13 +1,9 @@
 -- Held frames, and the blocks with their bytes.
-use Rattle.kernel_core.proofs.Common.{decide, list_any, list_any-append, AllByRecursion, IsDistinct, option_map, get_or-replicate, IsDistinct-head, Call, Memory, fresh_memory, HoldsFrames}
-use Rattle.std.proofs.Common.{◌≡◌, ◌≢◌, ◌∙◌, ℕ, Bool, true, false, List, [], ◌∷◌, ◌++◌, ap, arith, refl, if◌then◌else◌, ◌<◌, ◌≤◌, Option, Some, None, eqb, map, is_some, ◌==◌, slice_get, drop}
+use Rattle.kernel_core.proofs.Common.{decide, list_any, list_any-append, AllByRecursion, IsDistinct, option_map, IsDistinct-head, Memory, HoldsFrames}
+use Rattle.std.proofs.Common.{◌≡◌, ◌≢◌, ℕ, Bool, true, false, List, [], ◌∷◌, ◌++◌, arith, refl, if◌then◌else◌, ◌<◌, Option, Some, None, eqb, map, is_some, ◌==◌, slice_get, drop}
 use Rattle.device_core.specs.declared.frame.Frame.{Frame}
 use Rattle.node_memory.specs.Code.Conditions.{frame_in}
-use Rattle.node_memory.specs.declared.sizes.Sizes.{Sizes}
-use Rattle.mote_types.specs.declared.reply.Reply.{Reply}
-use Rattle.node_memory.proofs.Others.{leaves-asked}
-use Rattle.node_memory.specs.Code.Ask.{ask}
-use Rattle.node_memory.specs.Code.Separation.{BlockName, LeavesOthers, changed_block, frame_block}
+use Rattle.node_memory.specs.Code.Separation.{BlockName, LeavesOthers, frame_block}
 
 abbrev has_slot : ℕ → Frame → Bool
 has_slot slot frame = frame.slot == slot
@@ -20,28 +16,7 @@ front_is_live memory (frame ∷ frames) slot holds below e = grind decide
 same_frame : (changed : Option BlockName) (old new : Memory) (slot : ℕ) → LeavesOthers changed old new → slot < 8
     → changed ≢ Some (frame_block slot)
     → frame_in slot new ≡ frame_in slot old
-same_frame changed old new slot leaves below other = leaves (frame_block slot) (omega arith, omega arith, omega (arith, below)) other
-
--- an application's call changes no frame's block
-ask_elsewhere : (call : Call) (p slot : ℕ) (m : Memory) → 4 ≤ p → changed_block call p m ≢ Some (frame_block slot)
-ask_elsewhere = grind decide
-
-pub frames_after_ask : (call : Call) (p : ℕ) (old new : Memory) (frames : List Frame) → 4 ≤ p
-    → LeavesOthers (changed_block call p old) old new → HoldsFrames old frames → HoldsFrames new frames
-frames_after_ask call p old new frames least leaves holds = record {
-  live = λ slot below. ap is_some (same_frame (changed_block call p old) old new slot leaves below (ask_elsewhere call p slot old least))
-      ∙ holds.live slot below;
-}
-
--- a managed block of an application changes
-pub frames_after_block : (h p : ℕ) (old new : Memory) (frames : List Frame) → 4 ≤ p
-    → LeavesOthers (Some (BlockName.Managed p h)) old new → HoldsFrames old frames → HoldsFrames new frames
-frames_after_block h p old new frames least leaves holds = frames_after_ask (Call.MmemFree h) p old new frames least leaves holds
-
-pub frames_after_asked : (call : Call) (p : ℕ) (old new : Memory) (reply : Reply) (frames : List Frame) → 4 ≤ p → p ≤ 19
-    → ask call p old ≡ (new, reply) → HoldsFrames old frames → HoldsFrames new frames
-frames_after_asked call p old new reply frames least most asked holds =
-    frames_after_ask call p old new frames least (leaves-asked call p old new reply (omega (arith, least), most) asked) holds
+same_frame changed old new slot leaves below other = leaves (frame_block slot) (omega arith, omega arith, omega arith) other
 
 other_slot : (slot s : ℕ) → (slot == s) ≡ false → Some (frame_block slot) ≢ Some (frame_block s)
 other_slot = grind decide
@@ -52,19 +27,19 @@ slots_of frames = map (λ (frame : Frame). frame.slot) frames
 none_has : (slot s : ℕ) (frames : List Frame) → AllByRecursion (λ y. eqb slot y ≡ false) (slots_of frames) → (slot == s) ≡ true
     → list_any (has_slot s) frames ≡ false
 none_has slot s [] apart is = refl
-none_has slot s (frame ∷ frames) apart is = grind (decide, apart.0, none_has slot s frames apart.1 is)
+none_has slot s (frame ∷ frames) apart is = grind (decide, none_has slot s frames apart.1 is)
 
 -- the block of one frame changes
 module _ (slot : ℕ) (old new : Memory) (leaves : LeavesOthers (Some (frame_block slot)) old new) where
   frame_now : (s : ℕ) (test : Bool) → s < 8 → (slot == s) ≡ test → frame_in s new ≡ (if test then frame_in slot new else frame_in s old)
-  frame_now s true few e = let here : slot ≡ s = grind (arith, e) in rw here refl
+  frame_now s true few e = grind arith
   frame_now s false few e = same_frame (Some (frame_block slot)) old new s leaves few (other_slot slot s e)
 
   -- a frame was stored
   pub frames_after_taken : (len : ℕ) (bytes : List ℕ) (frames : List Frame) → frame_in slot new ≡ Some bytes → HoldsFrames old frames
       → HoldsFrames new (frames ++ record { slot = slot; len = len } ∷ [])
   frames_after_taken len bytes frames held holds = record {
-    live = λ s few. (grind (decide, list_any-append, holds.live s few, frame_now s (slot == s) few refl));
+    live = λ s few. (grind (decide, list_any-append, frame_now s (slot == s) few refl));
   }
 
   -- the front frame was dropped
@@ -76,6 +51,3 @@ module _ (slot : ℕ) (old new : Memory) (leaves : LeavesOthers (Some (frame_blo
     live = λ s few. (let now = frame_now s (slot == s) few refl in grind
         (decide, none_has front.slot s frames (IsDistinct-head eqb front.slot (slots_of frames) distinct), holds.live s few));
   }
-
-pub no_frames : (sizes : Sizes) → HoldsFrames (fresh_memory sizes) []
-no_frames sizes = grind (decide, get_or-replicate)

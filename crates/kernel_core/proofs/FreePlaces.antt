@@ -24,7 +24,7 @@ none_free = grind (arith, places_of, times_none)
 
 module _ {change : Machine → Machine} {is_posted : Bool} {k new : KernelFields} (posts : PostsOne change is_posted k new) where
   pub made_once : has_room k.scheduler.state ≡ true → is_posted ≡ true → for_each change new ≡ for_each change k
-  made_once room is = grind (arith, place_taken, times_next, posts.posted is, posts.machine)
+  made_once room is = grind (arith, place_taken, times_next)
 
   pub none_made : is_posted ≡ false → machine_of new ≡ for_each change k
-  none_made is = grind (arith, times_same, posts.nothing is, posts.machine)
+  none_made is = grind (arith, times_same)

@@ -61,11 +61,11 @@ module _ (codes : List ℕ) where
 
   draws_behind : (items : List Item) → draws (behind_kernel_receivers codes items) ≤ draws items
   draws_behind (Item.Polls ∷ Item.Give p origin (Stimulus.Event event) ∷ items) =
-      grind (decide, draws, draws_behind items)
+      grind (decide, draws_behind items)
   draws_behind _ = omega arith
 
 pub present_passed : (s : Scheduler ℕ) → present (kernel_receivers_passed kernel_events s) ≡ present s
 present_passed s = grind (arith, starts_behind kernel_events s.agenda)
 
 pub order_passed : (k : KernelFields) → IsInOrder k → IsInOrder (passed k)
-order_passed k order = grind (decide, order.draws, draws, draws_behind)
+order_passed k order = grind (decide, draws_behind)

@@ -20,7 +20,7 @@ idle_carrying f s idle = simp length-map idle
 pub order_polled : (k : KernelFields) → IsInOrder k → (k.work == work_limit) ≡ false
     → IsInOrder (record k { work = k.work + 1; scheduler = record k.scheduler { state = polled_alone 0 k.scheduler.state } })
 order_polled k order room = record {
-  work = grind (decide, room, order.work);
+  work = grind decide;
   applications = order.applications;
   few = order.few;
   idle = order.idle;
@@ -29,7 +29,7 @@ order_polled k order room = record {
   events = order.events;
   frames = order.frames;
   owners = order.owners;
-  draws = omega (arith, order.draws);
+  draws = omega arith;
 }
 
 module _ (answers : Answers) where
@@ -39,8 +39,7 @@ module _ (answers : Answers) where
       → GoesSilently answers (machine_of k)
       (machine_of (record k { work = k.work + 1; scheduler = awaiting_nothing (polled_alone 0 k.scheduler.state) }))
   poll_passed k running shown room none lone =
-      let begun = record k { scheduler = awaiting_nothing lone.begun } in
-      let counted = record begun { work = k.work + 1 } in
+      let counted = record (record k { scheduler = awaiting_nothing lone.begun }) { work = k.work + 1 } in
       let served = record counted { scheduler = awaiting_nothing lone.served } in
       goes_on (job_silently (then_job (job_silently (fields_reach answers k
       (awaiting_nothing lone.begun) Job.Round running shown lone.round) (rw room refl))

@@ -33,10 +33,9 @@ pub posted_all : (m : Machine) (k : KernelFields) → machine_of k ≡ times (fr
     → has_room k.scheduler.state ≡ true
     → machine_of k ≡ post_due m
 posted_all m k same room =
-    let filled = full post_first_due is_any_due due_takes due_stops m in
     let free =
     sym (ap (λ (after : Machine). has_room after.scheduler) same) ∙ (room_of k ∙ room) in
-    same ∙ grind decide
+    same ∙ grind (decide, full post_first_due is_any_due due_takes due_stops m)
 
 abbrev is_news : Machine → Bool
 is_news m = has_news m.packets

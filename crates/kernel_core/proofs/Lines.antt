@@ -1,5 +1,5 @@
 -- The lines in the ring, one after another.
-use Rattle.kernel_core.proofs.Common.{decide, list_any, after_first, option_map, is_line_end, line_of, next_line, after_line, Machine, with_serial, line_served, serve_line, post_continue, broadcast_line, times, machine_of, KernelFields}
+use Rattle.kernel_core.proofs.Common.{decide, list_any, after_first, option_map, is_line_end, line_of, next_line, after_line, Machine, with_serial, serve_line, post_continue, broadcast_line, times, machine_of, KernelFields}
 use Rattle.std.proofs.Common.{◌≡◌, ℕ, suc, true, false, List, [], ◌∷◌, refl, Some, None, filter, length}
 use Rattle.arrayvec.specs.ArrayVec.{ArrayVec}
 use Rattle.kernel_core.proofs.Repeating.{times_next, times_same, times_none}
@@ -15,10 +15,6 @@ one_line_less : (ring : List ℕ) → list_any is_line_end ring ≡ true → end
 one_line_less [] some = absurd (cc)
 one_line_less (byte ∷ ring) some = grind (decide, one_line_less ring)
 
-running_serve : (m : Machine) → m.is_serial_waiting ≡ false
-    → serve_line m ≡ line_served (next_line m.serial) (with_serial (after_line m.serial) m)
-running_serve = grind decide
-
 abbrev pub all_served : KernelFields → Machine
 all_served k = times (suc (length (filter is_line_end k.serial.ring))) serve_line (machine_of k)
 
@@ -28,11 +24,11 @@ module _ (k : KernelFields) where
         → new.serial ≡ after_line k.serial
         → machine_of new ≡ post_continue (broadcast_line line.items (with_serial (after_line k.serial) (machine_of k)))
         → all_served new ≡ all_served k
-    one_served = grind (decide, one_line_less, running_serve, times_next)
+    one_served = grind (decide, one_line_less, times_next)
 
   pub waits_served : k.serial_waits ≡ true → machine_of k ≡ all_served k
   waits_served = grind (decide, times_same)
 
   pub none_served : k.serial_waits ≡ false → None ≡ option_map line_of (next_line k.serial)
       → with_serial (after_line k.serial) (machine_of k) ≡ all_served k
-  none_served = grind (decide, no_line, times_next, times_none, running_serve)
+  none_served = grind (decide, no_line, times_next, times_none)

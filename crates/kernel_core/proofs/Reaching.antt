@@ -1,15 +1,11 @@
 -- Jobs of the scheduler, as steps of the kernel's machine.
-use Rattle.std.proofs.Common.{◌≡◌, ◌≤◌, ℕ, false, ◌∷◌, ◌∙◌, refl, ap, arith, None, Some, Bool, true, ◌+◌, ◌-◌, ◌*◌, if◌then◌else◌}
-use Rattle.kernel_core.proofs.Common.{Entry, Item, Job, job_carrying, SchedulerView, ComesTo, Armings, KernelFields, Machine, shown_first, Answers, silent, job_done, work_limit, MakesEntry, GoesSilently, machine_of, no_pending_entries, pending_items, is_cancelled, ComesToJob}
+use Rattle.std.proofs.Common.{◌≡◌, ◌≤◌, ℕ, false, ◌∷◌, ◌∙◌, refl, arith, None, Some}
+use Rattle.kernel_core.proofs.Common.{Entry, Item, Job, job_carrying, SchedulerView, ComesTo, Armings, KernelFields, Machine, shown_first, Answers, silent, job_done, MakesEntry, GoesSilently, machine_of, no_pending_entries, pending_items, is_cancelled, ComesToJob}
 use Rattle.kernel_core.specs.Code.Pending.{Pending}
 use Rattle.kernel_core.proofs.Silent.{goes_on, items_silently, job_reached, silent_step, silently_here}
 use Rattle.process_core.specs.Code.Yields.{Yields}
 use Rattle.kernel_core.specs.Code.OpenTurns.{HasWorked}
-use Rattle.kernel_core.specs.Code.Steps.{GoesOn, stepped}
-use Rattle.kernel_core.specs.Code.Pending.{pending_count}
-use Rattle.kernel_core.specs.Code.View.{entries_left_in, mote_of}
-use Rattle.kernel_core.specs.Code.Conditions.{TakesEntry}
-use Rattle.kernel_core.specs.Mote.{Mote}
+use Rattle.kernel_core.specs.Code.Steps.{GoesOn}
 use Rattle.kernel_core.specs.declared.step.Step.{Step}
 use Rattle.kernel_core.specs.declared.step.StepOutcome.{StepOutcome}
 use Rattle.kernel_core.specs.declared.turn.Turn.{Turn}
@@ -51,43 +47,19 @@ module _ {answers : Answers} where
   entry_comes_first entry m new same running =
       record { last = shown_first entry m; before = silently_here (shown_first entry m); makes = rw (← same, running) refl }
 
-  pub makes_after : {a b c : Machine} {entry : Entry} → GoesSilently answers a b → MakesEntry answers b entry c → MakesEntry answers a entry c
+  pub makes_after : {a b c : Machine} {entry : Entry} → GoesSilently answers a b → MakesEntry answers b entry c
+      → MakesEntry answers a entry c
   makes_after first later = record { last = later.last; before = goes_on first later.before; makes = later.makes }
 
   pub goes_after : (a b c : Machine) (step : Step) → b.is_halted ≡ false → GoesSilently answers a b → GoesOn answers b step c
       → GoesOn answers a step c
   goes_after a b c (Step.Entry entry) running first later = makes_after first later
   goes_after a b c Step.Rest running first later = record { before = goes_on first later.before; at_rest = later.at_rest }
-  goes_after a b c Step.Halted running first later = let halted = later.0 in absurd (cc)
-
-takes_from : (step : Step) (old between new : Mote) → between.entries_left ≤ old.entries_left → TakesEntry step between new
-    → TakesEntry step old new
-takes_from (Step.Entry entry) old between new less taken = omega (arith, less, taken)
-takes_from Step.Rest old between new less taken = tt
-takes_from Step.Halted old between new less taken = tt
-
-left_from : (halted : Bool) (less more pending : ℕ) → less ≤ more
-    → (if halted then 0 else 1 + 2 * (work_limit - more) + pending) ≤ (if halted then 0 else 1 + 2 * (work_limit - less) + pending)
-left_from true less more pending h = omega arith
-left_from false less more pending h = omega (arith, h)
+  goes_after a b c Step.Halted running first later = cc
 
 -- work that continues after only the scheduler and the work count changed
 pub worked_after : {outcome : StepOutcome} {turn : Turn} {before other : Entry} (old between new : KernelFields)
     → between ≡ record old { work = between.work; scheduler = between.scheduler }
     → between.scheduler.state.applications ≡ old.scheduler.state.applications → old.work ≤ between.work
     → HasWorked outcome turn before other between new → HasWorked outcome turn before other old new
-worked_after {outcome} {turn} {before} {other} old between new kept applications more worked =
-    let halted : between.halted ≡ old.halted = ap (λ (k : KernelFields). k.halted) kept in
-    let pending : between.pending ≡ old.pending = ap (λ (k : KernelFields). k.pending) kept in
-    let less : entries_left_in between ≤ entries_left_in old =
-    rw (halted, pending) (left_from old.halted old.work between.work (pending_count old.pending) more) in record {
-      room = λ is. omega (arith, less, worked.room is);
-      untold = worked.untold;
-      order = worked.order;
-      halted = rw halted at worked.halted;
-      clock = worked.clock ∙ ap (λ (k : KernelFields). k.clock) kept;
-      applications = worked.applications ∙ applications;
-      inputs = worked.inputs ∙ ap (λ (k : KernelFields). k.inputs) kept;
-      progress = takes_from (stepped outcome turn other) (mote_of old) (mote_of between) (mote_of new) less worked.progress;
-      unmade = worked.unmade;
-    }
+worked_after {outcome} {turn} {before} {other} old between new kept applications more worked = grind arith

@@ -11,6 +11,9 @@ ghost use Rattle.kernel_core.specs.Run.{Running, Runs, at_start};
 ghost use Rattle.kernel_core.specs.Code.LawfulRuns.{LawfulRuns};
 ghost use Rattle.kernel_core.specs.Laws.RunLaws.{EventsArriveInOrder};
 
+use crate::event_laws::events_arrive;
+use crate::memory_laws::memory_is_private;
+
 /// For each configuration, any applications and any inputs there is a run: after boot and after each input the machine
 /// reaches rest, or it is halted.
 pub fn run_exists()
@@ -18,7 +21,8 @@ pub fn run_exists()
         (after : Running) × Runs says (at_start config) inputs after }
 {}
 
-/// Every run of a mote that boots keeps these laws; that of events holds for any run.
+/// Every run of a mote that boots keeps these laws; that of events holds for any run. Two functions have them, so that they are proved
+/// beside each other.
 ///
 /// - `memory`: A process reads from its managed and heap blocks what its own calls put there, whatever the others do, also
 ///   where a block was moved: a read returns the block that its own turns make, a call is refused as not live exactly where
@@ -40,4 +44,8 @@ pub fn runs_keep_laws()
     ensures laws { (config : Config) → is_bootable config ≡ true → LawfulRuns config }
     ensures events { (config : Config) (says : Applications) (inputs : List Input) (after : Running)
         → Runs says (at_start config) inputs after → EventsArriveInOrder config.apps after.entries }
-{}
+{
+    run_exists();
+    memory_is_private();
+    events_arrive();
+}

@@ -9,9 +9,6 @@ IsWithin-kept kept within = grind arith
 
 module _ (pool : PoolTable) (at len : ℕ) (old new : List ℕ) (changes : ChangesOnly at len old new)
     (apart : (pool.span.at + pool.span.len ≤ at) ⊎ (at + len ≤ pool.span.at)) where
-  region_same : region_of pool new ≡ region_of pool old
-  region_same = changes.others pool.span.at pool.span.len apart
-
   link_same : link_of pool new ≡ link_of pool old
   unfolding link_of
   link_same = grind arith

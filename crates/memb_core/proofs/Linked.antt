@@ -4,9 +4,6 @@ use Rattle.memb_core.proofs.Blocks.{used_below}
 use Rattle.memb_core.proofs.Numbers.{has_at, has_cases, differ, at_most, has_left, distinct_left, had_behind, distinct_behind, without_head}
 use Rattle.memb_core.proofs.Chains.{all_along_none, all_along_is, head_named, names_agree, link_listed, names_without, names_behind}
 
-pub same_name : (a b : ListName) → (a ≡ b) ⊎ (a ≢ b)
-same_name a b = grind arith
-
 module _ (name : ListName) where
   pub start_same : (start : Option ℕ) (lists : ListHeads) → start_of name (with_start name start lists) ≡ start
   start_same start lists = grind arith

@@ -1,7 +1,6 @@
 -- Blocks that are apart share no byte of the arena, and each one's bytes are read from its part.
-use Rattle.mmem_core.proofs.Words.{◌≡◌, ◌≢◌, ℕ, ◌⊎◌, List, Option, Some, None, refl, ap, ◌∙◌, arith, option_map, cases_lt, number_of, Place, place_in, LieApart, extent_of, bytes_at_place, BlocksLieApart, HandleTable, IsWithin, region_of}
+use Rattle.mmem_core.proofs.Words.{◌≡◌, ◌≢◌, ℕ, List, Option, Some, None, refl, ap, ◌∙◌, arith, option_map, number_of, Place, place_in, LieApart, extent_of, bytes_at_place, BlocksLieApart, HandleTable, IsWithin, region_of}
 use Rattle.arena_core.specs.Code.Extents.{LiesIn, AreApart}
-use Rattle.mmem_core.proofs.PlaceLemmas.{some_size}
 use Rattle.mmem_core.proofs.StoreLemmas.{block_in, get_or-blocks}
 use Rattle.mmem_core.proofs.TableLemmas.{bytes_are}
 
@@ -11,7 +10,7 @@ module _ (table : HandleTable) (lie : LieApart table.places table.span.len) wher
 
   apart : (i j : ℕ) (one other : Place) → i ≢ j → place_in table.places i ≡ Some one → place_in table.places j ≡ Some other
       → AreApart (extent_of table one) (extent_of table other)
-  apart i j one other ne live live' = grind (arith, some_size, cases_lt)
+  apart i j one other ne live live' = grind arith
 
   module _ (bytes : List ℕ) (within : IsWithin table bytes) where
     read : (i : ℕ) (place : Option Place) → place_in table.places i ≡ place

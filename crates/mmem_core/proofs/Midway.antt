@@ -1,5 +1,5 @@
 -- The table and the arena while the blocks slide together, one after the other.
-use Rattle.mmem_core.proofs.Words.{◌≡◌, ℕ, ◌+◌, ◌-◌, ◌≤◌, ◌<◌, ◌^◌, inl, inr, min, length, get_or, slice_set, slice_range, Option, Some, None, sym, ap, ◌∙◌, arith, IfSome, IsSome, cases_eq, cases_lt, get_or-set_same, get_or-set_other, length-set, up4, Contents, contents, written, Place, unused, place_in, last_end, room_moved, AreShared, at_of, room_of, end_at, LieApart, Names, IsEntry, IsNext, IsLinked, IsLaidOut, HandleTable, store_of, KeepsToSpan, CountsMoved}
+use Rattle.mmem_core.proofs.Words.{◌≡◌, ℕ, ◌+◌, ◌-◌, ◌≤◌, ◌<◌, ◌^◌, inl, inr, min, length, get_or, slice_set, slice_range, Option, Some, None, ap, ◌∙◌, arith, IfSome, IsSome, cases_eq, cases_lt, get_or-set_same, get_or-set_other, length-set, up4, Contents, contents, written, Place, unused, place_in, last_end, room_moved, AreShared, at_of, room_of, end_at, LieApart, Names, IsEntry, IsNext, IsLinked, IsLaidOut, HandleTable, store_of, KeepsToSpan, CountsMoved}
 use Rattle.mmem_core.specs.declared.mmem.Mmem.TheInside.{Inside}
 use Rattle.mmem_core.proofs.PlaceLemmas.{placed, len_le_room, live_from_room, live_below, bytes_moved-same, bytes_moved-set, room_moved-same}
 use Rattle.mmem_core.proofs.RingLemmas.{shown, hidden, ends, next_below, linked_slid}
@@ -47,7 +47,7 @@ module _ {old now : Inside} {before after : Contents} {next : Option ℕ} {numbe
   next_block = rw named.0 (links.next midway.last midway.entry)
 
   some_live : 0 < room_of (place_in now.places number)
-  some_live = grind (arith, next_block, named)
+  some_live = grind (arith, next_block)
 
   pub is_live : IsSome (place_in now.places number)
   is_live = live_from_room (place_in now.places number) some_live
@@ -57,10 +57,10 @@ module _ {old now : Inside} {before after : Contents} {next : Option ℕ} {numbe
 
   module _ {place : Place} (live : place_in now.places number ≡ Some place) where
     pub down : end ≤ place.at
-    down = grind (arith, next_block, named, midway.ended)
+    down = grind (arith, next_block)
 
     lowest : (j : ℕ) → 0 < room_of (place_in now.places j) → end ≤ at_of (place_in now.places j) → place.at ≤ at_of (place_in now.places j)
-    lowest j some behind = grind (arith, next_block.lowest j, midway.ended)
+    lowest j some behind = grind (arith, next_block.lowest j)
 
     pub inside : place.at + up4 place.len ≤ now.span.len
     inside = grind arith
@@ -83,14 +83,11 @@ module _ {old now : Inside} {before after : Contents} {next : Option ℕ} {numbe
         let long = live_below now.places number place live in
         let new_number = get_or-set_same now.places number lowered None long in
         let first = midway.untouched number (omega (arith, down, ap at_of live)) in
-        let ws = slice_range after.bytes (now.span.at + place.at) (now.span.at + place.at + place.len) in
         let step = moved (table_of now) lie after.bytes midway.within number place live slid end down
         (past midway.sliding number place live down lowest) in let rest = step.rest after.carved in
         let step' : KeepsToSpan (table_of now) new after after' = grind arith in
-        let size : length after'.bytes ≡ length after.bytes = step'.bytes.size in
         let moved_more = bytes_moved-set old.places now.places number lowered long in
         let none = room_moved-same (place_in old.places number) in
-        let room = ap (λ q. room_moved q lowered) (sym first ∙ live) in
         let more = sliding_more midway.sliding number place live down lowest in
         let rooms = lowered_room midway.sliding number place live down lowest in
         record {
@@ -128,9 +125,8 @@ module _ {old now : Inside} {before after : Contents} {next : Option ℕ} {end :
 
   pub room_behind : last_end now.places + unused (store_of (table_of now) after.bytes) ≤ now.span.len
   room_behind =
-      let named : get_or now.order.behind midway.last 0 ≡ 272 = grind arith in
       let none = (shown midway.laid_out).next midway.last midway.entry in
-      let last = last_is_end midway.sliding (λ j some. grind (arith, none.lowest j, cases_lt, midway.ended)) in
+      let last = last_is_end midway.sliding (λ j some. grind (arith, cases_lt, midway.ended)) in
       omega (
         arith,
         last,

@@ -1,5 +1,5 @@
 -- How the positions change, and the space that the blocks take.
-use Rattle.mmem_core.proofs.Words.{◌≡◌, ◌≢◌, ℕ, zero, suc, ◌+◌, ◌≤◌, ◌<◌, ◌⊎◌, List, [], ◌∷◌, length, get_or, slice_set, replicate, Option, Some, None, refl, ap, arith, IsSome, IsSomeAnd, get_or-set_at, get_or-set_same, get_or-set_other, get_or_past, set-get_or, set-set, cases_eq, cases_lt, inl, inr, up4, Place, place_in, end_of, last_end, room_moved, bytes_moved, at_of, room_of, LieApart}
+use Rattle.mmem_core.proofs.Words.{◌≡◌, ◌≢◌, ℕ, zero, suc, ◌+◌, ◌≤◌, ◌<◌, ◌⊎◌, List, [], ◌∷◌, length, get_or, slice_set, replicate, Option, Some, None, refl, ap, arith, IsSome, IsSomeAnd, get_or-set_at, get_or-set_same, get_or-set_other, get_or_past, set-get_or, set-set, cases_eq, inl, inr, up4, Place, place_in, end_of, last_end, room_moved, bytes_moved, at_of, room_of, LieApart}
 
 abbrev pub placed : ℕ → ℕ → Option Place
 placed at len = Some (record { at = at; len = len })
@@ -20,10 +20,10 @@ LieApart-none n size = grind (arith, place_in-none)
 
 module _ (places : List (Option Place)) (i : ℕ) where
   pub room_below : 0 < room_of (place_in places i) → i < length places
-  room_below some = grind (arith, cases_lt, get_or_past)
+  room_below some = grind (arith, get_or_past)
 
   pub live_below : (place : Place) → place_in places i ≡ Some place → i < length places
-  live_below place live = grind (arith, cases_lt, get_or_past)
+  live_below place live = grind (arith, get_or_past)
 
 pub live_from_room : (p : Option Place) → 0 < room_of p → IsSome p
 live_from_room p h = grind arith
@@ -41,9 +41,9 @@ module _ (xs : List (Option Place)) (i : ℕ) (p : Option Place) (below : i < le
       → (at_of p + room_of p ≤ at_of (place_in xs j)) ⊎ (at_of (place_in xs j) + room_of (place_in xs j) ≤ at_of p))
       → LieApart (slice_set xs i p) size
   LieApart-set size lie inside some clear = record {
-    inside = λ j. grind (arith, lie.inside j, entry j);
-    apart = λ j k ne one other le. grind (arith, clear j, clear k, lie.apart j k ne, entry k, entry j);
-    no_empty = λ j live. grind (arith, some, lie.no_empty j, entry j);
+    inside = λ j. grind (arith, entry j);
+    apart = λ j k ne one other le. grind (arith, entry k, entry j);
+    no_empty = λ j live. grind (arith, entry j);
   }
 
 end_is : (p : Option Place) → end_of p ≡ at_of p + room_of p
@@ -75,14 +75,11 @@ module _ (places : List (Option Place)) (i n : ℕ) (below : i < length places) 
 pub LieApart-freed : (places : List (Option Place)) (size i : ℕ) → i < length places → LieApart places size
     → LieApart (slice_set places i None) size
 LieApart-freed places size i below lie = LieApart-set places i None below size lie (omega arith) (λ some. absurd (some refl))
-    (λ j ne none _. absurd (omega (arith, none)))
+    (λ j ne none _. absurd (omega arith))
 
 -- a block of a table, and the other ones
 module _ (places : List (Option Place)) (size i : ℕ) (place : Place) (lie : LieApart places size)
     (live : place_in places i ≡ Some place) where
-  pub some_size : 0 < up4 place.len
-  some_size = grind arith
-
   -- each other block is before or after it
   pub sides : (j : ℕ) → j ≢ i → (at_of (place_in places j) + room_of (place_in places j) ≤ place.at)
       ⊎ (place.at + up4 place.len ≤ at_of (place_in places j))

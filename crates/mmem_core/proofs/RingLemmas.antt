@@ -4,7 +4,7 @@ use Rattle.mmem_core.proofs.PlaceLemmas.{placed, place_in-none, room_below, end_
 
 no_entry : (i : ℕ) → IsEntry (replicate 272 None) i → i ≡ 272
 no_entry i (inl e) = e
-no_entry i (inr some) = absurd (omega (arith, ap room_of (place_in-none 272 i), some))
+no_entry i (inr some) = absurd (omega (arith, ap room_of (place_in-none 272 i)))
 
 pub no_links : IsLinked (replicate 272 None) (record { before = replicate 273 272; behind = replicate 273 272 })
 no_links = record {
@@ -13,11 +13,11 @@ no_links = record {
   entries_behind = grind arith;
   next = λ i entry. rw (no_entry i entry) (record {
     entry = inl ends;
-    lowest = λ j some _. absurd (omega (arith, ap room_of (place_in-none 272 j), some));
+    lowest = λ j some _. absurd (omega (arith, ap room_of (place_in-none 272 j)));
   });
-  back = λ i entry. grind (arith, ends, no_entry i entry);
+  back = λ i entry. grind (arith, no_entry i entry);
   last = λ i entry. rw (no_entry i entry) (inl ends);
-  forth = λ i entry. grind (arith, ends, no_entry i entry);
+  forth = λ i entry. grind (arith, no_entry i entry);
 }
   where
     ends : get_or {A = ℕ} (replicate 273 272) 272 0 ≡ 272
@@ -37,10 +37,10 @@ module _ {places : List (Option Place)} {order : Order} (linked : IsLinked place
   ends = grind (arith, get_or_past)
 
   pub entry_below : (i : ℕ) → IsEntry places i → i ≤ 272
-  entry_below i entry = grind (arith, room_below, linked.names)
+  entry_below i entry = grind (arith, room_below)
 
   pub next_below : (i : ℕ) → IsEntry places i → get_or order.behind i 0 ≤ 272
-  next_below i entry = grind (arith, room_below, linked.names, linked.next i)
+  next_below i entry = grind (arith, room_below)
 
   pub last_below : get_or order.before 272 0 ≤ 272
   last_below = grind (arith, entry_below)
@@ -48,8 +48,8 @@ module _ {places : List (Option Place)} {order : Order} (linked : IsLinked place
   -- the last block ends at the greatest end
   pub last_is : (size : ℕ) → LieApart places size → last_end places ≡ end_at places (get_or order.before 272 0)
   last_is size lie =
-      let last = get_or order.before 272 0 in let forth = linked.forth 272 (inl refl) in
-      let each : (i : ℕ) → at_of (place_in places i) + room_of (place_in places i) ≤ end_at places last =
+      let last = get_or order.before 272 0 in let each : (i : ℕ)
+      → at_of (place_in places i) + room_of (place_in places i) ≤ end_at places last =
       λ i. grind (
         arith,
         (linked.next last (linked.last 272 (inl refl))).lowest i,
@@ -58,7 +58,7 @@ module _ {places : List (Option Place)} {order : Order} (linked : IsLinked place
         lie.apart last i,
         cases_lt,
       ) in
-      grind (arith, last_le, end_le_last)
+      grind (arith, last_le, end_le_last, linked.forth 272 (inl refl))
 
 -- blocks that slide keep their order
 module _ {xs ys : List (Option Place)} {size size' : ℕ} (lie : LieApart xs size) (lie' : LieApart ys size')
@@ -79,7 +79,7 @@ module _ {xs ys : List (Option Place)} {size size' : ℕ} (lie : LieApart xs siz
 
   pub linked_slid : {order : Order} → IsLinked xs order → IsLinked ys order
   linked_slid {order} linked =
-      let none = ends linked in let none' = get_or_past ys 272 None (omega (arith, same, linked.names)) in
+      let none' = get_or_past ys 272 None (omega (arith, linked.names)) in
       let was : (i : ℕ) → IsEntry ys i → IsEntry xs i = grind arith in
       let is : (i : ℕ) → IsEntry xs i → IsEntry ys i = grind arith in
       record {
@@ -88,7 +88,7 @@ module _ {xs ys : List (Option Place)} {size size' : ℕ} (lie : LieApart xs siz
         entries_behind = linked.entries_behind;
         next = λ i entry. record {
           entry = grind (arith, stays_behind, rooms);
-          lowest = λ j some behind. grind (arith, (linked.next i (was i entry)).lowest j, was_behind i j, no_higher, rooms);
+          lowest = λ j some behind. grind (arith, was_behind i j, no_higher, rooms);
         };
         back = λ i entry. linked.back i (was i entry);
         last = λ i entry. is (get_or order.before i 0) (linked.last i (was i entry));
@@ -116,11 +116,8 @@ module _ {xs : List (Option Place)} {order : Order} (links : IsLinked xs order) 
   not_new : (i : ℕ) → IsEntry xs i → i ≢ x
   not_new i entry = grind arith
 
-  last_ne : last ≢ x
-  last_ne = not_new last last_entry
-
   names : x < length xs
-  names = omega (arith, links.names)
+  names = omega arith
 
   place_x : place_in added x ≡ fresh
   place_x = get_or-set_same xs x fresh None names
@@ -132,7 +129,7 @@ module _ {xs : List (Option Place)} {order : Order} (links : IsLinked xs order) 
   behind_x = grind (arith, get_or-set_same, length-set)
 
   behind_last : get_or longer.behind last 0 ≡ x
-  behind_last = grind (arith, get_or-set_other, last_ne, get_or-set_same, last_below)
+  behind_last = grind (arith, get_or-set_other, get_or-set_same, last_below)
 
   behind_other : (i : ℕ) → i ≢ last → i ≢ x → get_or longer.behind i 0 ≡ get_or order.behind i 0
   behind_other i ne ne' = grind (arith, get_or-set_other)
@@ -150,7 +147,7 @@ module _ {xs : List (Option Place)} {order : Order} (links : IsLinked xs order) 
   was_entry i entry ne = grind (arith, place_other)
 
   is_entry : (i : ℕ) → IsEntry xs i → IsEntry added i
-  is_entry i entry = grind (arith, place_other, cases_eq)
+  is_entry i entry = grind (arith, place_other)
 
   -- except for the last one, the next entry is a block's, and not the new one's
   next_other : (i : ℕ) → IsEntry xs i → i ≢ last → (get_or order.behind i 0 ≢ 272) × (get_or order.behind i 0 ≢ x)
@@ -158,15 +155,23 @@ module _ {xs : List (Option Place)} {order : Order} (links : IsLinked xs order) 
 
   -- none is after the last one
   none_behind : (j : ℕ) → 0 < room_of (place_in xs j) → end_at xs last ≤ at_of (place_in xs j) → ⊥
-  none_behind j room behind = ((links.next last last_entry).lowest j room behind).0 (links.forth 272 (inl refl))
+  none_behind j room behind = grind arith
 
   next_added : (i : ℕ) → IsEntry added i → IsNext added (end_at added i) (get_or longer.behind i 0)
   next_added i entry = elim (cases_eq i x) [
     | inl e ↦ grind (arith, behind_x, place_x, place_other, cases_eq, end_le_last)
     | inr ne ↦ elim (cases_eq i last) [
       | inl e ↦ grind (arith, behind_last, place_x, place_other, cases_eq, end_le_last, none_behind)
-      | inr ne' ↦ let other = next_other i (was_entry i entry ne) ne' in
-          grind (arith, behind_other, place_x, place_other, cases_eq, end_le_last, (links.next i (was_entry i entry ne)).lowest)
+      | inr ne' ↦ grind (
+        arith,
+        behind_other,
+        place_x,
+        place_other,
+        cases_eq,
+        end_le_last,
+        (links.next i (was_entry i entry ne)).lowest,
+        next_other i (was_entry i entry ne) ne',
+      )
     ]
   ]
 
@@ -180,8 +185,7 @@ module _ {xs : List (Option Place)} {order : Order} (links : IsLinked xs order) 
       | inl e ↦ grind (arith, behind_x, before_ends)
       | inr ne ↦ elim (cases_eq i last) [
         | inl e ↦ grind (arith, behind_last, before_x)
-        | inr ne' ↦ let was = was_entry i entry ne in let other = next_other i was ne' in let back = links.back i was in
-            grind (arith, behind_other, before_other)
+        | inr ne' ↦ let was = was_entry i entry ne in grind (arith, behind_other, before_other, next_other i was ne')
       ]
     ];
     last = λ i entry. elim (cases_eq i x) [
@@ -230,9 +234,6 @@ module _ {xs : List (Option Place)} {order : Order} {size : ℕ} (chain : IsLink
   after_lower : get_or order.behind lower 0 ≡ x
   after_lower = chain.forth x (inr live)
 
-  before_higher : get_or order.before higher 0 ≡ x
-  before_higher = chain.back x (inr live)
-
   lower_entry : IsEntry xs lower
   lower_entry = chain.last x (inr live)
 
@@ -240,10 +241,10 @@ module _ {xs : List (Option Place)} {order : Order} {size : ℕ} (chain : IsLink
   next = chain.next x (inr live)
 
   higher_ne : higher ≢ x
-  higher_ne = grind (arith, next.entry, below, chain.names)
+  higher_ne = grind (arith, below)
 
   lower_ne : lower ≢ x
-  lower_ne = grind (arith, higher_ne, after_lower)
+  lower_ne = grind (arith, higher_ne)
 
   pub lower_below : lower ≤ 272
   lower_below = entry_below chain lower lower_entry
@@ -264,10 +265,10 @@ module _ {xs : List (Option Place)} {order : Order} {size : ℕ} (chain : IsLink
   before_else i ne = grind (arith, get_or-set_other)
 
   left_live : (i : ℕ) → 0 < room_of (place_in left i) → (i ≢ x) × (place_in left i ≡ place_in xs i)
-  left_live i some = grind (arith, cases_eq, place_none, place_else)
+  left_live i some = grind (arith, place_none, place_else)
 
   entry_left : (i : ℕ) → IsEntry left i → (i ≢ x) × IsEntry xs i
-  entry_left i (inl e) = (omega (arith, below, chain.names), inl e)
+  entry_left i (inl e) = (omega (arith, below), inl e)
   entry_left i (inr some) = let live = left_live i some in (live.0, inr (grind arith))
 
   still_entry : (i : ℕ) → i ≢ x → IsEntry xs i → IsEntry left i
@@ -298,7 +299,7 @@ module _ {xs : List (Option Place)} {order : Order} {size : ℕ} (chain : IsLink
     next_left = elim (cases_eq i lower) [
       | inl e ↦
           let to_x : get_or order.behind i 0 ≡ x = grind arith in
-          let first' : IsNext xs (end_at xs i) x = subst (IsNext xs (end_at xs i)) to_x first in
+          let first' = subst (IsNext xs (end_at xs i)) to_x first in
           let low : end_at xs i ≤ at_of (place_in xs x) =
           elim first'.entry [ inl f ↦ absurd (omega (arith, f, below, chain.names)) | inr h ↦ h.1 ] in
           rw (ap (λ k. get_or shorter.behind k 0) e ∙ at_lower)
@@ -319,7 +320,7 @@ module _ {xs : List (Option Place)} {order : Order} {size : ℕ} (chain : IsLink
     next = next_left;
     back = λ i entry. let was = entry_left i entry in let back = chain.back i was.1 in elim (cases_eq i lower) [
       | inl e ↦ grind (arith, at_lower, at_higher)
-      | inr ne ↦ grind (arith, behind_else, before_else, before_higher)
+      | inr ne ↦ grind (arith, behind_else, before_else)
     ];
     last = λ i entry. let was = entry_left i entry in elim (cases_eq i higher) [
       | inl e ↦ rw (ap (λ k. get_or shorter.before k 0) e ∙ at_higher) (still_entry lower lower_ne lower_entry)

@@ -1,5 +1,5 @@
 -- What each process's blocks take, after a change of one position.
-use Rattle.mmem_core.proofs.Words.{rules, ◌≡◌, ◌≢◌, ℕ, zero, suc, ◌+◌, ◌-◌, ◌*◌, ◌≤◌, ◌<◌, inl, inr, List, [], ◌∷◌, length, get_or, slice_set, replicate, sum_by, Option, Some, None, refl, ap, arith, mul-suc, range_with_len, cases_eq, get_or-set_same, get_or-set_other, length-set, sum_by-cons, sum_by-set, IsName, number_of, Place, Quotas, place_in, room_of, room_by, share, Shares, AreShared}
+use Rattle.mmem_core.proofs.Words.{rules, ◌≡◌, ◌≢◌, ℕ, zero, suc, ◌+◌, ◌-◌, ◌*◌, ◌≤◌, ◌<◌, inl, inr, List, [], ◌∷◌, length, get_or, slice_set, replicate, sum_by, Option, Some, None, refl, ap, arith, range_with_len, cases_eq, get_or-set_same, get_or-set_other, length-set, sum_by-cons, sum_by-set, IsName, number_of, Place, Quotas, place_in, room_of, room_by, share, Shares, AreShared}
 use Rattle.std.proofs.lemmas.Bool.Decides.{nat_tests}
 use Rattle.mmem_core.proofs.PlaceLemmas.{get_or-same, place_in-none}
 
@@ -11,11 +11,11 @@ same_sum f g from (suc n) same = grind (arith, sum_by-cons, same_sum f g (from +
 
 sum_changed : (f g : ℕ → ℕ) (h from n : ℕ) → from ≤ h → h < from + n → ((i : ℕ) → i ≢ h → f i ≡ g i)
     → sum_by f (range_with_len from n) + g h ≡ sum_by g (range_with_len from n) + f h
-sum_changed f g h from zero low high same = absurd (omega (arith, low, high))
-sum_changed f g h from (suc n) low high same = grind (arith, sum_by-cons, cases_eq, same_sum, sum_changed f g h (from + 1) n)
+sum_changed f g h from zero low high same = absurd (omega arith)
+sum_changed f g h from (suc n) low high same = grind (arith, sum_by-cons, same_sum, sum_changed f g h (from + 1) n)
 
 room_by-none : (n p : ℕ) → room_by p (replicate n None) ≡ 0
-room_by-none n p = grind (arith, same_sum, place_in-none)
+room_by-none n p = grind (arith, place_in-none)
 
 pub none_shared : (quotas : Quotas) (size : ℕ) → ((quota : ℕ) → quotas.each ≡ Some quota → quota * quotas.owners ≤ size)
     → AreShared quotas (replicate 272 None) (replicate 17 0) 0 size
@@ -24,18 +24,18 @@ none_shared quotas size fit = search (rules, get_or-same {X = ℕ} 0, room_by-no
 
 room_by-other : (p q h : ℕ) (places : List (Option Place)) (x : Option Place) → 3 ≤ p → IsName q h → p ≢ q
     → room_by p (slice_set places (number_of q h) x) ≡ room_by p places
-room_by-other p q h places x low named other = grind (arith, same_sum, get_or-set_other)
+room_by-other p q h places x low named other = grind (arith, get_or-set_other)
 
 room_by-own : (p h : ℕ) (places : List (Option Place)) (x : Option Place) → IsName p h → number_of p h < length places
     → room_by p (slice_set places (number_of p h) x) + room_of (place_in places (number_of p h)) ≡ room_by p places + room_of x
-room_by-own p h places x named below = grind (arith, get_or-set_same, sum_changed, get_or-set_other)
+room_by-own p h places x named below = grind (arith, get_or-set_same, get_or-set_other)
 
 module _ (quota : ℕ) where
   no_share : (i : ℕ) → share quota 0 i ≡ 0
-  no_share i = grind (arith, nat_tests)
+  no_share i = grind arith
 
   later_share : (owners i : ℕ) → share quota (suc owners) (suc i) ≡ share quota owners i
-  later_share owners i = grind (arith, nat_tests)
+  later_share owners i = grind arith
 
   -- the total is at most what all may take
   sum_within : (taken : List ℕ) (owners : ℕ) → ((i : ℕ) → get_or taken i 0 ≤ share quota owners i)
@@ -45,7 +45,7 @@ module _ (quota : ℕ) where
       omega (arith, sum_by-cons (λ n. n) n taken, each 0, sum_within taken zero (λ i. omega (arith, each (suc i), no_share (suc i))))
   sum_within (n ∷ taken) (suc owners) each =
       let first : share quota (suc owners) 0 ≡ quota = grind (arith, nat_tests) in
-      let product : quota * suc owners ≡ quota + quota * owners = omega (arith, mul-suc quota owners) in
+      let product : quota * suc owners ≡ quota + quota * owners = omega arith in
       omega (
         arith,
         sum_by-cons (λ n. n) n taken,
@@ -61,7 +61,7 @@ module _ (quota : ℕ) where
   share_of_owner owners p low high = grind arith
 
   share_le : (owners i : ℕ) → share quota owners i ≤ quota
-  share_le owners i = grind (arith, nat_tests)
+  share_le owners i = grind arith
 
 module _ (quotas : Quotas) (places : List (Option Place)) (taken : List ℕ) (used size : ℕ)
     (kept : AreShared quotas places taken used size) where
@@ -76,13 +76,13 @@ module _ (quotas : Quotas) (places : List (Option Place)) (taken : List ℕ) (us
   taken_le_quota quota i each = omega (arith, shared.within quota each i, share_le quota quotas.owners i)
 
   pub taken_le_used : (i : ℕ) → i < 17 → get_or taken i 0 ≤ used
-  taken_le_used i below = omega (arith, sum_by-set (λ n. n) taken i 0 0 (omega (arith, below, shared.entries)), shared.total)
+  taken_le_used i below = omega (arith, sum_by-set (λ n. n) taken i 0 0 (omega (arith, shared.entries)), shared.total)
 
   -- what an owner may still take is free
   pub share_is_there : (quota p : ℕ) → quotas.each ≡ Some quota → 3 ≤ p → p ≤ 19 → p ≤ 2 + quotas.owners
       → used + quota ≤ size + get_or taken (p - 3) 0
   share_is_there quota p each low high owner =
-      let entry : p - 3 < length taken = omega (arith, shared.entries, low, high) in
+      let entry : p - 3 < length taken = omega (arith, shared.entries, high) in
       let all = slice_set taken (p - 3) quota in
       omega (
         arith,
@@ -100,7 +100,7 @@ module _ (quotas : Quotas) (places : List (Option Place)) (taken : List ℕ) (us
   pub rooms_kept : (new : List (Option Place)) → ((i : ℕ) → room_of (place_in new i) ≡ room_of (place_in places i))
       → AreShared quotas new taken used size
   unfolding AreShared
-  rooms_kept new same = grind (arith, shared, same_sum)
+  rooms_kept new same = grind arith
 
   module _ (p h : ℕ) (named : IsName p h) (below : number_of p h < length places) where
     pub room_le_taken : room_of (place_in places (number_of p h)) ≤ get_or taken (p - 3) 0
@@ -114,7 +114,7 @@ module _ (quotas : Quotas) (places : List (Option Place)) (taken : List ℕ) (us
           → AreShared quotas (slice_set places (number_of p h) x) (slice_set taken (p - 3) rest) left size
       unfolding AreShared
       place_shared rest left is count most =
-          grind (arith, shared, length-set, cases_eq, get_or-set_same, room_by-own, get_or-set_other, room_by-other, sum_by-set)
+          grind (arith, length-set, get_or-set_same, room_by-own, get_or-set_other, room_by-other, sum_by-set)
 
       -- a new block of an owner, with room for it
       pub block_shared : place_in places (number_of p h) ≡ None → p ≤ 2 + quotas.owners

@@ -1,6 +1,6 @@
 -- The positions while blocks slide together: of the blocks that begin at the end of the others, or after it, the lowest slides
 -- down.
-use Rattle.mmem_core.proofs.Words.{◌≡◌, ◌≢◌, ℕ, ◌+◌, ◌≤◌, ◌<◌, ◌⊎◌, inl, inr, List, [], ◌∷◌, length, slice_set, Option, Some, None, if◌then◌else◌, nat_le, nat_tests, refl, ap, arith, sum_by, sum_by-cons, sum_by-set, get_or-set_at, get_or-set_other, cases_eq, up4, Place, place_in, last_end, at_of, room_of, LieApart}
+use Rattle.mmem_core.proofs.Words.{◌≡◌, ◌≢◌, ℕ, ◌+◌, ◌≤◌, ◌<◌, ◌⊎◌, inl, inr, List, [], ◌∷◌, length, slice_set, Option, Some, None, if◌then◌else◌, nat_le, refl, ap, arith, sum_by, sum_by-cons, sum_by-set, get_or-set_at, get_or-set_other, up4, Place, place_in, last_end, at_of, room_of, LieApart}
 use Rattle.mmem_core.proofs.PlaceLemmas.{placed, LieApart-set, live_below, end_le_last, last_le}
 
 -- what the block takes, if it has not slid yet
@@ -14,18 +14,12 @@ pub record AreSliding (size total end : ℕ) (xs : List (Option Place)) : Type 0
   pub together : end + sum_by (to_slide end) xs ≤ total
   pub ends : end ≤ last_end xs
 
-to_slide-first : (p : Option Place) → to_slide 0 p ≡ room_of p
-to_slide-first p = grind (arith, nat_tests)
-
-pub sliding_first : (size : ℕ) (xs : List (Option Place)) → LieApart xs size → AreSliding size (sum_by room_of xs) 0 xs
-sliding_first size xs lie = grind (arith, ap (λ f. sum_by f xs) (λ k p. to_slide-first p k))
-
 none_to_slide : (end : ℕ) → to_slide end None ≡ 0
-none_to_slide end = grind (arith, nat_tests)
+none_to_slide end = grind arith
 
 -- a later end leaves no more to slide
 fewer_to_slide : (end more : ℕ) (p : Option Place) → to_slide (end + more) p ≤ to_slide end p
-fewer_to_slide end more p = grind (arith, nat_tests)
+fewer_to_slide end more p = grind arith
 
 fewer_in_all : (end more : ℕ) (xs : List (Option Place)) → sum_by (to_slide (end + more)) xs ≤ sum_by (to_slide end) xs
 fewer_in_all end more [] = omega arith
@@ -46,9 +40,6 @@ module _ {size total end : ℕ} {xs : List (Option Place)} (sliding : AreSliding
 
     abbrev ys : List (Option Place)
     ys = slice_set xs i lowered
-
-    at_i : at_of (place_in xs i) ≡ place.at
-    at_i = ap at_of live
 
     room_i : room_of (place_in xs i) ≡ up4 place.len
     room_i = ap room_of live
@@ -75,7 +66,7 @@ module _ {size total end : ℕ} {xs : List (Option Place)} (sliding : AreSliding
 
     moved_parted : (j : ℕ) → (at_of (place_in ys j) + room_of (place_in ys j) ≤ end + up4 place.len)
         ⊎ (end + up4 place.len ≤ at_of (place_in ys j))
-    moved_parted j = grind (arith, cases_eq, at_here, elsewhere, past, sliding.parted j)
+    moved_parted j = grind (arith, at_here, elsewhere)
 
     moved_together : end + up4 place.len + sum_by (to_slide (end + up4 place.len)) ys ≤ total
     moved_together =
@@ -96,22 +87,22 @@ module _ {size total end : ℕ} {xs : List (Option Place)} (sliding : AreSliding
         )
 
     pub lowered_down : (j : ℕ) → at_of (place_in ys j) ≤ at_of (place_in xs j)
-    lowered_down j = grind (arith, cases_eq, at_here, elsewhere, at_i)
+    lowered_down j = grind (arith, at_here, elsewhere)
 
     pub lowered_room : (j : ℕ) → room_of (place_in ys j) ≡ room_of (place_in xs j)
-    lowered_room j = grind (arith, cases_eq, at_here, elsewhere, room_i)
+    lowered_room j = grind (arith, at_here, elsewhere)
 
     pub same_total : sum_by room_of ys ≡ sum_by room_of xs
     same_total = omega (arith, sum_by-set room_of xs i lowered None below, room_i)
 
     pub lowered_order : (j k : ℕ) → 0 < room_of (place_in xs j) → at_of (place_in xs j) < at_of (place_in xs k)
         → at_of (place_in ys j) < at_of (place_in ys k)
-    lowered_order j k some less = grind (arith, cases_eq, at_here, elsewhere, at_i, past, some_room)
+    lowered_order j k some less = grind (arith, at_here, elsewhere, past, some_room)
 
     pub sliding_more : AreSliding size total (end + up4 place.len) ys
     sliding_more = record {
-      apart = LieApart-set xs i lowered below size sliding.apart (omega (arith, inside, behind)) (λ _. some_room)
-          (λ j ne _ _. elim (past j ne) [ inl low ↦ inr low | inr high ↦ inl (omega (arith, behind)) ]);
+      apart = LieApart-set xs i lowered below size sliding.apart (omega (arith, inside)) (λ _. some_room)
+          (λ j ne _ _. elim (past j ne) [ inl low ↦ inr low | inr high ↦ inl (omega arith) ]);
       parted = moved_parted;
       together = moved_together;
       ends = grind (arith, at_here, end_le_last, ap at_of (at_here i refl));

@@ -48,7 +48,7 @@ module _ (region : List ℕ) where
 
   pub size_same : (p : Option Place) → at_of p + room_of p ≤ length region → size_of (block_in region p) ≡ room_of p
   size_same None h = refl
-  size_same (Some place) h = ap up4 (length-range region place.at place.len (omega (arith, places.len_le_room place.len)))
+  size_same (Some place) h = ap up4 (length-range region place.at place.len (omega arith))
 
   -- the blocks' total is that of their positions
   pub sum_same : (xs : List (Option Place)) → ((i : ℕ) → at_of (place_in xs i) + room_of (place_in xs i) ≤ length region)

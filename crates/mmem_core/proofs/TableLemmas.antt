@@ -1,5 +1,5 @@
 -- What the handles of a table stand for, after each change of the table and the bytes.
-use Rattle.mmem_core.proofs.Words.{subst, ◌≡◌, ◌≢◌, ℕ, ◌+◌, ◌-◌, ◌≤◌, ◌⊎◌, inl, List, [], length, get_or, unwrap_or, slice_set, slice_range, sum_by, Option, Some, None, refl, sym, ap, ◌∙◌, arith, append_assoc, length-replicate, map-set, set-get_or, number_of, up4, zeros, overwritten, contents, written, length-range, written-range, range-range, changes_only, Place, ManagedStore, size_of, block_of, unused, taken_by, free, place_in, last_end, at_of, room_of, LieApart, room_by, HandleTable, store_of, region_of, IsWithin, bytes_at, KeepsToSpan}
+use Rattle.mmem_core.proofs.Words.{◌≡◌, ◌≢◌, ℕ, ◌+◌, ◌-◌, ◌≤◌, ◌⊎◌, inl, List, [], length, get_or, unwrap_or, slice_set, slice_range, sum_by, Option, Some, None, refl, sym, ap, ◌∙◌, arith, append_assoc, length-replicate, map-set, set-get_or, number_of, up4, zeros, overwritten, contents, written, length-range, written-range, range-range, changes_only, Place, ManagedStore, size_of, block_of, unused, taken_by, free, place_in, last_end, at_of, room_of, LieApart, room_by, HandleTable, store_of, region_of, IsWithin, bytes_at, KeepsToSpan}
 use Rattle.arena_core.proofs.Rows.{written_is}
 use Rattle.mmem_core.proofs.Shares.{same_sum}
 use Rattle.mmem_core.proofs.StoreLemmas.{block_in, get_or-blocks, no_place, size_same, sum_same, blocks-set, block_written}
@@ -13,7 +13,7 @@ with_place table slid i p = record table { places = slice_set table.places i p; 
 
 -- the code's facts on positions, for the table that is seen
 pub seen_apart : {kept seen : HandleTable} → kept ≡ seen → LieApart kept.places kept.span.len → LieApart seen.places seen.span.len
-seen_apart is lie = subst (λ (t : HandleTable). LieApart t.places t.span.len) is lie
+seen_apart is lie = grind arith
 
 module _ (table : HandleTable) (lie : LieApart table.places table.span.len) (B : List ℕ) (within : IsWithin table B) where
   abbrev region : List ℕ
@@ -25,14 +25,13 @@ module _ (table : HandleTable) (lie : LieApart table.places table.span.len) (B :
   pub unused_is : (used : ℕ) → sum_by room_of table.places ≡ used → unused (store_of table B) ≡ table.span.len - used
   unused_is used total =
       let long = region_length in
-      ap (λ k. table.span.len - k) (sum_same region table.places (λ j. omega (arith, lie.inside j)) ∙ total)
+      ap (λ k. table.span.len - k) (sum_same region table.places (λ j. omega arith) ∙ total)
 
   taken_by_is : (p : ℕ) → taken_by p (store_of table B) ≡ room_by p table.places
   taken_by_is p =
-      let long = region_length in
       same_sum (λ h. size_of (block_of p h (store_of table B))) (λ h. room_of (place_in table.places (number_of p h))) 0 16
       (λ h _ _. ap size_of (get_or-blocks region table.places (number_of p h))
-      ∙ size_same region (place_in table.places (number_of p h)) (omega (arith, lie.inside (number_of p h))))
+      ∙ size_same region (place_in table.places (number_of p h)) (omega (arith, lie.inside (number_of p h), region_length)))
 
   pub free_under : (quota p n : ℕ) → table.quotas.each ≡ Some quota → n ≡ room_by p table.places → free p (store_of table B) ≡ quota - n
   free_under quota p n each room = grind (arith, taken_by_is)
@@ -83,14 +82,14 @@ module _ (table : HandleTable) (lie : LieApart table.places table.span.len) (B :
 
   pub taken_away : (slid' i : ℕ) → store_of (with_place table slid' i None) B
       ≡ with_slot i None (store_of table B)
-  taken_away slid' i = grind (arith, map-set, block_in)
+  taken_away slid' i = grind (arith, map-set)
 
   module _ (i : ℕ) (place : Place) (live : place_in table.places i ≡ Some place) where
     pub place_inside : place.at + up4 place.len ≤ table.span.len
     place_inside = grind arith
 
     pub bytes_are : bytes_at region place ≡ slice_range B (table.span.at + place.at) (table.span.at + place.at + place.len)
-    bytes_are = grind (arith, place_inside, range-range)
+    bytes_are = grind (arith, range-range)
 
     pub block_is : get_or (store_of table B).blocks i None
         ≡ Some (slice_range B (table.span.at + place.at) (table.span.at + place.at + place.len))
@@ -100,7 +99,7 @@ module _ (table : HandleTable) (lie : LieApart table.places table.span.len) (B :
     block_read = ap (λ o. unwrap_or o []) (get_or-blocks region table.places i ∙ ap (block_in region) live)
 
     pub place_length : length (slice_range B (table.span.at + place.at) (table.span.at + place.at + place.len)) ≡ place.len
-    place_length = grind (arith, place_inside, length-range)
+    place_length = grind (arith, length-range)
 
     pub rewritten : (at : ℕ) (ws : List ℕ) → at + length ws ≤ place.len
         → Writes table (table.span.at + place.at + at) ws
@@ -108,7 +107,7 @@ module _ (table : HandleTable) (lie : LieApart table.places table.span.len) (B :
     rewritten at ws room =
         let g = place_inside in let long = region_length in let n = places.len_le_room place.len in
         let is = (changed table.slid (place.at + at) ws i (Some place) (omega arith)
-        (λ j ne. grind (arith, places.sides table.places table.span.len i place lie live j ne))).stored in
+        (λ j ne. grind arith)).stored in
         let new : bytes_at (written region (place.at + at) ws) place ≡ overwritten at ws (bytes_at region place) =
         grind (arith, written-range, written_is, length-range, append_assoc) in
         let same = set-get_or table.places i None in let old = block_read in
@@ -122,7 +121,7 @@ module _ (table : HandleTable) (lie : LieApart table.places table.span.len) (B :
         → Writes (with_place table slid' i (places.placed to place.len)) (table.span.at + to)
         (slice_range B (table.span.at + place.at) (table.span.at + place.at + place.len)) (store_of table B)
     moved slid' to down past =
-        let g = place_inside in let n = places.len_le_room place.len in let long = region_length in let count = place_length in
+        let g = place_inside in let long = region_length in let count = place_length in
         let ws = slice_range B (table.span.at + place.at) (table.span.at + place.at + place.len) in
         let is = changed slid' to ws i (places.placed to place.len) (omega arith) (λ j ne. grind (arith, past j ne)) in
         let new = block_written region to ws (omega arith) in

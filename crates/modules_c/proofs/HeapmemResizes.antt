@@ -101,9 +101,6 @@ module _ (bytes : List ℕ) where
   abbrev len_at : ℕ → List Gap → ℕ
   len_at at gaps = option_map_or (λ (gap : Gap). gap.len) (find (λ (gap : Gap). gap.at == at) gaps) 0
 
-  other_gap : (at from to : ℕ) (gaps : List Gap) → from ≢ at → len_at at (gap_between from to gaps) ≡ len_at at gaps
-  other_gap at from to gaps ne = grind arith
-
   none_there : (from : ℕ) (rows : List Row) (capacity at : ℕ) → LieFrom from rows capacity → at < from
       → len_at at (gaps_behind from rows) ≡ 0
   none_there from [] capacity at lie less = refl
@@ -139,9 +136,6 @@ module _ (rows : List Row) (bytes : List ℕ) (i n : ℕ) (lie : IsTable rows (l
 
   abbrev in_place : Option ℕ
   in_place = room_in_place (place_of (block_told bytes here)) n store
-
-  choice_is : in_place ≡ choice least (room_of here) end (footprint store) (length bytes - footprint store) (gap_at end store)
-  choice_is = let e : here.place + (0 + room_of here) ≡ end = omega arith in grind arith
 
   foot_split : footprint store ≡ ended bytes end a.behind
   foot_split = grind (arith, map-append, fold-append)

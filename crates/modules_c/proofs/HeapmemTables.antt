@@ -138,11 +138,3 @@ free_shorter from [] capacity at len fewer le free = (free.0, omega arith)
 free_shorter from (row ∷ rows) capacity at len fewer le (inl here) = inl (here.0, omega arith)
 free_shorter from (row ∷ rows) capacity at len fewer le (inr later) =
     inr (free_shorter (row.place + room_of row) rows capacity at len fewer le later)
-
--- what a block takes of a gap is enough, at most the gap, and at most 16 more than enough
-pub taken_between : (least most : ℕ) → least ≤ most
-    → (least ≤ room_taken least most) × (room_taken least most ≤ most) × (room_taken least most ≤ least + 16)
-taken_between least most le = grind arith
-
-pub least_enough : (n : ℕ) → (n ≤ least_room 0 n) × (8 ≤ least_room 0 n) × (least_room 0 n ≤ n + 8)
-least_enough n = (omega arith, omega arith, omega arith)

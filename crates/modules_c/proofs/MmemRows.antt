@@ -16,12 +16,6 @@ module _ (row : Block) where
   pub told_some : 0 < row.size → place_told row ≡ placed row.place row.size
   told_some some = grind arith
 
-  room_told : room_of (place_told row) ≡ up4 row.size
-  room_told = grind arith
-
-  at_told : 0 < row.size → at_of (place_told row) ≡ row.place
-  at_told some = grind arith
-
 module _ (table : List Block) where
   module _ (i : ℕ) where
     pub place_in-told : place_in (places_told table) i ≡ place_told (row_of table i)

@@ -1,7 +1,6 @@
 -- The process list.
 use Rattle.process_core.proofs.Common.{◌≡◌, ◌≢◌, ℕ, ◌<◌, ◌≤◌, Bool, true, false, not, ◌&&◌, List, [], ◌∷◌, ◌++◌, ◌-◌, length, drop, refl, sym, ◌∙◌, ap, arith, eqb, ◌==◌, lit<, set, if◌then◌else◌, replicate, list_any, IsDistinct, AllByRecursion, list_any-append, nat_tests, length-le_from_distinct_below, IsDistinct-cons, state_of, with_state, with_mark, without, numbers, is_marked, is_any_marked, IsKept, listed, process_at, mark_at, others, is_one_of, length-append, length-set, get_or-set_same, get_or-set_other, IsDistinct-head, IsDistinct-tail, Process, State, changed, EndsWithKernel, kernel_numbers, state_at, nat_lt, is_only_marked, from_marked, with_bit, ◌^◌}
 use Rattle.std.proofs.Math.Seq.{drop-append_seam}
-use Rattle.std.proofs.lemmas.Bool.{or_parts}
 use Rattle.std.proofs.lemmas.List.Elements.{filter-append}
 use Rattle.std.proofs.lemmas.Map.Views.{any-filter_same}
 use Rattle.process_core.proofs.MarkBits.{bit_other, bit_same, bit_small, counted, no_bit, only_bit, some_marked, unmarked_beyond}
@@ -40,11 +39,11 @@ module _ (p : ℕ) where
   pub changed_none : (change : Process → Process) (s : List State) (m : ℕ) (ns : List ℕ) → is_one_of p ns ≡ false →
       changed p change (listed s m ns) ≡ listed s m ns
   changed_none change s m [] h = refl
-  changed_none change s m (n ∷ ns) h = grind (arith, nat_tests, same_number, changed_none change s m ns)
+  changed_none change s m (n ∷ ns) h = grind (arith, changed_none change s m ns)
 
   pub others_same : (ns : List ℕ) → is_one_of p ns ≡ false → others p ns ≡ ns
   others_same [] h = refl
-  others_same (n ∷ ns) h = grind (arith, nat_tests, others_same ns (grind (arith, nat_tests, h)))
+  others_same (n ∷ ns) h = grind (arith, others_same ns (grind (arith, h)))
 
   pub gone : (ns : List ℕ) → is_one_of p (others p ns) ≡ false
   gone ns = any-filter_same (eqb p) (λ n. not (n == p)) false (λ n same. grind (arith, nat_tests)) ns
@@ -55,18 +54,18 @@ module _ (p : ℕ) where
   distinct_others : (ns : List ℕ) → IsDistinct eqb ns → IsDistinct eqb (others p ns)
   distinct_others [] d = d
   distinct_others (n ∷ ns) d =
-      grind (arith, IsDistinct-tail, IsDistinct-cons, all_kept, IsDistinct-head, distinct_others ns (IsDistinct-tail eqb n ns d))
+      grind (arith, IsDistinct-cons, all_kept, IsDistinct-head, distinct_others ns (IsDistinct-tail eqb n ns d))
 
   module _ (s : List State) where
     module _ (m : ℕ) where
       pub state_listed : (ns : List ℕ) →
           state_of p (listed s m ns) ≡ (if is_one_of p ns then state_at s p else State.Absent)
       state_listed [] = refl
-      state_listed (n ∷ ns) = grind (arith, nat_tests, state_at, same_number, state_listed ns)
+      state_listed (n ∷ ns) = grind (arith, same_number, state_listed ns)
 
       pub marked_listed : (ns : List ℕ) → is_marked p (listed s m ns) ≡ (is_one_of p ns && mark_at m p)
       marked_listed [] = refl
-      marked_listed (n ∷ ns) = grind (arith, nat_tests, same_number, marked_listed ns)
+      marked_listed (n ∷ ns) = grind (arith, marked_listed ns)
 
       pub without_listed : (ns : List ℕ) → without p (listed s m ns) ≡ listed s m (others p ns)
       without_listed [] = refl
@@ -74,14 +73,14 @@ module _ (p : ℕ) where
 
       module _ (ns : List ℕ) where
         pub state_kept : IsKept s m ns → state_of p (listed s m ns) ≡ state_at s p
-        state_kept k = grind (arith, nat_tests, state_at, state_listed)
+        state_kept k = grind (arith, state_listed)
 
         pub marked_kept : IsKept s m ns → is_marked p (listed s m ns) ≡ mark_at m p
-        marked_kept k = grind (arith, nat_tests, marked_listed)
+        marked_kept k = grind (arith, marked_listed)
 
         -- marked processes are on the list, with numbers below 20
         pub marked_below : IsKept s m ns → 20 ≤ p → is_marked p (listed s m ns) ≡ false
-        marked_below k far = grind (arith, nat_tests, marked_listed)
+        marked_below k far = grind (arith, marked_listed)
 
   module _ {s : List State} {m : ℕ} {ns : List ℕ} where
     pub kept_added : p < 20 → is_one_of p ns ≡ false
@@ -122,7 +121,7 @@ module _ (p : ℕ) where
         → changed p change (listed s m ns) ≡ listed later new ns
     listed_changed change [] here = refl
     listed_changed change (n ∷ ns) here =
-        let rest = listed_changed change ns here in grind (arith, nat_tests, same_number, here, rest)
+        grind (arith, same_number, here, listed_changed change ns here)
 
     -- a process off the list changed
     listed_elsewhere : (ns : List ℕ) → is_one_of p ns ≡ false → listed s m ns ≡ listed later new ns
@@ -145,7 +144,7 @@ module _ (p : ℕ) where
     kept_state x here there k = grind (arith, length-set, get_or-set_other, same_number, get_or-set_same, nat_tests)
 
     pub kept_mark : (x : Bool) → is_one_of p ns ≡ true → IsKept s m ns → IsKept s (with_bit p x m) ns
-    kept_mark x here k = grind (arith, nat_tests, same_number, bit_other, bit_small)
+    kept_mark x here k = grind (arith, bit_other, bit_small)
 
   module _ {s : List State} {m : ℕ} {ns : List ℕ} where
     pub room_for : p < 20 → is_one_of p ns ≡ false → IsKept s m ns → length ns < 20
@@ -167,11 +166,11 @@ module _ (p : ℕ) where
     -- a process is on the list if it isn't Absent
     pub on_list : listed s m ns ≡ list → IsKept s m ns
         → (state_of p list ≡ State.Absent → ⊥) → is_one_of p ns ≡ true
-    on_list same k there = grind (arith, nat_tests, state_kept)
+    on_list same k there = grind (arith, state_kept)
 
     pub off_list : listed s m ns ≡ list → IsKept s m ns
         → state_of p list ≡ State.Absent → is_one_of p ns ≡ false
-    off_list same k absent = grind (arith, nat_tests, state_kept)
+    off_list same k absent = grind (arith, state_kept)
 
 pub kept_at_first : IsKept
     (set (set (set (set (replicate 20 State.Absent) 0 State.Running) 1 State.Running) 2 State.Running) 3 State.Running)
@@ -187,11 +186,11 @@ ends_at ns e =
 module _ (p : ℕ) where
   -- a process that is not on the list is an application
   beyond_kernel : (applications : List ℕ) → is_one_of p (applications ++ kernel_numbers) ≡ false → 4 ≤ p
-  beyond_kernel applications h = grind (arith, list_any-append, or_parts, nat_tests)
+  beyond_kernel applications h = grind (arith, list_any-append)
 
   pub marked_from_present : (list : List Process) → (state_of p list ≡ State.Absent → ⊥) → is_marked p (with_mark p true list) ≡ true
   marked_from_present [] h = absurd (h refl)
-  marked_from_present (x ∷ xs) h = grind (arith, nat_tests, marked_from_present xs)
+  marked_from_present (x ∷ xs) h = grind (arith, marked_from_present xs)
 
   pub marked_from_running : (old new : List Process) → state_of p old ≡ State.Running → new ≡ with_mark p true old
       → is_marked p new ≡ true
@@ -204,27 +203,27 @@ module _ (p : ℕ) where
         record { applications = p ∷ e.applications; split = grind arith; above = grind (arith, nat_tests, same_number) }
 
     pub ends_others : 4 ≤ p → EndsWithKernel ns → EndsWithKernel (others p ns)
-    ends_others least e = grind (arith, filter-append, others_same, nat_tests, same_number, gone, others_stay)
+    ends_others least e = grind (arith, filter-append, same_number, gone, others_stay)
 
 module _ (m : ℕ) where
   marked_among : (ns : List ℕ) (p : ℕ) → is_one_of p ns ≡ true → mark_at m p ≡ true → list_any (λ n. mark_at m n) ns ≡ true
   marked_among [] p h e = absurd (cc)
-  marked_among (n ∷ ns) p h e = grind (arith, nat_tests, same_number, marked_among ns p)
+  marked_among (n ∷ ns) p h e = grind (arith, marked_among ns p)
 
   counted_among : (ns : List ℕ) → list_any (λ n. mark_at m n) ns ≡ true → 0 < m
   counted_among [] h = absurd (cc)
-  counted_among (n ∷ ns) h = grind (arith, nat_tests, counted, counted_among ns)
+  counted_among (n ∷ ns) h = grind (arith, counted, counted_among ns)
 
 module _ (s : List State) where
   module _ (m : ℕ) where
     module _ (ns : List ℕ) where
       marked_on_list : (p : ℕ) → IsKept s m ns → mark_at m p ≡ true → is_one_of p ns ≡ true
-      marked_on_list p k e = grind (arith, nat_tests)
+      marked_on_list p k e = grind arith
 
       -- some process is marked if the marks aren't 0
       pub any_counted : IsKept s m ns → is_any_marked (listed s m ns) ≡ nat_lt 0 m
       any_counted k =
-          grind (arith, nat_tests, any_listed, counted_among, some_marked m, marked_among, marked_on_list)
+          grind (arith, any_listed, counted_among, some_marked m, marked_among, marked_on_list)
 
       -- if no application is marked, a poll round passes over them all
       pub no_application_marked : (walk : List ℕ) → IsKept s m ns

@@ -13,20 +13,20 @@ both_true e f = grind arith
 -- if no process is marked, a poll round passes over all
 none_marked : (list : List Process) (p : ℕ) → is_any_marked list ≡ false → is_marked p list ≡ false
 none_marked [] p h = refl
-none_marked (x ∷ list) p h = grind (arith, h, none_marked list p (grind (arith, h)))
+none_marked (x ∷ list) p h = grind (arith, none_marked list p (grind arith))
 
 marked_is_one_of : (list : List Process) (p : ℕ) → is_marked p list ≡ true → is_one_of p (numbers list) ≡ true
 marked_is_one_of [] p h = absurd (cc)
-marked_is_one_of (x ∷ list) p h = grind (arith, nat_tests, marked_is_one_of list p)
+marked_is_one_of (x ∷ list) p h = grind (arith, marked_is_one_of list p)
 
 marked_is_any : (list : List Process) (p : ℕ) → is_marked p list ≡ true → is_any_marked list ≡ true
 marked_is_any [] p h = absurd (cc)
-marked_is_any (x ∷ list) p h = grind (arith, nat_tests, marked_is_any list p)
+marked_is_any (x ∷ list) p h = grind (arith, marked_is_any list p)
 
 -- if clearing p's mark leaves none, only p was marked
 alone_marked : (list : List Process) (p q : ℕ) → is_any_marked (with_mark p false list) ≡ false → is_marked q list ≡ true → q ≡ p
 alone_marked [] p q none h = absurd (cc)
-alone_marked (x ∷ list) p q none h = grind (arith, nat_tests, alone_marked list p q)
+alone_marked (x ∷ list) p q none h = grind (arith, alone_marked list p q)
 
 module _ (list : List Process) where
   pub none_from_marked : (walk : List ℕ) → is_any_marked list ≡ false → from_marked list walk ≡ []
@@ -93,21 +93,21 @@ module _ {X : Type 0} where
 -- Marking a process at rest, and removing the mark again.
 marked_again : (list : List Process) (p : ℕ) → is_any_marked list ≡ false → with_mark p false (with_mark p true list) ≡ list
 marked_again [] p none = refl
-marked_again (x ∷ list) p none = grind (arith, nat_tests, or_parts, marked_again list p)
+marked_again (x ∷ list) p none = grind (arith, marked_again list p)
 
 none_waits : {A : Type 0} (events : List A) → nat_lt 0 (length events) ≡ false → events ≡ []
 none_waits [] h = refl
-none_waits (x ∷ events) h = absurd (grind (arith, nat_tests, h))
+none_waits (x ∷ events) h = absurd (grind arith)
 
 module _ {X : Type 0} where
   module _ (s : Scheduler X) where
     module _ (p : ℕ) where
       pub unmarked_again : is_idle s ≡ true → unmarked p (marked p s) ≡ s
-      unmarked_again idle = grind (arith, nat_tests, marked_again)
+      unmarked_again idle = grind (arith, marked_again)
 
       pub polls_alone_from_rest : is_idle s ≡ true → state_of p s.processes ≡ State.Running
           → polls_alone p (marked p s) ≡ true
-      polls_alone_from_rest idle runs = grind (arith, nat_tests, marked_from_running, marked_again)
+      polls_alone_from_rest idle runs = grind (arith, marked_from_running, marked_again)
 
       pub rests_after_poll : is_idle s ≡ true → ComesTo (polled_alone p (marked p s)) Job.Rest (unmarked p (marked p s))
       rests_after_poll idle =
@@ -133,10 +133,10 @@ has_more (Continuation.Leave pid (p ∷ walk) exits) = refl
 has_more (Continuation.Answer pid) = refl
 
 is_empty_stack : (stack : List Continuation) → is_empty (flat_map items_of stack) ≡ is_empty stack
-is_empty_stack stack = grind (arith, is_empty_append, has_more)
+is_empty_stack stack = grind (arith, is_empty_append)
 
 pub is_empty_continuations : (continuations : List Continuation) → is_empty (reverse continuations) ≡ (length continuations == 0)
-is_empty_continuations continuations = grind (arith, reverse, length-reverse)
+is_empty_continuations continuations = grind (arith, length-reverse)
 
 pub is_empty_drop : (n : ℕ) (xs : List ℕ) → n ≤ length xs → is_empty (drop n xs) ≡ nat_eq n (length xs)
 is_empty_drop zero [] h = refl
@@ -154,7 +154,7 @@ module _ (codes : List ℕ) where
       → behind_kernel_receivers codes (receiver_items event walk) ≡ receiver_items event (if other then from_application walk else walk)
   receivers_behind event [] true e = refl
   receivers_behind event [] false e = refl
-  receivers_behind event (p ∷ walk) other e = grind (arith, nat_tests, receivers_behind event walk other e)
+  receivers_behind event (p ∷ walk) other e = grind (arith, receivers_behind event walk other e)
 
   -- none is next unless the base is a broadcast
 
@@ -191,7 +191,7 @@ module _ (codes : List ℕ) where
     pub passed : passes_receiver codes d ≡ true
         → (is_any_marked d.processes ≡ false)
         × (agenda_of (record d { walk = from_application d.walk }) ≡ behind_kernel_receivers codes (agenda_of d))
-    passed h = grind (arith, and_parts, not, receivers_open, receivers_behind)
+    passed h = grind (arith, receivers_open, receivers_behind)
 
     -- otherwise none is passed
     none_open : passes_receiver codes d ≡ false → is_any_marked d.processes ≡ false
@@ -227,7 +227,7 @@ module _ (d : SchedulerFields) where
   pub is_empty_agenda : is_empty (agenda_of d)
       ≡ (is_empty (front_items d.front d.reply d.synch)
       && ((length d.stack.items == 0) && (is_empty d.polls && is_empty (base_items d.base d.walk d.broadcast))))
-  is_empty_agenda = grind (arith, nat_tests, is_empty_append, is_empty_stack, is_empty_continuations, is_empty_map)
+  is_empty_agenda = grind (arith, is_empty_append, is_empty_stack, is_empty_continuations, is_empty_map)
 
 module _ (d : SchedulerFields) where
   pub delivers_only : is_empty (agenda_of d) ≡ true → agenda_of (record d { base = Base.Deliver true }) ≡ Item.Deliver ∷ []
@@ -246,4 +246,4 @@ module _ (is_polled : Bool) where
       deliver_has_more = grind arith
 
       pub is_empty_broadcast : is_empty (base_items (Base.Broadcast is_polled) walk event) ≡ is_empty walk
-      is_empty_broadcast = grind (arith, nat_tests)
+      is_empty_broadcast = grind arith

@@ -20,7 +20,7 @@ counted zero p h = let none = no_bit p in absurd (cc)
 counted (suc m) p h = omega arith
 
 small_word : (m : ℕ) → m < 2 ^ 20 → m < 2 ^ 32
-small_word m small = omega (arith, small)
+small_word m small = omega arith
 
 pub some_marked : (m : ℕ) → 0 < m → m < 2 ^ 20 → (p : ℕ) × (mark_at m p ≡ true)
 unfolding mark_at
@@ -62,7 +62,7 @@ module _ (m p : ℕ) where
   bit_small true low small =
       let within : p < 32 = omega (arith, low) in
       subst (λ bit. bit_or m bit < 2 ^ 20) (sym (one_shl p 32 within)) (or_lt 20 m (2 ^ p) small (pow_below p 20 low))
-  bit_small false low small = omega (arith, and_le_l m (bit_not w32 (1 * 2 ^ p % 2 ^ 32)), small)
+  bit_small false low small = omega (arith, and_le_l m (bit_not w32 (1 * 2 ^ p % 2 ^ 32)))
 
   -- clearing a mark subtracts its bit
   taken_away : p < 20 → m < 2 ^ 20 → with_bit p false m + bit_at m p * 2 ^ p ≡ m

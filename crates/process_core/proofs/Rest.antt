@@ -1,5 +1,5 @@
 -- When nothing is left to do.
-use Rattle.process_core.proofs.Common.{◌≡◌, ℕ, zero, suc, ◌<◌, true, false, List, [], ◌∷◌, ◌++◌, refl, arith, Option, Some, None, map, flat_map, list_any, items_of, base_items, agenda_of, receiver_items, list_any-append, nat_tests, Event, Item, Job, Scheduler, after_front, after_items, ComesTo, Continuation, Base, Front, SchedulerFields, after_front_of, wants_round, is_shown, ◌≤◌, length, drop, slice_get, IfNone, from_marked, Process, ◌+◌, add-one, range_with_len, at_first, state_of, is_one_of, IsInOrder, State}
+use Rattle.process_core.proofs.Common.{◌≡◌, ℕ, zero, suc, ◌<◌, true, false, List, [], ◌∷◌, ◌++◌, refl, arith, Option, Some, None, map, flat_map, list_any, items_of, base_items, agenda_of, receiver_items, list_any-append, Event, Item, Job, Scheduler, after_front, after_items, ComesTo, Continuation, Base, Front, SchedulerFields, after_front_of, wants_round, is_shown, ◌≤◌, length, drop, slice_get, IfNone, from_marked, Process, ◌+◌, add-one, range_with_len, at_first, state_of, is_one_of, IsInOrder, State}
 
 module _ {X : Type 0} where
   pub record IsIdle (s : Scheduler X) : Type 0 where
@@ -18,26 +18,20 @@ module _ {X : Type 0} where
 -- ---- the number of applications never changes
 
 module _ {X : Type 0} where
-  applications_after_front_of : (agenda : List Item) (s : Scheduler X) → (after_front_of agenda s).applications ≡ s.applications
-  applications_after_front_of agenda s = grind arith
-
-  pub applications_after_front : (s : Scheduler X) → (after_front s).applications ≡ s.applications
-  applications_after_front s = applications_after_front_of s.agenda s
-
   pub applications_after_items : (n : ℕ) (s : Scheduler X) → (after_items n s).applications ≡ s.applications
   applications_after_items zero s = refl
   applications_after_items (suc n) s =
-      grind (arith, nat_tests, applications_after_front, applications_after_items n (after_front s))
+      grind (arith, applications_after_items n (after_front s))
 
   pub applications_from_comes_to : (s : Scheduler X) (next : Job X) (after : Scheduler X) → ComesTo s next after
       → after.applications ≡ s.applications
-  applications_from_comes_to s next after c = grind (arith, nat_tests, applications_after_front, applications_after_items)
+  applications_from_comes_to s next after c = grind (arith, applications_after_items)
 
 -- ---- continuations never stand for an entry that must be shown
 
 none_shown : (ps : List ℕ) (f : ℕ → Item) → ((p : ℕ) → is_shown (f p) ≡ false) → list_any is_shown (map f ps) ≡ false
 none_shown [] f h = refl
-none_shown (p ∷ ps) f h = let first = h p in grind (arith, first, none_shown ps f h)
+none_shown (p ∷ ps) f h = grind (arith, none_shown ps f h)
 
 shown_in_either : (xs ys : List Item) → list_any is_shown xs ≡ false → list_any is_shown ys ≡ false → list_any is_shown (xs ++ ys) ≡ false
 shown_in_either xs ys a b = grind (arith, list_any-append)
@@ -47,7 +41,7 @@ none_shown_to_receivers event [] = refl
 none_shown_to_receivers event (p ∷ ps) = none_shown_to_receivers event ps
 
 nothing_shown_in : (continuation : Continuation) → list_any is_shown (items_of continuation) ≡ false
-nothing_shown_in continuation = grind (arith, nat_tests, shown_in_either, none_shown)
+nothing_shown_in continuation = grind (arith, shown_in_either, none_shown)
 
 nothing_shown_on : (stack : List Continuation) → list_any is_shown (flat_map items_of stack) ≡ false
 nothing_shown_on [] = refl
@@ -55,7 +49,7 @@ nothing_shown_on (continuation ∷ below) =
     shown_in_either (items_of continuation) (flat_map items_of below) (nothing_shown_in continuation) (nothing_shown_on below)
 
 nothing_shown_below : (base : Base) (walk : List ℕ) (event : Event) → list_any is_shown (base_items base walk event) ≡ false
-nothing_shown_below base walk event = grind (arith, nat_tests, none_shown, none_shown_to_receivers)
+nothing_shown_below base walk event = grind (arith, none_shown, none_shown_to_receivers)
 
 -- The next process of a walk.
 pub first_and_rest : {A : Type 0} (xs : List A) (x : A) → slice_get xs 0 ≡ Some x → xs ≡ x ∷ drop 1 xs
@@ -67,7 +61,7 @@ none_first (x ∷ xs) e = absurd (cc)
 
 pub length-from_marked : (list : List Process) (walk : List ℕ) → length (from_marked list walk) ≤ length walk
 length-from_marked list [] = omega arith
-length-from_marked list (p ∷ walk) = grind (arith, nat_tests, length-from_marked list walk)
+length-from_marked list (p ∷ walk) = grind (arith, length-from_marked list walk)
 
 pub if_none : {A : Type 0} {P : Type 0} (x : Option A) → P → IfNone x P
 if_none None h = h
@@ -81,19 +75,15 @@ range_more a (suc n) = rw add-one (grind (arith, range_more (a + 1) n))
 module _ (p : ℕ) where
   pub below_range : (a n : ℕ) → is_one_of p (range_with_len a n) ≡ true → p < a + n
   below_range a zero h = absurd (cc)
-  below_range a (suc n) h = grind (arith, nat_tests, below_range (a + 1) n)
-
-  -- at first the kernel's processes run, and no other is on the list
-  first_run : p < 4 → state_of p at_first ≡ State.Running
-  first_run h = grind (arith, nat_tests)
+  below_range a (suc n) h = grind (arith, below_range (a + 1) n)
 
   none_beyond : 4 ≤ p → state_of p at_first ≡ State.Absent
-  none_beyond h = grind (arith, nat_tests, h)
+  none_beyond h = grind arith
 
 module _ (d : SchedulerFields) where
   pub nothing_shown : list_any is_shown (agenda_of d) ≡ false
-  nothing_shown = grind (arith, nat_tests, shown_in_either, nothing_shown_on, none_shown, nothing_shown_below)
+  nothing_shown = grind (arith, shown_in_either, nothing_shown_on, none_shown, nothing_shown_below)
 
   pub order_at_boot : d.applications ≤ 16 → d.walk ≡ range_with_len 4 d.applications → d.processes ≡ at_first
       → d.stack.items ≡ [] → d.base ≡ Base.Boot → d.events.capacity ≡ 32 → d.next_event ≡ 140 → d.front ≡ Front.Nothing → IsInOrder d
-  order_at_boot few is_range list stack boot room next idle = grind (arith, nat_tests, below_range, first_run, none_beyond)
+  order_at_boot few is_range list stack boot room next idle = grind (arith, below_range, none_beyond)

@@ -1,6 +1,6 @@
 -- The stack stays sound, and is short.
-use Rattle.process_core.proofs.Common.{◌≡◌, ℕ, ◌+◌, ◌<◌, ◌≤◌, Bool, true, false, List, [], ◌∷◌, length, refl, ap, arith, eqb, Option, Some, None, ◌*◌, IsDistinct, AllByRecursion, nat_tests, range_with_len, zero, suc, Pid, state_of, with_state, with_mark, without, IsApplication, is_in_activation, answering, is_one_of, has_ended, IsSound, Process, State, Continuation, IsOfMote, leaving, IsNested, AreIn, ◌++◌, reverse, length-reverse, Event, Reply, is_ending, IsInOrder, scheduler_behind, scheduler_of, front_items, reverse-append, SchedulerFields, Base, Front, IsOrdered, StartsKnown, active_in, turn_in, front_after}
-use Rattle.std.proofs.lemmas.Bool.{false_from_ne_true, or_parts}
+use Rattle.process_core.proofs.Common.{◌≡◌, ℕ, ◌+◌, ◌<◌, ◌≤◌, Bool, true, false, List, [], ◌∷◌, length, refl, ap, arith, eqb, Option, Some, None, ◌*◌, IsDistinct, AllByRecursion, range_with_len, zero, suc, Pid, state_of, with_state, with_mark, without, IsApplication, is_in_activation, answering, is_one_of, has_ended, IsSound, Process, State, Continuation, IsOfMote, leaving, IsNested, AreIn, ◌++◌, reverse, length-reverse, Event, Reply, is_ending, IsInOrder, scheduler_behind, scheduler_of, front_items, reverse-append, SchedulerFields, Base, Front, IsOrdered, StartsKnown, active_in, turn_in, front_after}
+use Rattle.std.proofs.lemmas.Bool.{or_parts}
 use Rattle.std.proofs.lemmas.Cmp.{nat_eq_equiv}
 use Rattle.std.proofs.lemmas.List.FromFn.{length-range_with_len}
 use Rattle.std.proofs.lemmas.Map.Made.{length-le_from_is_member}
@@ -22,14 +22,14 @@ module _ (p : ℕ) where
   pub state_at : (state : State) (list : List Process) → (state_of p list ≡ State.Absent → ⊥)
       → state_of p (with_state p state list) ≡ state
   state_at state [] h = absurd (h refl)
-  state_at state (x ∷ xs) h = grind (arith, nat_tests, state_at state xs)
+  state_at state (x ∷ xs) h = grind (arith, state_at state xs)
 
   in_range : (a n : ℕ) → a ≤ p → p < a + n → is_one_of p (range_with_len a n) ≡ true
   in_range a zero least below = absurd (omega arith)
-  in_range a (suc n) least below = grind (arith, nat_tests, in_range (a + 1) n)
+  in_range a (suc n) least below = grind (arith, in_range (a + 1) n)
 
   pub is_first : eqb p p ≡ true
-  is_first = grind (arith, nat_tests)
+  is_first = grind arith
 
   abbrev pub OthersStay : List Process → List Process → Type 0
   OthersStay old new = (q : ℕ) → eqb q p ≡ false → state_of q new ≡ state_of q old
@@ -37,18 +37,18 @@ module _ (p : ℕ) where
   module _ (q : ℕ) where
     pub state_after : (state : State) (list : List Process) → eqb q p ≡ false → state_of q (with_state p state list) ≡ state_of q list
     state_after state [] h = refl
-    state_after state (x ∷ xs) h = grind (arith, nat_tests, state_after state xs h)
+    state_after state (x ∷ xs) h = grind (arith, state_after state xs h)
 
     pub state_marked : (marked : Bool) (list : List Process) → state_of q (with_mark p marked list) ≡ state_of q list
     state_marked marked [] = refl
-    state_marked marked (x ∷ xs) = grind (arith, nat_tests, state_marked marked xs)
+    state_marked marked (x ∷ xs) = grind (arith, state_marked marked xs)
 
     pub state_without : (list : List Process) → eqb q p ≡ false → state_of q (without p list) ≡ state_of q list
     state_without [] h = refl
-    state_without (x ∷ xs) h = grind (arith, nat_tests, state_without xs h)
+    state_without (x ∷ xs) h = grind (arith, state_without xs h)
 
     pub same_number : eqb q p ≡ true → q ≡ p
-    same_number e = grind (arith, nat_tests)
+    same_number e = grind arith
 
 answering_apart : (stack : List Continuation) → IsNested stack → IsDistinct eqb (answering stack)
 unfolding IsDistinct
@@ -69,18 +69,12 @@ pushed continuations f = reverse-append continuations (f ∷ [])
 
 -- while a call is awaited the front is empty
 pub no_front : (front : Front) (p : Pid) (reply : Reply) (synch : Event) → turn_in front ≡ Some p → front_items front reply synch ≡ []
-no_front front p reply synch e = grind (arith, nat_tests)
+no_front front p reply synch e = grind arith
 
 pub none_reported : (front : Front) (reply : Reply) (synch : Event) → ((p : Pid) → front ≡ Front.Answer p → ⊥)
     → ((p : Pid) → front ≡ Front.Give p → ⊥) → ((p : Pid) → front ≡ Front.Start p → ⊥)
     → ((p : Pid) (number : ℕ) → front ≡ Front.Callback p number → ⊥) → front_items front reply synch ≡ []
-none_reported Front.Nothing reply synch answer give start callback = refl
-none_reported (Front.Call p) reply synch answer give start callback = refl
-none_reported (Front.Expiry p number) reply synch answer give start callback = refl
-none_reported (Front.Answer p) reply synch answer give start callback = absurd (answer p refl)
-none_reported (Front.Give p) reply synch answer give start callback = absurd (give p refl)
-none_reported (Front.Start p) reply synch answer give start callback = absurd (start p refl)
-none_reported (Front.Callback p number) reply synch answer give start callback = absurd (callback p number refl)
+none_reported front reply synch answer give start callback = grind arith
 
 module _ (test : State → Bool) where
   others_in : (p : ℕ) (old new : List Process) (xs : List ℕ)
@@ -96,7 +90,7 @@ module _ (test : State → Bool) where
     module _ (xs : List ℕ) where
       module _ (p : ℕ) where
         pub none_in : AreIn test list xs → test (state_of p list) ≡ false → is_one_of p xs ≡ false
-        none_in are e = grind (arith, nat_tests, false_from_ne_true)
+        none_in are e = grind arith
 
         one_more : AreIn test list xs → test (state_of p list) ≡ true → AreIn test list (p ∷ xs)
         one_more are passes q h = grind arith
@@ -106,13 +100,13 @@ module _ (test : State → Bool) where
 
 module _ (state : State) where
   pub stays_here : is_in_activation state ≡ true → (state ≡ State.Ending → ⊥) → has_ended state ≡ false
-  stays_here a n = grind (arith, nat_tests)
+  stays_here a n = grind arith
 
   pub present : is_in_activation state ≡ true → state ≡ State.Absent → ⊥
   present a e = grind arith
 
   pub not_ending : (state ≡ State.Ending → ⊥) → is_ending state ≡ false
-  not_ending n = grind (arith, nat_tests)
+  not_ending n = grind arith
 
 module _ (n : ℕ) where
   module _ (p : ℕ) where
@@ -172,7 +166,7 @@ module _ {n : ℕ} {list : List Process} {stack : List Continuation} where
 
     pub sound-waited : IsSound n list stack (Some pid) → has_ended (state_of pid.0 list) ≡ false
         → IsSound n (with_state pid.0 State.Running list) stack None
-    sound-waited s e = grind (arith, state_after, mote_changed, application_at_turn, others_in, none_in)
+    sound-waited s e = grind (arith, state_after, others_in, none_in)
 
   module _ (q : Pid) where
     module _ (walk : List ℕ) where
@@ -208,7 +202,7 @@ module _ {n : ℕ} {list : List Process} {stack : List Continuation} where
       pub sound-removed : (exits : Bool)
           → IsSound n list (Continuation.Leave q walk exits ∷ stack) None → IsSound n (without q.0 list) stack None
       sound-removed exits s =
-          grind (arith, is_first, state_without, mote_changed, application_in, others_in, one_less)
+          grind (arith, state_without, application_in, others_in, one_less)
 
 module _ (d : SchedulerFields) where
   -- the stack has room for two more continuations at any time
@@ -216,10 +210,10 @@ module _ (d : SchedulerFields) where
   few_continuations stack order = grind (arith, length-le_from_sound)
 
   pub few_items : IsInOrder d → length d.stack.items ≤ 2 * d.applications
-  few_items order = grind (arith, few_continuations, reverse, length-reverse)
+  few_items order = grind (arith, few_continuations, length-reverse)
 
   pub room_on_stack : IsInOrder d → length d.stack.items ≤ 32
-  room_on_stack order = grind (arith, nat_tests, few_items)
+  room_on_stack order = grind (arith, few_items)
 
   -- and for one more than before f was taken
   pub room_below : (f : Continuation) → IsOrdered d (f ∷ reverse d.stack.items) → length d.stack.items ≤ 31
@@ -247,7 +241,7 @@ module _ (d : SchedulerFields) where
 
   -- the front then puts nothing on the agenda
   pub behind_is_all : (ready : Option answer.NextJob) → d.front ≡ front_after ready → scheduler_behind d ≡ scheduler_of d
-  behind_is_all ready e = grind (arith, nat_tests)
+  behind_is_all ready e = grind arith
 
   pub turn_sound : (p : Pid) → IsInOrder d → turn_in d.front ≡ Some p
       → IsSound d.applications d.processes (reverse d.stack.items) (Some p)
@@ -256,8 +250,8 @@ module _ (d : SchedulerFields) where
   -- only applications leave
   pub leaver_above : (q : Pid) (walk : List ℕ) (exits : Bool) (below : List Continuation)
       → IsOrdered d (Continuation.Leave q walk exits ∷ below) → 4 ≤ q.0
-  leaver_above q walk exits below order = grind (arith, nat_tests)
+  leaver_above q walk exits below order = grind arith
 
   pub order_marked : (new : List Process) (p : ℕ) (marked : Bool) → IsInOrder d
       → new ≡ with_mark p marked d.processes → IsInOrder (record d { processes = new })
-  order_marked new p marked order e = grind (arith, state_marked, reverse)
+  order_marked new p marked order e = grind (arith, state_marked)

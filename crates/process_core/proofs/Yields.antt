@@ -89,11 +89,6 @@ module _ {X : Type 0} where
               → Yields (in_front (Item.PollOne p ∷ []) s) next after
           poll_one_yields e y = grind (arith, yields_next)
 
-first_queued : (events : List code.Queued) (q : code.Queued) → Some q ≡ slice_get events 0
-    → slice_get (map queued_of events) 0 ≡ Some (queued_of q)
-first_queued [] q e = absurd (cc)
-first_queued (x ∷ xs) q e = let same : q ≡ x = cc in ap (λ r. Some (queued_of r)) (sym same)
-
 module _ (d : SchedulerFields) where
   -- the event at the front is for one process
   pub deliver_to_yields : (rest : Buffer code.Queued) (p : Pid) (event : Event) (next : Option (Job ℕ))
@@ -103,7 +98,7 @@ module _ (d : SchedulerFields) where
       → Yields (in_front (Item.Give p.0 Origin.Event (Stimulus.Event event) ∷ [])
       (scheduler_behind (record d { events = rest }))) next after
       → Yields (in_front (Item.Deliver ∷ []) (scheduler_behind d)) next after
-  deliver_to_yields rest p event next after first left y = grind (arith, yields_next, first_queued)
+  deliver_to_yields rest p event next after first left y = grind (arith, yields_next)
 
   -- What the poll round and the base lead to outside any activation.
 
@@ -111,7 +106,7 @@ module _ (d : SchedulerFields) where
       → (is_polled ≡ false → is_any_marked d.processes ≡ false)
       → Yields (in_front (Item.Deliver ∷ []) (scheduler_behind (record d { base = Base.Nothing }))) next after
       → Yields (scheduler_behind d) next after
-  delivered true next after bare ready y = rw (bare.stack, bare.polls, bare.base) (rw (bare.stack, bare.polls) at y)
+  delivered true next after bare ready y = grind arith
   delivered false next after bare ready y =
       let given : Scheduler ℕ = in_front (Item.Deliver ∷ []) (scheduler_behind (record d { base = Base.Nothing })) in
       let start : scheduler_behind d ≡ in_front (Item.Polls ∷ []) given = rw (bare.stack, bare.polls, bare.base) refl in
@@ -123,8 +118,7 @@ module _ (d : SchedulerFields) where
       → Yields (in_front (Item.Give p Origin.Event (Stimulus.Event d.broadcast) ∷ [])
       (scheduler_behind (record d { base = Base.Broadcast false; walk = later }))) next after
       → Yields (scheduler_behind d) next after
-  received true p later next after bare walk ready y =
-      rw (bare.stack, bare.polls, bare.base, walk) (rw (bare.stack, bare.polls) at y)
+  received true p later next after bare walk ready y = grind arith
   received false p later next after bare walk ready y =
       let given : Scheduler ℕ =
       in_front (Item.Give p Origin.Event (Stimulus.Event d.broadcast) ∷ [])

@@ -2,7 +2,6 @@
 use Rattle.timer_core.proofs.Words.{◌≡◌, ℕ, List, arith, get_or, LinkedCell, IsNamed, deadline, cell_of, led_to, next_of, timer_at, timers_of, zero_linked}
 use Rattle.timer_core.specs.declared.table.TimerTable.TheInside.{Inside}
 use Rattle.timer_core.proofs.Cells.{cell_read}
-use Rattle.timer_core.proofs.NameLemmas.{place_at}
 
 module _ (cells : List LinkedCell) where
   module _ (k : ℕ) where
@@ -14,4 +13,4 @@ module _ (table : Inside) where
   module _ (k : ℕ) where
     pub deadline_at : IsNamed (timer_at k) →
         deadline (cell_of (timer_at k) (timers_of table)) ≡ deadline (get_or table.cells k zero_linked).cell
-    deadline_at named = grind (arith, cell_read, place_at)
+    deadline_at named = grind (arith, cell_read)

@@ -1,6 +1,5 @@
 -- The cells by name are the cells of the table by slot.
-use Rattle.timer_core.proofs.Words.{◌≡◌, ◌⊎◌, ℕ, zero, suc, ◌+◌, ◌-◌, ◌<◌, ◌≤◌, true, false, List, [], ◌∷◌, length, refl, arith, set, get_or, map, replicate, eqb-true, get_or-set_same, Timer, Cell, LinkedCell, IsNamed, all_timers, is_timer, with_cell, cell_under, zero_cell, place_of, are_placed, named_cells, zero_linked}
-use Rattle.timer_core.proofs.NameLemmas.{place_below, named_from_test}
+use Rattle.timer_core.proofs.Words.{◌≡◌, ℕ, zero, suc, ◌+◌, ◌-◌, ◌<◌, ◌≤◌, true, false, List, [], ◌∷◌, length, refl, arith, set, get_or, map, replicate, get_or-set_same, Timer, Cell, LinkedCell, IsNamed, all_timers, is_timer, with_cell, cell_under, zero_cell, place_of, are_placed, named_cells, zero_linked}
 
 all_placed : are_placed 0 all_timers ≡ true
 unfolding all_timers
@@ -20,7 +19,7 @@ module _ (n : ℕ) where
         pub rest : are_placed (n + 1) later ≡ true
 
       first_placed : are_placed n (timer ∷ later) ≡ true → IsPlaced
-      first_placed e = grind (arith, eqb-true, named_from_test)
+      first_placed e = grind arith
 
 module _ (t : Timer) where
   apart : (u : Timer) → (place_of t ≡ place_of u → ⊥) → is_timer t u ≡ false
@@ -31,7 +30,7 @@ module _ (t : Timer) where
       with_cell t cell (named_cells names cells) ≡ named_cells names cells
   unchanged cell n [] cells low e = refl
   unchanged cell n (u ∷ us) [] low e = refl
-  unchanged cell n (u ∷ us) (c ∷ cs) low e = grind (arith, first_placed, apart, unchanged cell (n + 1) us cs)
+  unchanged cell n (u ∷ us) (c ∷ cs) low e = grind (arith, unchanged cell (n + 1) us cs)
 
   set_from : (x : LinkedCell) (n : ℕ) (names : List Timer) (cells : List LinkedCell) → IsNamed t → n ≤ place_of t
       → are_placed n names ≡ true →
@@ -39,20 +38,16 @@ module _ (t : Timer) where
   set_from x n [] cells named from e = refl
   set_from x n (u ∷ us) [] named from e = refl
   set_from x n (u ∷ us) (c ∷ cs) named from e =
-      let p = first_placed n u us e in let rest = set_from x (n + 1) us cs named in
       let kept = unchanged x.cell (n + 1) us cs in
-      let at : (place_of t ≡ n) ⊎ (place_of t - n ≡ suc (place_of t - (n + 1))) = grind arith in
-      grind (arith, apart)
+      grind (arith, apart, first_placed n u us e, set_from x (n + 1) us cs named)
 
   read_from : (n : ℕ) (names : List Timer) (cells : List LinkedCell) → IsNamed t → n ≤ place_of t → place_of t < n + length names
       → are_placed n names ≡ true →
       cell_under t (named_cells names cells) ≡ (get_or cells (place_of t - n) zero_linked).cell
-  read_from n [] cells named from below e = absurd (omega (arith, below))
+  read_from n [] cells named from below e = absurd (omega arith)
   read_from n (u ∷ us) [] named from below e = refl
   read_from n (u ∷ us) (c ∷ cs) named from below e =
-      let p = first_placed n u us e in let rest = read_from (n + 1) us cs named in
-      let at : (place_of t ≡ n) ⊎ (place_of t - n ≡ suc (place_of t - (n + 1))) = grind arith in
-      grind (arith, apart)
+      grind (arith, apart, read_from (n + 1) us cs named)
 
 kept_at : (names : List Timer) (cells : List LinkedCell) (k : ℕ) (x : LinkedCell) → x.cell ≡ (get_or cells k zero_linked).cell →
     named_cells names (set cells k x) ≡ named_cells names cells
@@ -75,7 +70,7 @@ module _ (cells : List LinkedCell) where
   module _ (t : Timer) where
     pub cell_read : IsNamed t
         → cell_under t (named_cells all_timers cells) ≡ (get_or cells (place_of t) zero_linked).cell
-    cell_read named = grind (arith, read_from, count, place_below, all_placed)
+    cell_read named = grind (arith, read_from, count, all_placed)
 
     module _ (x : LinkedCell) where
       pub cells_set : IsNamed t →

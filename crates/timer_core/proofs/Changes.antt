@@ -16,15 +16,12 @@ pub record StandsFor (table : Inside) (timers : Timers) : Type 0 where
 abbrev HasStarts : List LinkedCell → Type 0
 HasStarts cells = All (λ linked_cell. linked_cell.cell.start ≤ 2 ^ 63) cells
 
-same_timers : (t u : Timers) → t.cells ≡ u.cells → t.armed ≡ u.armed → t ≡ u
-same_timers t u cells armed = grind arith
-
 stands_for : (table : Inside) (timers : Timers) → length table.cells ≡ 192 → HasStarts table.cells → AreFlagged table.cells timers.armed
     → named_cells all_timers table.cells ≡ timers.cells → Relinked table.cells (led_to table.first) timers.armed → StandsFor table timers
 stands_for table timers places starts flags cells r = grind arith
 
 pub timers_at_boot : timers_of (record { cells = replicate 192 zero_linked; first = None }) ≡ no_timers
-timers_at_boot = grind (arith, replicate, cells_at_boot, listed_from_none)
+timers_at_boot = grind (arith, cells_at_boot, listed_from_none)
 
 module _ (cells : List LinkedCell) where
   starts_set : (k : ℕ) (x : LinkedCell) → x.cell.start ≤ 2 ^ 63 → HasStarts cells → HasStarts (set cells k x)
@@ -66,7 +63,7 @@ module _ (table : Inside) where
         StandsFor (without_head table (place_of t)) (stop_timer t (timers_of table))
     head_removed h named head =
         let within : place_of t < length table.cells = grind arith in
-        let x : LinkedCell = unflagged table.cells (place_of t) in
+        let x = unflagged table.cells (place_of t) in
         let names = subst (Names table.cells (led_to table.first)) (rw head.ends at head.listed) h.listed.ends in
         let step = passes table.cells (led_to table.first) t names.0 h.listed in
         let r = relinked_kept table.cells (next_of table.cells t) t x within refl step.later in
@@ -80,7 +77,7 @@ module _ (table : Inside) where
         StandsFor (closed_over table (place_of t) (place_of before)) (stop_timer t (timers_of table))
     link_closed before earlier later h named is_named listed =
         let within : place_of t < length table.cells = grind arith in
-        let x : LinkedCell = unflagged table.cells (place_of t) in let cells : List LinkedCell = without_flag table.cells (place_of t) in
+        let x = unflagged table.cells (place_of t) in let cells = without_flag table.cells (place_of t) in
         let places : length cells ≡ 192 = grind (arith, length-set) in
         let starts : HasStarts cells = grind (arith, starts_set, start_at) in
         let kept = relinked_kept table.cells (led_to table.first) t x within refl h.listed in
@@ -123,10 +120,10 @@ module _ (table : Inside) where
       head_added h named start e =
           let within : place_of t < length table.cells = grind arith in
           let x : LinkedCell = record { cell = cell; is_armed = true; next = table.first } in
-          let head : led_to (Some (place_of t)) ≡ Some t = grind arith in
           rw e (stands_for _ _ (length-set table.cells (place_of t) x ∙ h.places) (starts_set table.cells (place_of t) x start h.starts)
           (flags_added table.cells t x _ named within h.flags refl) (cells_set table.cells t x named)
-          (subst (λ link. Relinked (set table.cells (place_of t) x) link (t ∷ listed_from table.cells (led_to table.first))) (sym head)
+          (subst (λ link. Relinked (set table.cells (place_of t) x) link (t ∷ listed_from table.cells (led_to table.first)))
+          (sym (grind arith))
           (relinked_first table.cells (led_to table.first) t x named within refl e h.listed)))
 
   module _ (place : ℕ) where
@@ -136,7 +133,7 @@ module _ (table : Inside) where
     pub head_removed_at : IsTable table → IsNamed (timer_at place) → IsBehind None →
         StandsFor (without_head table place) (stop_timer (timer_at place) (timers_of table))
     head_removed_at h named behind =
-        grind (arith, timer_at, timers_of, place_at, head_removed)
+        grind (arith, place_at, head_removed)
 
     module _ (before : ℕ) where
       pub named_behind : IsTable table → IsBehind (Some before) → IsNamed (timer_at before)
@@ -144,7 +141,7 @@ module _ (table : Inside) where
 
       pub link_closed_at : IsTable table → IsNamed (timer_at place) → IsBehind (Some before) →
           StandsFor (closed_over table place before) (stop_timer (timer_at place) (timers_of table))
-      link_closed_at h named behind = grind (arith, named_behind, place_at, link_closed)
+      link_closed_at h named behind = grind (arith, named_behind, link_closed)
 
     abbrev pub unlinked : Option ℕ → Inside
     unlinked None = without_head table place
@@ -153,7 +150,7 @@ module _ (table : Inside) where
     pub stands_unlinked : (v : Timers) → timers_of table ≡ v → IsTable table → IsNamed (timer_at place) → (before : Option ℕ)
         → StandsBehind before (timer_at place) v.armed → StandsFor (unlinked before) (stop_timer (timer_at place) v)
     stands_unlinked v is h named None =
-        grind (arith, stop_timer, head_removed_at)
+        grind (arith, head_removed_at)
     stands_unlinked v is h named (Some before) =
         subst (λ v. StandsBehind (Some before) (timer_at place) v.armed →
         StandsFor (unlinked (Some before)) (stop_timer (timer_at place) v)) is

@@ -1,7 +1,7 @@
 -- Each cell says whether its timer is on the list.
 use Rattle.timer_core.proofs.Words.{rules, arith, ◌≡◌, ◌<◌, true, false, not, List, ◌∷◌, length, refl, set, list_any, get_or-set_same, get_or-set_other, Timer, LinkedCell, place_of, IsNamed, is_timer, flag_of, AreFlagged}
 use Rattle.std.proofs.lemmas.Map.Views.{any-filter_same}
-use Rattle.timer_core.proofs.NameLemmas.{same_timer, is_timer_itself, is_timer_flips, places_differ}
+use Rattle.timer_core.proofs.NameLemmas.{same_timer, is_timer_itself, is_timer_flips}
 use Rattle.timer_core.proofs.Unlinking.{others}
 
 module _ (t : Timer) where
@@ -21,7 +21,7 @@ module _ (cells : List LinkedCell) where
             AreFlagged cells list → x.is_armed ≡ list_any (is_timer t) new →
             ((u : Timer) → is_timer t u ≡ false → list_any (is_timer u) new ≡ list_any (is_timer u) list)
             → AreFlagged (set cells (place_of t) x) new
-        flags_set new h within flags own others = grind (arith, places_differ, get_or-set_same, get_or-set_other)
+        flags_set new h within flags own others = grind (arith, get_or-set_same, get_or-set_other)
 
         pub flags_kept : IsNamed t → place_of t < length cells →
             AreFlagged cells list → x.is_armed ≡ flag_of cells t → AreFlagged (set cells (place_of t) x) list

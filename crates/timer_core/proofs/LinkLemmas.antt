@@ -1,7 +1,7 @@
 -- The timer list along the links.
-use Rattle.timer_core.proofs.Words.{◌≡◌, ℕ, zero, suc, ◌<◌, ◌≤◌, true, false, List, [], ◌∷◌, length, refl, ◌∙◌, ap, arith, eqb, set, lit≤, Option, Some, None, map, replicate, ◌^◌, list_any, IsDistinct, AllByRecursion, or_parts, or_cases, ne_eqb, eqb-true, cases_eq, length-map, get_or-set_same, get_or-set_other, get_or-replicate, All-replicate, Timer, LinkedCell, place_of, IsNamed, is_timer, next_of, linked, listed_from, led_to, Names, AreApart, IsList, IsTable, zero_linked}
+use Rattle.timer_core.proofs.Words.{◌≡◌, ℕ, zero, suc, ◌<◌, ◌≤◌, true, false, List, [], ◌∷◌, length, refl, ◌∙◌, ap, arith, eqb, set, lit≤, Option, Some, None, map, replicate, ◌^◌, list_any, IsDistinct, AllByRecursion, length-map, get_or-set_same, get_or-set_other, get_or-replicate, All-replicate, Timer, LinkedCell, place_of, IsNamed, is_timer, next_of, linked, listed_from, led_to, Names, AreApart, IsList, IsTable, zero_linked}
 use Rattle.std.proofs.lemmas.Map.Steps.{length-le_from_distinct_below}
-use Rattle.timer_core.proofs.NameLemmas.{place_below, places_differ}
+use Rattle.timer_core.proofs.NameLemmas.{place_below}
 
 -- what the links name is what is read along them
 pub linked_from_names : (n : ℕ) (cells : List LinkedCell) (link : Option Timer) (list : List Timer) → Names cells link list
@@ -20,7 +20,7 @@ AllNamed (t ∷ later) = IsNamed t × AllNamed later
 places_apart : (t : Timer) (list : List Timer) → IsNamed t → AllNamed list → list_any (is_timer t) list ≡ false →
     AllByRecursion (λ place. eqb (place_of t) place ≡ false) (map place_of list)
 places_apart t [] h k none = tt
-places_apart t (u ∷ later) h k none = grind (arith, or_parts, ne_eqb, places_differ, places_apart t later h k.1)
+places_apart t (u ∷ later) h k none = grind (arith, places_apart t later h k.1)
 
 places_distinct : (list : List Timer) → AllNamed list → AreApart list → IsDistinct eqb (map place_of list)
 unfolding IsDistinct
@@ -29,7 +29,7 @@ places_distinct (t ∷ later) h apart = (places_apart t later h.0 h.1 apart.0, p
 
 places_below : (list : List Timer) → AllNamed list → (q : ℕ) → list_any (eqb q) (map place_of list) ≡ true → q < 192
 places_below [] h q e = absurd (cc)
-places_below (t ∷ later) h q e = grind (arith, or_cases, eqb-true, place_below, places_below later h.1 q)
+places_below (t ∷ later) h q e = grind (arith, places_below later h.1 q)
 
 few_timers : (list : List Timer) → AllNamed list → AreApart list → length list ≤ 192
 few_timers list h apart =
@@ -84,14 +84,13 @@ module _ (cells : List LinkedCell) where
       pub names_other : (link : Option Timer) (list : List Timer) → IsNamed t →
           list_any (is_timer t) list ≡ false → Names cells link list → Names (set cells (place_of t) x) link list
       names_other link [] h none names = names
-      names_other link (u ∷ later) h none names = grind (arith, or_parts, next_of_other, names_other (next_of cells u) later h)
+      names_other link (u ∷ later) h none names = grind (arith, next_of_other, names_other (next_of cells u) later h)
 
     names_kept : (x : LinkedCell) (link : Option Timer) (list : List Timer) → place_of t < length cells →
         led_to x.next ≡ next_of cells t → Names cells link list → Names (set cells (place_of t) x) link list
     names_kept x link [] within e names = names
     names_kept x link (u ∷ later) within e names = grind (
       arith,
-      cases_eq,
       next_of_same,
       get_or-set_other,
       names_kept x

@@ -1,5 +1,5 @@
 -- What a look along the timer list finds, and what stays true after the found timer leaves.
-use Rattle.timer_core.proofs.Words.{◌≡◌, ℕ, ◌<◌, Bool, true, false, List, [], ◌∷◌, ◌++◌, refl, arith, Option, Some, None, find, IsTable, is_due, led_to, listed_from, next_of, timer_at, timers_of, list_any, or_parts, Timer, StandsBehind, Timers, stop_timer}
+use Rattle.timer_core.proofs.Words.{◌≡◌, ℕ, ◌<◌, Bool, true, false, List, [], ◌∷◌, ◌++◌, refl, arith, Option, Some, None, find, IsTable, is_due, listed_from, next_of, timer_at, timers_of, list_any, Timer, StandsBehind, Timers, stop_timer}
 use Rattle.timer_core.specs.declared.table.Passed.{Passed}
 use Rattle.timer_core.specs.declared.table.Outlook.{Outlook}
 use Rattle.timer_core.specs.declared.table.TimerTable.TheInside.{Inside}
@@ -12,7 +12,7 @@ use Rattle.timer_core.proofs.Walks.{Walked, passes_at}
 module _ (test : Timer → Bool) where
   pub found_behind : (earlier later : List Timer) → list_any test earlier ≡ false → find test (earlier ++ later) ≡ find test later
   found_behind [] later none = refl
-  found_behind (t ∷ earlier) later none = grind (arith, or_parts, found_behind earlier later)
+  found_behind (t ∷ earlier) later none = grind (arith, found_behind earlier later)
 
   pub none_of_more : (t : Timer) (earlier : List Timer) → list_any test earlier ≡ false → test t ≡ false
       → list_any test (earlier ++ t ∷ []) ≡ false
@@ -38,9 +38,7 @@ module _ (table : Inside) (h : IsTable table) (passed : Passed) (link : Option �
             IsOutlook clock (timers_of table) (Outlook.Due place passed)
         due_here place is due =
             let step = passes_at is w.list in
-            let later = listed_from table.cells (next_of table.cells (timer_at place)) in
-            let listed : listed_from table.cells (led_to table.first) ≡ earlier ++ timer_at place ∷ later =
-            grind arith in (
+            let later = listed_from table.cells (next_of table.cells (timer_at place)) in (
               grind (arith, found_behind),
               step.named,
               record {

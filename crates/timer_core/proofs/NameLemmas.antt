@@ -1,5 +1,5 @@
 -- Names of timers and their slots.
-use Rattle.timer_core.proofs.Words.{◌≡◌, ◌<◌, ℕ, true, false, arith, Timer, is_named, place_of, timer_at, IsNamed, is_timer}
+use Rattle.timer_core.proofs.Words.{◌≡◌, ◌<◌, ℕ, true, false, arith, Timer, place_of, timer_at, IsNamed, is_timer}
 
 pub timer_at_place : (t : Timer) → IsNamed t → timer_at (place_of t) ≡ t
 timer_at_place t named = grind arith
@@ -10,9 +10,6 @@ module _ (t : Timer) where
 
   pub place_below : IsNamed t → place_of t < 192
   place_below h = grind arith
-
-  pub named_from_test : is_named t ≡ true → IsNamed t
-  named_from_test e = grind arith
 
   pub other_at : (k : ℕ) → IsNamed (timer_at k) → (k ≡ place_of t → ⊥) → is_timer t (timer_at k) ≡ false
   other_at k named far = grind arith
@@ -26,9 +23,6 @@ module _ (t : Timer) where
 
     pub same_place : IsNamed t → IsNamed u → place_of t ≡ place_of u → is_timer t u ≡ true
     same_place h k e = grind arith
-
-    pub places_differ : IsNamed t → IsNamed u → is_timer t u ≡ false → place_of t ≡ place_of u → ⊥
-    places_differ h k e same = grind arith
 
 module _ (k : ℕ) where
   -- a slot and its timer

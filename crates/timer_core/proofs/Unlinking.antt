@@ -1,6 +1,5 @@
 -- A timer is removed from the list: the one before it gets its link.
-use Rattle.timer_core.proofs.Words.{◌≡◌, ◌<◌, false, not, List, [], ◌∷◌, ◌++◌, length, refl, arith, set, append_assoc, list_any-append, Option, filter, list_any, or_parts, Timer, LinkedCell, place_of, IsNamed, is_timer, next_of, led_to, listed_from, Names, AreApart, IsList}
-use Rattle.timer_core.proofs.NameLemmas.{is_timer_flips}
+use Rattle.timer_core.proofs.Words.{◌≡◌, ◌<◌, false, not, List, [], ◌∷◌, ◌++◌, length, refl, arith, set, append_assoc, list_any-append, Option, filter, list_any, Timer, LinkedCell, place_of, IsNamed, is_timer, next_of, led_to, listed_from, Names, AreApart, IsList}
 use Rattle.timer_core.proofs.LinkLemmas.{Passes, Relinked, relinked, names_other, next_of_other, next_of_same}
 
 abbrev pub others : Timer → List Timer → List Timer
@@ -8,7 +7,7 @@ others timer list = filter (λ other. not (is_timer timer other)) list
 
 pub others_none : (t : Timer) (list : List Timer) → list_any (is_timer t) list ≡ false → others t list ≡ list
 others_none t [] none = refl
-others_none t (u ∷ later) none = grind (arith, or_parts, others_none t later)
+others_none t (u ∷ later) none = grind (arith, others_none t later)
 
 -- without the first timer
 pub others_itself : (cells : List LinkedCell) (link : Option Timer) (timer : Timer) → Passes cells link timer →
@@ -19,7 +18,7 @@ others_itself cells link timer p = grind (arith, others_none)
 pub others_middle : (t : Timer) (earlier later : List Timer) → list_any (is_timer t) (earlier ++ later) ≡ false →
     others t (earlier ++ t ∷ later) ≡ earlier ++ later
 others_middle t [] later once = grind (arith, others_none)
-others_middle t (u ∷ earlier) later once = grind (arith, or_parts, others_middle t earlier later)
+others_middle t (u ∷ earlier) later once = grind (arith, others_middle t earlier later)
 
 none_behind : (t before : Timer) (earlier rest : List Timer) → list_any (is_timer t) (earlier ++ before ∷ rest) ≡ false →
     (is_timer t before ≡ false) × (list_any (is_timer t) (earlier ++ rest) ≡ false)
@@ -28,7 +27,7 @@ none_behind t before earlier rest none = grind (arith, list_any-append)
 -- a timer in the middle may be put first
 pub one_apart : (t : Timer) (earlier later : List Timer) → AreApart (earlier ++ t ∷ later) → AreApart (t ∷ (earlier ++ later))
 one_apart t [] later apart = apart
-one_apart t (u ∷ earlier) later apart = grind (arith, none_behind, is_timer_flips, one_apart t earlier later apart.1)
+one_apart t (u ∷ earlier) later apart = grind (arith, none_behind, one_apart t earlier later apart.1)
 
 pub names_behind : (cells : List LinkedCell) (link : Option Timer) (t : Timer) (earlier later : List Timer)
     → Names cells link (earlier ++ t ∷ later) → IsNamed t × Names cells (next_of cells t) later
@@ -48,7 +47,6 @@ names_closed cells link timer before x (u ∷ earlier) rest h within e apart nam
   arith,
   none_behind,
   next_of_other,
-  is_timer_flips,
   names_closed cells
       (next_of cells u) timer before x earlier rest h within e apart.1 names.1.1,
 )

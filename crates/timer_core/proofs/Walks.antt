@@ -16,7 +16,7 @@ module _ {cells : List LinkedCell} {link : Option ℕ} {place : ℕ} (is : link 
 
   module _ {first last : Option ℕ} {earlier : List Timer} (w : Walked cells first last link earlier) where
     pub walked_more : Walked cells first (Some place) (get_or cells place zero_linked).next (earlier ++ timer_at place ∷ [])
-    walked_more = grind (arith, passes_at, next_at, append_assoc)
+    walked_more = grind (arith, passes_at, append_assoc)
 
     -- the timer that the walk has reached
     pub behind_walked : (timer : Timer) → timer_at place ≡ timer → StandsBehind last timer (listed_from cells (led_to first))

@@ -1,5 +1,5 @@
 -- A number is read exactly as it is written.
-use Rattle.std.proofs.Common.{◌≡◌, ◌∙◌, ◌<◌, ◌^◌, Bool, true, false, ◌&&◌, ℕ, List, length, get_or, decimal, nat_lt, Result, Ok, Err, Some, None, refl, sym, ap, arith, rules, lt-ltb}
+use Rattle.std.proofs.Common.{◌≡◌, ◌∙◌, ◌<◌, ◌^◌, Bool, true, false, ◌&&◌, ℕ, List, length, decimal, nat_lt, Result, Ok, Err, Some, None, refl, sym, ap, arith, rules}
 use Rattle.std.proofs.lemmas.Bool.Decides.{nat_tests}
 use Rattle.std.proofs.lemmas.Fmt.{decimal-digits_value}
 use Rattle.std.proofs.lemmas.Str.Parse.{IsNumeralModel, numerals_by_value, parse_digits}
@@ -17,15 +17,11 @@ refused : (text : List ℕ) (is_read : Bool) → (is_number text && nat_lt (digi
     → ((0 < length text) × (digits_value 10 text < 2 ^ 64) → ⊥)
     → None ≡ read_number text
 refused text false test lacks = rw test refl
-refused text true test lacks = absurd (lacks (grind (arith, nat_tests, test), grind (arith, nat_tests, test)))
+refused text true test lacks = grind arith
 
 pub parsed : {E : Type 0} (text : List ℕ) (r : Result ℕ E) → list_all is_ascii_digit text ≡ true → has_leading_zero text ≡ false
     → ParsesUnsigned 64 10 text r → result_ok r ≡ read_number text
-parsed {E} text (Ok n) digits first reads =
-    let is = parse_digits digits_are_numerals {E = E} 64 text (Ok n) reads digits in
-    let some : nat_lt 0 (length text) ≡ true = lt-ltb 0 (length text) is.0.0 in
-    let small : nat_lt (digits_value 10 text) (2 ^ 64) ≡ true = lt-ltb (digits_value 10 text) (2 ^ 64) is.0.1 in
-    rw (some, digits, first, small, is.1) refl
+parsed {E} text (Ok n) digits first reads = grind arith
 parsed {E} text (Err e) digits first reads =
     refused text (is_number text && nat_lt (digits_value 10 text) (2 ^ 64)) refl
     (parse_digits digits_are_numerals {E = E} 64 text (Err e) reads digits)
@@ -34,13 +30,13 @@ module _ (text : List ℕ) where
   module _ (n : ℕ) where
     read_from : (is_read : Bool) → (is_number text && nat_lt (digits_value 10 text) (2 ^ 64)) ≡ is_read
         → read_number text ≡ Some n → text ≡ decimal n
-    read_from false test reads = grind (arith, nat_tests)
+    read_from false test reads = grind arith
     read_from true test reads =
         let value : digits_value 10 text ≡ n = cc (rw test at reads) in
-        let digits : list_all is_ascii_digit text ≡ true = grind (arith, nat_tests, test) in
-        let first : get_or text 0 0 ≡ 48 → length text ≡ 1 = λ zero. grind (arith, nat_tests, test, zero) in
+        let digits : list_all is_ascii_digit text ≡ true = grind (arith, test) in
         let small : digits_value 10 text < 2 ^ 64 = grind (arith, nat_tests, test) in
-        sym (decimal-digits_value digits_are_numerals text digits (grind (arith, nat_tests, test)) first small) ∙ ap decimal value
+        sym (decimal-digits_value digits_are_numerals text digits (grind (arith, nat_tests, test))
+        (λ zero. grind (arith, nat_tests, test, zero)) small) ∙ ap decimal value
 
     pub decimal_of_read : read_number text ≡ Some n → text ≡ decimal n
     decimal_of_read reads = read_from (is_number text && nat_lt (digits_value 10 text) (2 ^ 64)) refl reads

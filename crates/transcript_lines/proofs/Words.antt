@@ -1,6 +1,5 @@
 -- The words of a text, and their forms.
 use Rattle.std.proofs.Common.{◌≡◌, ◌≢◌, ◌<◌, ◌+◌, ◌==◌, ℕ, false, List, [], ◌∷◌, length, get_or, Option, Some, None, is_none, refl, arith}
-use Rattle.std.proofs.lemmas.Bool.Decides.{nat_tests}
 use Rattle.std.proofs.lemmas.List.Elements.{All-from_get_or}
 use Rattle.std.proofs.lemmas.List.Splits.{length-slice_split, slice_split_none}
 use Rattle.transcript_lines.specs.Code.{words_in}
@@ -8,7 +7,7 @@ use Rattle.transcript_lines.specs.Turns.{have_forms, words}
 use denote.Ref.{Bor}
 
 no_space : (byte : ℕ) → byte ≢ 32 → (byte == 32) ≡ false
-no_space byte other = grind (arith, nat_tests, other)
+no_space byte other = grind arith
 
 -- a text without spaces is one word
 pub one_word : (text : List ℕ) → ((i : ℕ) → i < length text → get_or text i 0 ≢ 32) → words text ≡ text ∷ []
@@ -17,7 +16,7 @@ one_word text lacks =
     (All-from_get_or (λ byte. (byte == 32) ≡ false) text 0 (λ i inside. no_space (get_or text i 0) (lacks i inside)))
 
 some_left : (left : List (List ℕ)) (n : ℕ) → length left ≡ n + 1 → have_forms [] left ≡ false
-some_left [] n is = absurd (omega (arith, is))
+some_left [] n is = absurd (omega arith)
 some_left (word ∷ left) n is = refl
 
 -- without forms there is no word exactly if no text is left

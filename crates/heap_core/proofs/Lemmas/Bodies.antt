@@ -1,6 +1,6 @@
 -- A write into a live block's bytes.
-use Rattle.heap_core.proofs.Lemmas.Words.{◌≡◌, ℕ, ◌+◌, ◌-◌, ◌≤◌, ◌<◌, List, [], ◌∷◌, ◌++◌, length, slice_range, true, not, eqb, refl, sym, ap, ◌∙◌, arith, Some, IsSomeAnd, filter, map, if◌then◌else◌, append_assoc, map-append, length-map, filter-append, eq-eqb, number_of, overwritten, ChangesOnly, written, length-range, written-range, changes_only, written_is, Chunk, Region, Block, HeapStore, has_name, block_of, find_block, without_block, is_a_name, blocks_in, is_named, heap_of, chunks_of, store_of, Owned, Spliced, block_in_chunk, without_place, unnamed, ◌≢◌, ◌⊎◌, Option, find, option_map, LiesIn, AreApart, IsLaidOut, extent_of, bytes_behind_header, BlocksLieApart, None, range_of, LieInOrder, end_of, Tell, cases_Bool}
-use Rattle.heap_core.proofs.Lemmas.Names.{IsStored, count_append, count_first, map_unnamed, filter_unnamed, keeps_name}
+use Rattle.heap_core.proofs.Lemmas.Words.{◌≡◌, ℕ, ◌+◌, ◌-◌, ◌≤◌, ◌<◌, List, [], ◌∷◌, ◌++◌, length, slice_range, true, not, refl, sym, ap, ◌∙◌, arith, Some, IsSomeAnd, filter, map, if◌then◌else◌, append_assoc, map-append, length-map, filter-append, eq-eqb, number_of, overwritten, ChangesOnly, written, length-range, written-range, changes_only, written_is, Chunk, Region, Block, HeapStore, has_name, block_of, find_block, without_block, is_a_name, blocks_in, is_named, heap_of, chunks_of, store_of, Owned, Spliced, block_in_chunk, without_place, unnamed, ◌≢◌, ◌⊎◌, Option, find, option_map, LiesIn, AreApart, IsLaidOut, extent_of, bytes_behind_header, BlocksLieApart, None, range_of, LieInOrder, end_of, Tell}
+use Rattle.heap_core.proofs.Lemmas.Names.{IsStored, count_append, map_unnamed, filter_unnamed}
 use Rattle.heap_core.proofs.Lemmas.ChunkHeaders.{store_with, live_frame, changes_more, count, elsewhere, swapped, Around, around, place_told, told_le}
 use Rattle.heap_core.proofs.Lemmas.Freed.{all_blocks, filter_swap, filter_map, all_bytes, in_order, live_of, named_here, named_skip, owner_named}
 use Rattle.heap_core.proofs.Lemmas.Lists.{cut_at, cut_left}
@@ -28,13 +28,13 @@ module _ {heap : Region} {B : List ℕ} (laid : IsStored heap B) {chunk : Chunk}
   counts : count name xs + (1 + count name ys) ≤ 1
   counts =
       let one : count name (xs ++ (block ∷ ys)) ≤ 1 = grind (arith, all_are) in
-      grind (arith, count_append, count_first)
+      grind (arith, count_append)
 
   pub few : (count name xs ≡ 0) × (count name ys ≡ 0)
   few = grind (arith, counts)
 
   pub block_bytes : length (slice_range B (b + chunk.at + heap.header) (b + chunk.at + heap.header + chunk.size)) ≡ chunk.size
-  block_bytes = length-range B (b + chunk.at + heap.header) chunk.size (omega (arith, laid.chunks.within, a.fits, a.enough, heap.inside))
+  block_bytes = length-range B (b + chunk.at + heap.header) chunk.size (omega (arith, a.fits, a.enough, heap.inside))
 
   pub range_fits : (store : HeapStore) (p h at len : ℕ) → name ≡ number_of p h → find_block name store ≡ Some block
       → IsSomeAnd (block_of p h store) (λ bytes. at + len ≤ length bytes) → at + len ≤ chunk.size
@@ -43,21 +43,21 @@ module _ {heap : Region} {B : List ℕ} (laid : IsStored heap B) {chunk : Chunk}
   -- by its position, or by its name
   by_name : filter (elsewhere chunk.at) (blocks_in heap.header B b (chunks_of heap B))
       ≡ filter (λ (other : Block). not (has_name name other)) (blocks_in heap.header B b (chunks_of heap B))
-  by_name = grind (arith, eq-eqb, all_are, filter-append, filter_unnamed, few, cut_left (cut_at a))
+  by_name = grind (arith, all_are, filter-append, filter_unnamed, few, cut_left (cut_at a))
 
   pub without_place_is : without_place chunk.at (store_of heap B) ≡ without_block name (store_of heap B)
   without_place_is = ap (store_with heap) by_name
 
   -- also among the live blocks
   pub live_without_place : without_place chunk.at (heap_of heap B) ≡ without_block name (heap_of heap B)
-  live_without_place = grind (arith, filter_swap, elsewhere, by_name)
+  live_without_place = grind (arith, filter_swap, by_name)
 
   module _ (at : ℕ) (ws : List ℕ) (room : at + length ws ≤ chunk.size) where
     abbrev B' : List ℕ
     B' = written B (b + chunk.at + heap.header + at) ws
 
     fits : b + chunk.at + heap.header + at + length ws ≤ length B
-    fits = omega (arith, laid.chunks.within, a.fits, a.enough, heap.inside)
+    fits = omega (arith, a.fits, a.enough)
 
     changes : ChangesOnly (b + chunk.at + heap.header) (chunk.len - heap.header) B B'
     changes = changes_only B (b + chunk.at + heap.header + at) ws fits (b + chunk.at + heap.header) (chunk.len - heap.header) (omega arith)
@@ -75,7 +75,7 @@ module _ {heap : Region} {B : List ℕ} (laid : IsStored heap B) {chunk : Chunk}
         (changes_more changes (omega arith)
         (omega (arith, a.enough)))
         (live_frame B B' b (b + chunk.at + heap.header) (chunk.len - heap.header) changes chunk.at chunk a.here is_named_owner
-        (omega (arith, heap.header_least)))
+        (omega arith))
         refl a.enough ((λ live. live), (λ none. none))
 
     abbrev over : Block → Block
@@ -83,7 +83,7 @@ module _ {heap : Region} {B : List ℕ} (laid : IsStored heap B) {chunk : Chunk}
 
     pub body_blocks : blocks_in heap.header B' b (chunks_of heap B') ≡ map (λ other. if has_name name other then over other else other)
         (blocks_in heap.header B b (chunks_of heap B))
-    body_blocks = let here : eqb name name ≡ true = eq-eqb name name refl in
+    body_blocks = let here = eq-eqb name name refl in
         let new : blocks_in heap.header B' b (chunk ∷ []) ≡ over block ∷ [] = grind (arith, read) in
         grind (arith, map-append, map_unnamed name over ys few.1, map_unnamed name over xs few.0, all_are, body_spliced)
 
@@ -92,14 +92,14 @@ module _ {heap : Region} {B : List ℕ} (laid : IsStored heap B) {chunk : Chunk}
 
     pub live_blocks : filter is_named (blocks_in heap.header B' b (chunks_of heap B'))
         ≡ map change (filter is_named (blocks_in heap.header B b (chunks_of heap B)))
-    live_blocks = grind (arith, body_blocks, filter_map, keeps_name)
+    live_blocks = grind (arith, body_blocks, filter_map)
 
     pub same_chunks : chunks_of heap B' ≡ chunks_of heap B
     same_chunks = body_spliced.is ∙ sym a.is
 
     pub same_unnamed : length (unnamed (blocks_in heap.header B' b (chunks_of heap B')))
         ≡ length (unnamed (blocks_in heap.header B b (chunks_of heap B)))
-    same_unnamed = grind (arith, body_blocks, filter_map, keeps_name, length-map)
+    same_unnamed = grind (arith, body_blocks, filter_map, length-map)
 
 -- The live blocks are apart in the arena.
 module _ (header : ℕ) where
@@ -116,7 +116,6 @@ module _ (header : ℕ) where
   lie_apart from size name name' one other (x ∷ xs) ne h e e' =
       grind (
         arith,
-        cases_Bool,
         lies (end_of header x) size name' other xs h.2,
         lies (end_of header x) size name one xs h.2,
         lie_apart
@@ -131,7 +130,6 @@ module _ (header : ℕ) where
       grind (
         arith,
         told_le,
-        cases_Bool,
         owner_named,
         named_here,
         length-range,

@@ -1,5 +1,5 @@
 -- The chunks that headers describe, and how they change with the bytes.
-use Rattle.heap_core.proofs.Lemmas.Words.{◌≡◌, ℕ, zero, suc, ◌+◌, ◌≤◌, ◌<◌, ◌⊎◌, inl, inr, List, [], ◌∷◌, ◌++◌, false, true, refl, sym, ap, ◌∙◌, subst, arith, Option, Some, None, IsSomeAnd, lt-ltb, le-ltb, ChangesOnly, Chunk, Block, is_a_name, word_at, place_in_link, owner_in, size_in, link_in, chunk_at, chunks_from, least_len, Tell, blocks_in, Region, chunks_of, HasChunks, Stands, chunks_behind, ◌≢◌, IfSome, LiveIn, Bool, not, length, eqb, filter, ltb-true, cases_Bool, placed, has_name, ◌-◌, HeapStore, BeginsLive, AreJoined, Spliced}
+use Rattle.heap_core.proofs.Lemmas.Words.{◌≡◌, ℕ, zero, suc, ◌+◌, ◌≤◌, ◌<◌, ◌⊎◌, inl, inr, List, [], ◌∷◌, ◌++◌, true, refl, ap, ◌∙◌, subst, arith, Option, Some, None, ChangesOnly, Chunk, Block, is_a_name, word_at, owner_in, size_in, link_in, chunk_at, chunks_from, least_len, Tell, blocks_in, Region, chunks_of, HasChunks, Stands, chunks_behind, ◌≢◌, IfSome, LiveIn, Bool, not, length, eqb, filter, placed, has_name, ◌-◌, HeapStore, BeginsLive, AreJoined, Spliced}
 
 abbrev pub store_with : Region → List Block → HeapStore
 store_with heap blocks = record { size = heap.span.len; header = heap.header; blocks = blocks }
@@ -14,14 +14,14 @@ module _ (header : ℕ) where
       → chunks_from n B b at end ≡ l
   walked zero B b at end [] t few = refl
   walked zero B b at end (c ∷ l) t few = grind (arith, told_le)
-  walked (suc n) B b at end [] t few = grind (arith, le-ltb)
-  walked (suc n) B b at end (c ∷ l) t few = grind (arith, told_le, lt-ltb, walked n B b (at + c.len) end l t.2)
+  walked (suc n) B b at end [] t few = grind arith
+  walked (suc n) B b at end (c ∷ l) t few = grind (arith, told_le, walked n B b (at + c.len) end l t.2)
 
   module _ (B : List ℕ) where
     module _ (b : ℕ) where
       pub told_append : (x y z : ℕ) (l r : List Chunk) → Tell header B b x y l → Tell header B b y z r
           → Tell header B b x z (l ++ r)
-      told_append x y z [] r s t = subst (λ k. Tell header B b k z r) (sym s) t
+      told_append x y z [] r s t = grind arith
       told_append x y z (c ∷ l) r s t = (s.0, s.1, told_append (x + c.len) y z l r s.2 t)
 
       pub record Split (x z : ℕ) (l r : List Chunk) : Type 0 where
@@ -60,10 +60,9 @@ module _ (header : ℕ) (B B' : List ℕ) (b s n : ℕ) (changes : ChangesOnly s
       → Tell header B' b x y l × (blocks_in header B' b l ≡ blocks_in header B b l)
   framed x y [] side t = (t, refl)
   framed x y (c ∷ l) side t =
-      let enough = t.1 in let le = told_le header B b (x + c.len) y l t.2 in
-      let at = place_told B b x c t.0 in
+      let le = told_le header B b (x + c.len) y l t.2 in
       let later = framed (x + c.len) y l (grind arith) t.2 in
-      let same = later.1 in (((chunk_frame B B' b s n changes x (grind arith)) ∙ t.0, t.1, later.0), grind arith)
+      ((chunk_frame B B' b s n changes x (grind arith) ∙ t.0, t.1, later.0), grind (arith, t.1, place_told B b x c t.0))
 
 pub owner_cases : (o : Option ℕ) → (o ≡ None) ⊎ ((name : ℕ) × (o ≡ Some name))
 owner_cases None = inl refl
@@ -102,12 +101,12 @@ module _ (header : ℕ) where
             pub fits : at + chunk.len ≤ end
 
           pub room_for_header : (rest : List Chunk) → Tell header B b at end rest → at < end → at + 12 ≤ end
-          room_for_header [] t less = absurd (omega (arith, t))
+          room_for_header [] t less = absurd (omega arith)
           room_for_header (c ∷ l) t less = grind (arith, told_le)
 
           pub step : (chunk : Chunk) (rest : List Chunk) → chunk ≡ chunk_at B b at
               → Tell header B b at end rest → at < end → Step chunk rest
-          step chunk [] e t less = absurd (omega (arith, t))
+          step chunk [] e t less = absurd (omega arith)
           step chunk (c ∷ l) e t less = grind (arith, told_le)
 
 pub if_some : {X : Type 0} (P Q : X → Type 0) (o : Option X) → IfSome o P → ((x : X) → P x → Q x) → IfSome o Q
@@ -132,7 +131,7 @@ Ascending top (block ∷ blocks) = Between (suc block.at) top blocks × (block.a
 module _ (x : ℕ) where
   between_more : (x' y : ℕ) (xs : List Block) → x' ≤ x → Between x y xs → Between x' y xs
   between_more x' y [] le h = tt
-  between_more x' y (block ∷ xs) le h = (omega (arith, h.0), h.1, between_more x' y xs le h.2)
+  between_more x' y (block ∷ xs) le h = (omega arith, h.1, between_more x' y xs le h.2)
 
   module _ (y : ℕ) where
     pub filter_elsewhere : (at : ℕ) (xs : List Block) → Between x y xs → (at < x) ⊎ (y ≤ at) → filter (elsewhere at) xs ≡ xs
@@ -147,7 +146,7 @@ module _ (x : ℕ) where
 
       pub placed_front : (xs : List Block) → Between x y xs → block.at < x → placed block xs ≡ block ∷ xs
       placed_front [] h le = refl
-      placed_front (other ∷ xs) h le = grind (arith, lt-ltb)
+      placed_front (other ∷ xs) h le = grind arith
 
 -- Chunks that others replace.
 
@@ -191,9 +190,9 @@ module _ (c : Chunk) where
 
   pub live_kept : {old new : List Chunk} (before gone mid behind : List Chunk) → old ≡ before ++ (gone ++ behind)
       → new ≡ before ++ (mid ++ behind) → (In gone → ⊥) → LiveIn c old → LiveIn c new
-  live_kept {old} {new} before gone mid behind was is none h = let k = in_of old h.stands in
-      let beside = in_without before gone behind none in let there = in_either before mid behind in
-      record { stands = stands_of new (grind arith); live = h.live }
+  live_kept {old} {new} before gone mid behind was is none h = let beside = in_without before gone behind none in let there =
+      in_either before mid behind in
+      record { stands = stands_of new (grind (arith, in_of old h.stands)); live = h.live }
 
 pub spliced : (old new : Region) (B B' : List ℕ) (x y : ℕ) (before mid behind : List Chunk) → new.span ≡ old.span → new.header ≡ old.header
     → old.span.at + old.span.len ≤ length B
@@ -215,14 +214,6 @@ spliced old new B B' x y before mid behind span same within changes front told b
       is = is;
       store = grind (arith, blocks_append);
     }
-
-module _ (owner : Option ℕ) where
-  module _ (word : ℕ) where
-    pub link_named : is_a_name owner ≡ true → link_in owner word ≡ None
-    link_named named = rw named refl
-
-    pub link_free : is_a_name owner ≡ false → link_in owner word ≡ place_in_link word
-    link_free free = rw free refl
 
 module _ (header : ℕ) where
   pub joined_swap : (pre old new : List Chunk) → (BeginsLive old → BeginsLive new) → AreJoined header (pre ++ old)
@@ -249,7 +240,7 @@ module _ (header : ℕ) where
       pub blocks_between : (x y : ℕ) (l : List Chunk) → Tell header B b x y l → Between x y (blocks_in header B b l)
       blocks_between x y [] t = tt
       blocks_between x y (c ∷ l) t =
-          grind (arith, told_le, between_more, blocks_between (x + c.len) y l t.2, place_told B b x c t.0, t.1)
+          grind (arith, told_le, between_more, blocks_between (x + c.len) y l t.2, place_told B b x c t.0)
 
       pub blocks_ascending : (x y : ℕ) (l : List Chunk) → Tell header B b x y l → Ascending y (blocks_in header B b l)
       blocks_ascending x y [] t = tt
@@ -259,7 +250,7 @@ module _ (header : ℕ) where
       module _ (end : ℕ) where
         pub inside : (c : Chunk) (l : List Chunk) → Tell header B b 0 end l → LiveIn c l
             → c.at + header + c.size ≤ end
-        inside c l told h = let t = in_told 0 end c l told (in_of c l h.stands) in omega (arith, t.1, t.2)
+        inside c l told h = let t = in_told 0 end c l told (in_of c l h.stands) in omega (arith, t.2)
 
 -- A chunk that is among the others.
 pub record Around (heap : Region) (B : List ℕ) (chunk : Chunk) : Type 0 where
@@ -325,19 +316,4 @@ module _ (p : Block → Bool) where
   pub filter_placed : (top : ℕ) (block : Block) (xs : List Block) → p block ≡ true → Ascending top xs
       → filter p (placed block xs) ≡ placed block (filter p xs)
   filter_placed top block [] stays h = rw stays refl
-  filter_placed top block (x ∷ xs) stays h = grind (
-    arith,
-    cases_Bool,
-    ltb-true,
-    between_more,
-    placed_front,
-    filter_between,
-    filter_placed top block xs stays h.2,
-  )
-
-module _ (o : Option ℕ) where
-  pub owner_some : IsSomeAnd o (λ name. name < 272) → (name : ℕ) × (o ≡ Some name)
-  owner_some h = grind arith
-
-  pub owner_live : IsSomeAnd o (λ name. name < 272) → is_a_name o ≡ true
-  owner_live h = grind arith
+  filter_placed top block (x ∷ xs) stays h = grind (arith, between_more, placed_front, filter_between, filter_placed top block xs stays h.2)

@@ -1,5 +1,5 @@
 -- Chunks that were freed and are not joined yet.
-use Rattle.heap_core.proofs.Lemmas.Words.{◌≡◌, ◌≢◌, ℕ, ◌+◌, ◌-◌, ◌≤◌, ◌<◌, inl, inr, Bool, not, List, [], ◌∷◌, ◌++◌, length, true, false, refl, sym, ap, ◌∙◌, subst, arith, Option, Some, None, IfSome, filter, map, cases_Bool, ltb-true, lt-ltb, le-ltb, length-append, filter-append, All-nil, ChangesOnly, Chunk, Region, Block, HeapStore, placed, heap_of, FREED, is_a_name, chunk_at, Tell, AreJoined, with_chunk, blocks_in, is_named, chunks_of, store_of, HasChunks, NoneAt, AreFreed, unnamed, GapsLinked, FreedLinked, Stands, LiveIn, Owned, Spliced, Aside, Changed, KeepsToSpan, KeepsFreed, block_in_chunk, block_at, with_block, without_place, place_in_chunk, bytes_in_chunk, Contents, gaps, IsLaidOut, Joins, ◌*◌, ◌⊎◌, sum_by, All, sum_by-cons, length-range, length-map, Gap, end_of, gaps_from, LieInOrder, shortest, mul-le, footprint, stats_of}
+use Rattle.heap_core.proofs.Lemmas.Words.{◌≡◌, ◌≢◌, ℕ, ◌+◌, ◌-◌, ◌≤◌, ◌<◌, inl, inr, Bool, not, List, [], ◌∷◌, ◌++◌, length, true, false, refl, sym, ap, ◌∙◌, subst, arith, Option, Some, None, IfSome, filter, map, cases_Bool, ltb-true, lt-ltb, le-ltb, length-append, filter-append, All-nil, ChangesOnly, Chunk, Region, Block, HeapStore, placed, heap_of, FREED, is_a_name, chunk_at, Tell, AreJoined, with_chunk, blocks_in, is_named, chunks_of, store_of, HasChunks, NoneAt, AreFreed, unnamed, GapsLinked, FreedLinked, Stands, LiveIn, Owned, Spliced, Aside, Changed, KeepsToSpan, KeepsFreed, block_in_chunk, block_at, with_block, without_place, place_in_chunk, bytes_in_chunk, Contents, gaps, IsLaidOut, Joins, ◌*◌, ◌⊎◌, sum_by, All, sum_by-cons, length-range, length-map, Gap, end_of, gaps_from, LieInOrder, shortest, footprint, stats_of}
 use Rattle.heap_core.proofs.Lemmas.ChunkHeaders.{store_with, elsewhere, swapped, Around, around, blocks_append, changes_more, place_told, told_le, Step, step, ended}
 use Rattle.heap_core.proofs.Lemmas.Gaps.{many, gaps_are, last_end}
 use Rattle.heap_core.proofs.Lemmas.Lists.{cut_at, cut_left, edit_kept, edit_put, swapped_list}
@@ -58,9 +58,9 @@ module _ {heap : Region} {B : List ℕ} (has : HasChunks heap B) where
       from (c ∷ list) h count = inr (
         c.at,
         h.0,
-        omega (arith, count),
+        omega arith,
         subst Newest (sym (around has h.1.stands).here)
-            (record { live = h.1; owner = h.2; rest = list; none = h.3; later = h.4; count = omega (arith, count) }),
+            (record { live = h.1; owner = h.2; rest = list; none = h.3; later = h.4; count = omega arith }),
       )
 
   pub newest_is : FreedLinked heap B → {at : ℕ} {chunk : Chunk} → heap.newest ≡ Some at → chunk ≡ chunk_at B heap.span.at at → Newest chunk
@@ -77,13 +77,13 @@ module _ {heap : Region} {B : List ℕ} (has : HasChunks heap B) where
     | inl none ↦ subst (λ o. IfSome o (λ place. place < 65536)) (sym none.0) tt
     | inr some ↦
         let a = around has some.3.live.stands in subst (λ o. IfSome o (λ place. place < 65536)) (sym some.1)
-        (omega (arith, a.fits, a.enough, place_told B heap.span.at some.0 _ refl, heap.inside, heap.small))
+        (omega (arith, a.enough, place_told B heap.span.at some.0 _ refl, heap.inside, heap.small))
   ]
 
 -- a chunk with or without a name, and the others
 module _ {heap : Region} {B : List ℕ} {chunk : Chunk} (at : Around heap B chunk) {name : ℕ} (owner : chunk.owner ≡ Some name) where
   pub is_live : chunk.owner ≢ None
-  is_live none = absurd (let two = sym none ∙ owner in cc)
+  is_live none = cc
 
   abbrev xs : List Block
   xs = blocks_in heap.header B heap.span.at at.before
@@ -110,7 +110,7 @@ module _ {heap : Region} {B : List ℕ} {chunk : Chunk} (at : Around heap B chun
 
   pub named_without : 272 ≤ name
       → filter is_named (filter (elsewhere chunk.at) (store_of heap B).blocks) ≡ filter is_named (store_of heap B).blocks
-  named_without big = grind (arith, le-ltb, other_blocks, all_blocks, filtered)
+  named_without big = grind (arith, other_blocks, all_blocks, filtered)
 
   pub unnamed_without : 272 ≤ name
       → length (unnamed (store_of heap B).blocks) ≡ 1 + length (unnamed (filter (elsewhere chunk.at) (store_of heap B).blocks))
@@ -125,11 +125,11 @@ module _ {heap : Region} {B : List ℕ} {chunk : Chunk} (at : Around heap B chun
     aside = record { at = chunk.at; len = chunk.len; owner = Some FREED; size = chunk.size; link = heap.newest }
 
     freed_live : aside.owner ≢ None
-    freed_live none = absurd (let two = none in cc)
+    freed_live none = cc
 
     set : Spliced heap new B B' at.before (aside ∷ []) at.behind
     set = swapped at aside span header footprint
-        (changes_more changes (omega arith) (omega (arith, at.enough)))
+        (changes_more changes (omega arith) (omega arith))
         told refl at.enough ((λ _. freed_live), (λ none. absurd (freed_live none)))
 
     k : Block
@@ -141,18 +141,11 @@ module _ {heap : Region} {B : List ℕ} {chunk : Chunk} (at : Around heap B chun
 
     set_named : filter is_named (store_of new B').blocks ≡ filter (elsewhere chunk.at) (filter is_named (store_of heap B).blocks)
     unfolding k
-    set_named = grind (arith, filter_swap, elsewhere, other_blocks, filtered is_named k, set_blocks)
+    set_named = grind (arith, filter_swap, other_blocks, filtered is_named k, set_blocks)
 
     set_unnamed : length (unnamed (store_of new B').blocks) ≡ 1 + length (unnamed (store_of heap B).blocks)
     unfolding k
-    set_unnamed = grind (
-      arith,
-      filtered (λ j. not (is_named j)) block,
-      counted (λ j. not (is_named j)) k,
-      set_blocks,
-      all_blocks,
-      lt-ltb name 272 small,
-    )
+    set_unnamed = grind (arith, filtered (λ j. not (is_named j)) block, counted (λ j. not (is_named j)) k, set_blocks, all_blocks)
 
     none_there : (head : Option ℕ) (list : List Chunk) → AreFreed (chunks_of heap B) head list → NoneAt chunk.at list
     none_there head [] h = tt
@@ -165,7 +158,7 @@ module _ {heap : Region} {B : List ℕ} {chunk : Chunk} (at : Around heap B chun
         → GapsLinked heap B → FreedLinked heap B → Aside heap new B B' chunk
     set_aside newest freed lowest gaps g f = record {
       chunks = set.has;
-      block = grind (arith, k, set_named);
+      block = grind (arith, set_named);
       gaps = swapped_list at set is_live freed_live lowest gaps g;
       freed = record {
         list = aside ∷ f.list;
@@ -177,8 +170,8 @@ module _ {heap : Region} {B : List ℕ} {chunk : Chunk} (at : Around heap B chun
           freed_moved (chunks_of heap B) (chunks_of new B') heap.newest f.list chunk.at (none_there heap.newest f.list f.linked)
               (edit_kept (cut_at at) set) f.linked,
         );
-        count = omega (arith, f.count, freed);
-        all = omega (arith, f.all, set_unnamed, freed);
+        count = omega (arith, freed);
+        all = omega (arith, set_unnamed);
       };
     }
 
@@ -191,10 +184,10 @@ module _ {heap : Region} {B : List ℕ} {chunk : Chunk} (at : Around heap B chun
     again = record { at = chunk.at; len = chunk.len; owner = Some name; size = n; link = None }
 
     again_live : again.owner ≢ None
-    again_live none = absurd (let two = none in cc)
+    again_live none = cc
 
     anew : Spliced heap heap B after.bytes at.before (again ∷ []) at.behind
-    anew = swapped at again refl refl refl changes told refl (omega (arith, at.enough, room))
+    anew = swapped at again refl refl refl changes told refl (omega (arith, room))
         ((λ _. again_live), (λ none. absurd (again_live none)))
 
     pub refilled : {ws : List ℕ} {before : Contents} → before.bytes ≡ B → bytes_in_chunk heap.header after.bytes heap.span.at again ≡ ws
@@ -298,11 +291,10 @@ module _ (header : ℕ) (B : List ℕ) (b : ℕ) where
 
   pub live_in_order : (size from x z : ℕ) (l : List Chunk) → b + size ≤ length B → z ≤ size → from ≤ x → Tell header B b x z l
       → LieInOrder header from (live_of header B b l) size
-  live_in_order size from x z [] fits most le t = omega (arith, t)
+  live_in_order size from x z [] fits most le t = omega arith
   live_in_order size from x z (c ∷ l) fits most le t = grind (
     arith,
     told_le,
-    cases_Bool,
     owner_named,
     named_here,
     length-range,
@@ -331,9 +323,13 @@ pub all_bytes : (header from size : ℕ) (xs : List Block) → LieInOrder header
     × (from + (gap_sum (gaps_from header from xs) + (rooms_of xs + header * length xs)) ≡ last_end header from xs)
 all_bytes header from size [] h = (h, omega arith)
 all_bytes header from size (block ∷ xs) h = let later = all_bytes header (end_of header block) size xs h.2 in
-    let sum = sum_by-cons (λ (block : Block). block.room) block xs in
     let gap : Gap = record { at = from; len = block.at - from } in
-    grind (arith, ltb-true, sum_by-cons (λ (gap : Gap). gap.len) gap (gaps_from header (end_of header block) xs))
+    grind (
+      arith,
+      ltb-true,
+      sum_by-cons (λ (gap : Gap). gap.len) gap (gaps_from header (end_of header block) xs),
+      sum_by-cons (λ (block : Block). block.room) block xs,
+    )
 
 -- What the statistics have counted while they walk over the chunks.
 abbrev stats : ℕ → ℕ → ℕ → ℕ → ℕ → HeapStats
@@ -359,7 +355,7 @@ module _ {heap : Region} {B : List ℕ} (has : HasChunks heap B) where
   live l = live_of heap.header B b l
 
   pub in_order : LieInOrder heap.header 0 blocks heap.span.len
-  in_order = live_in_order heap.header B b heap.span.len 0 0 heap.footprint (chunks_of heap B) has.within (omega (arith, heap.inside))
+  in_order = live_in_order heap.header B b heap.span.len 0 0 heap.footprint (chunks_of heap B) has.within (omega arith)
       (omega arith) has.told
 
   pub counted_first : Counted heap B 0 0 0 0
@@ -368,11 +364,11 @@ module _ {heap : Region} {B : List ℕ} (has : HasChunks heap B) where
   module _ {rooms many end at : ℕ} (w : Counted heap B rooms many end at) where
     -- what is counted is in the span
     pub counted_fits : (rooms + heap.header * many ≤ heap.span.len) × (8 * many ≤ heap.span.len)
-    counted_fits = grind (arith, all_bytes, in_order, mul-le)
+    counted_fits = grind (arith, all_bytes, in_order)
 
     pub counted_all : heap.footprint ≤ at → stats rooms (heap.header * many) (heap.span.len - rooms - heap.header * many) end many
         ≡ stats_of (heap_of heap B)
-    counted_all far = grind (arith, all_bytes, in_order, last_end, ended heap.header B b at heap.footprint w.left w.told far)
+    counted_all far = grind (arith, all_bytes, in_order, ended heap.header B b at heap.footprint w.left w.told far)
 
 module _ {heap : Region} {B : List ℕ} {rooms many end at : ℕ} {chunk : Chunk} (w : Counted heap B rooms many end at)
     (is : chunk ≡ chunk_at B heap.span.at at) (more : at < heap.footprint) where
@@ -382,15 +378,15 @@ module _ {heap : Region} {B : List ℕ} {rooms many end at : ℕ} {chunk : Chunk
   pub counted_live : is_a_name chunk.owner ≡ true
       → Counted heap B (rooms + (chunk.len - heap.header)) (many + 1) (at + chunk.len) (at + chunk.len)
   counted_live named =
-      let m = met in let o = owner_named chunk.owner named in let here = named_here heap.header B heap.span.at chunk m.later o.0 o.1 o.2 in
-      let sum = sum_by-cons (λ (block : Block). block.room) (block_in_chunk heap.header B heap.span.at o.0 chunk)
+      let m = met in let o = owner_named chunk.owner named in let sum = sum_by-cons (λ (block : Block). block.room)
+      (block_in_chunk heap.header B heap.span.at o.0 chunk)
       (live_of heap.header B heap.span.at m.later) in
       let same : chunk.at + (heap.header + (chunk.len - heap.header)) ≡ at + chunk.len = omega
       (arith, m.enough, place_told B heap.span.at at chunk (sym is)) in
-      grind arith
+      grind (arith, named_here heap.header B heap.span.at chunk m.later o.0 o.1 o.2)
 
   pub counted_free : is_a_name chunk.owner ≡ false → Counted heap B rooms many end (at + chunk.len)
-  counted_free free = grind (arith, named_skip, met)
+  counted_free free = grind (arith, met)
 
 module _ (p : Block → Bool) where
   pub none_unnamed : (xs : List Block) → length (unnamed xs) ≡ 0 → length (unnamed (filter p xs)) ≡ 0

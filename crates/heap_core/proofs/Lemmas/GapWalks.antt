@@ -1,5 +1,5 @@
 -- The walk along the links to the gaps beside a position.
-use Rattle.heap_core.proofs.Lemmas.Words.{word_at, slice_range, from_le_bytes, w32, range-range, ◌≡◌, ◌≢◌, ℕ, ◌+◌, ◌≤◌, ◌<◌, List, [], ◌∷◌, refl, sym, ap, ◌∙◌, arith, Option, Some, None, IfSome, fold, option_map, lt-ltb, le-ltb, le-leb, Chunk, Region, chunk_at, chunks_of, HasChunks, gaps_among, LinkedTo, Follow, below_from, gap_below, gap_from, ◌^◌, place_in_link, option_map_or, cases_Bool, ltb-false, Gap, shorter, best_gap, gaps, store_of}
+use Rattle.heap_core.proofs.Lemmas.Words.{word_at, slice_range, range-range, ◌≡◌, ◌≢◌, ℕ, ◌+◌, ◌≤◌, ◌<◌, List, [], ◌∷◌, refl, sym, ap, ◌∙◌, arith, Option, Some, None, IfSome, fold, option_map, Chunk, Region, chunk_at, chunks_of, HasChunks, gaps_among, LinkedTo, Follow, below_from, gap_below, gap_from, ◌^◌, place_in_link, option_map_or, cases_Bool, ltb-false, Gap, shorter, best_gap, gaps, store_of}
 use Rattle.heap_core.proofs.Lemmas.Lists.{next_gap, no_gap, followed, NextGap}
 use Rattle.heap_core.proofs.Lemmas.ChunkHeaders.{place_told}
 use Rattle.heap_core.proofs.Lemmas.Gaps.{better_chunk, better_same, gaps_are}
@@ -16,7 +16,7 @@ module _ (word : ℕ) where
   stops : (B : List ℕ) (b from end p : ℕ) (found : Option Chunk) (left : List Chunk) → Follow B b from end (place_in_link word) left
       → p ≤ word → (below_from p found left ≡ found) × (gap_from p left ≡ place_in_link word)
   stops B b from end p found [] follow far = (refl, sym follow)
-  stops B b from end p found (gap ∷ left) follow far = let is : gap.at ≡ word = grind arith in grind (arith, le-ltb)
+  stops B b from end p found (gap ∷ left) follow far = grind arith
 
 -- the state of a walk: the last gap found, and the gaps not passed yet
 pub record Walked (heap : Region) (B : List ℕ) (p : ℕ) (below next : Option ℕ) : Type 0 where
@@ -41,7 +41,7 @@ module _ {heap : Region} {B : List ℕ} {p : ℕ} where
 
     pub walk_more : {new : Option ℕ} → new ≡ gap.link → Walked heap B p (place_in_link word) new
     walk_more {new} link =
-        grind (arith, lt-ltb, word_below word p small less, walk_step)
+        grind (arith, walk_step)
 
   pub stop : {below : Option ℕ} (word : ℕ) → Walked heap B p below (place_in_link word) → p ≤ word
       → (below ≡ option_map (λ (gap : Chunk). gap.at) (gap_below p (gaps_among (chunks_of heap B))))
@@ -63,11 +63,6 @@ module _ (B : List ℕ) where
 
 -- The search along the links for the shortest gap that is long enough.
 
--- the shorter one of the best gap so far and this one
-abbrev shorter_of : Option Gap → Chunk → Gap
-shorter_of best gap = let this : Gap = record { at = gap.at; len = gap.len } in
-    option_map_or (λ (other : Gap). shorter other this) best this
-
 module _ (need : ℕ) where
   -- a gap of exactly that length stays the best one
   exact_kept : (found : Gap) (gaps : List Chunk) → found.len ≤ need → fold (better_chunk need) (Some found) gaps ≡ Some found
@@ -77,10 +72,9 @@ module _ (need : ℕ) where
   -- so the search may stop at it
   pub exact_is_best : (best : Option Gap) (gap : Chunk) (later : List Chunk) → gap.len ≡ need
       → fold (better_chunk need) (better_chunk need best gap) later ≡ better_chunk need best gap
-  exact_is_best None gap later exact = grind (arith, le-leb, better_chunk, exact_kept)
+  exact_is_best None gap later exact = grind (arith, exact_kept)
   exact_is_best (Some other) gap later exact = grind (
     arith,
-    le-leb,
     better_chunk,
     cases_Bool,
     ltb-false,
@@ -94,10 +88,6 @@ module _ (need : ℕ) where
       -- a gap that is too short changes nothing
       short_leaves_best : gap.len < need → best ≡ better_chunk need best gap
       short_leaves_best less = grind arith
-
-      -- one that is long enough replaces a longer one
-      long_is_compared : need ≤ gap.len → Some (shorter_of best gap) ≡ better_chunk need best gap
-      long_is_compared enough = grind arith
 
 module _ (heap : Region) where
   module _ (B : List ℕ) where
@@ -118,7 +108,7 @@ module _ {heap : Region} {B : List ℕ} {need : ℕ} where
 
   pub search_ended : {best : Option Gap} {next : Option ℕ} → next ≡ None → Searched heap B need best next
       → best ≡ best_gap need (gaps (store_of heap B))
-  search_ended {best} {next} none s = grind (arith, no_gap, better_chunk)
+  search_ended {best} {next} none s = grind (arith, no_gap)
 
   module _ {best : Option Gap} {word len : ℕ} (s : Searched heap B need best (place_in_link word)) (some : word ≢ 4294967295)
       (len_is : len ≡ (chunk_at B heap.span.at word).len) where
@@ -136,20 +126,20 @@ module _ {heap : Region} {B : List ℕ} {need : ℕ} where
     this_is = grind (arith, place_told)
 
     more : {new : Option Gap} {link : Option ℕ} → new ≡ better_chunk need best chunk → link ≡ chunk.link → Searched heap B need new link
-    more {new} {link} e link_is = grind (arith, next_met, better_chunk)
+    more {new} {link} e link_is = grind (arith, next_met)
 
     pub search_past_short : len < need → {link : Option ℕ} → link ≡ chunk.link → Searched heap B need best link
-    search_past_short less {link} = more (short_leaves_best need best chunk (omega (arith, len_is)))
+    search_past_short less {link} = more (short_leaves_best need best chunk (omega arith))
 
     module _ {found : Gap} (compared : found ≡ option_map_or (λ other. shorter other this) best this) (enough : need ≤ len) where
       found_is : Some found ≡ better_chunk need best chunk
-      found_is = grind (arith, this_is, long_is_compared)
+      found_is = grind (arith, this_is)
 
       pub search_past_long : {link : Option ℕ} → link ≡ chunk.link → Searched heap B need (Some found) link
       search_past_long {link} = more found_is
 
       pub search_exact : len ≡ need → Some found ≡ best_gap need (gaps (store_of heap B))
-      search_exact exact = grind (arith, next_met, found_is, exact_is_best, better_chunk)
+      search_exact exact = grind (arith, next_met, exact_is_best)
 
 module _ (B : List ℕ) where
   -- the gap that begins at the stored position
@@ -160,4 +150,4 @@ module _ (B : List ℕ) where
   -- a word of the span, read from all bytes
   pub word_inside : (b len at place : ℕ) → at + 4 ≤ len → b + at ≡ place
       → word_at (slice_range B b (b + len)) at ≡ word_at B place
-  word_inside b len at place fits is = grind (arith, from_le_bytes, w32, range-range)
+  word_inside b len at place fits is = grind (arith, range-range)

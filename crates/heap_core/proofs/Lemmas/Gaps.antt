@@ -1,6 +1,6 @@
 -- The gaps that the blocks leave are the gaps among the chunks; what follows for the positions of a heap.
-use Rattle.heap_core.proofs.Lemmas.Words.{◌≡◌, ℕ, ◌+◌, ◌-◌, ◌*◌, ◌≤◌, ◌<◌, ◌⊎◌, inl, inr, List, [], ◌∷◌, ◌++◌, length, refl, sym, ap, ◌∙◌, arith, Option, Some, None, fold, Chunk, Gap, Block, end_of, gaps_from, better, best_gap, least_len, Tell, BeginsLive, AreJoined, with_chunk, blocks_in, gaps_among, ◌%◌, Region, IsHeaderLength, least_room, shortest, IsWholeRoom, ◌≢◌, Bool, eqb, leb, find, if◌then◌else◌, option_map_or, option_or, eq-eqb, gaps, gap_at, room_taken, room_in_place, chunks_of, HasChunks, store_of, front_gap, place_in_chunk, LeavesGap, option_map, cases_Bool, leb-true, Place, place, place_in, top_place, Stands, LiveIn, GapAt, map, with_free, map-append}
-use Rattle.heap_core.proofs.Lemmas.ChunkHeaders.{place_told, owner_cases, told_le, Around, around, In, stands_of}
+use Rattle.heap_core.proofs.Lemmas.Words.{◌≡◌, ℕ, ◌+◌, ◌-◌, ◌*◌, ◌≤◌, ◌<◌, ◌⊎◌, inl, inr, List, [], ◌∷◌, ◌++◌, length, refl, sym, ap, ◌∙◌, arith, Option, Some, None, fold, Chunk, Gap, Block, end_of, gaps_from, better, best_gap, least_len, Tell, BeginsLive, AreJoined, with_chunk, blocks_in, gaps_among, ◌%◌, Region, IsHeaderLength, least_room, shortest, IsWholeRoom, ◌≢◌, Bool, eqb, leb, find, if◌then◌else◌, option_map_or, option_or, gaps, gap_at, room_taken, room_in_place, chunks_of, HasChunks, store_of, front_gap, place_in_chunk, LeavesGap, option_map, leb-true, Place, place, place_in, top_place, Stands, LiveIn, GapAt, map, with_free, map-append}
+use Rattle.heap_core.proofs.Lemmas.ChunkHeaders.{place_told, told_le, Around, around, In, stands_of}
 use Rattle.std.proofs.lemmas.List.Folds.{find-append, fold-map}
 
 abbrev gap_in_chunk : Chunk → Gap
@@ -25,7 +25,7 @@ module _ (c : Chunk) where
 
 gap_in : (c : Chunk) (l : List Chunk) → In c (gaps_among l) → In c l × (c.owner ≡ None)
 gap_in c [] h = absurd h
-gap_in c (d ∷ l) h = grind (arith, owner_cases, gap_in c l)
+gap_in c (d ∷ l) h = grind (arith, gap_in c l)
 
 abbrev pub last_end : ℕ → ℕ → List Block → ℕ
 last_end header from blocks = fold (λ _ block. end_of header block) from blocks
@@ -41,9 +41,9 @@ module _ (header : ℕ) (B : List ℕ) (b : ℕ) where
   gaps_both : (x z : ℕ) (l : List Chunk) → Tell header B b x z l → AreJoined header l
       → (gaps_from header x (blocks_in header B b l) ≡ gaps_in l)
       × ((from : ℕ) → from < x → BeginsLive l → gaps_from header from (blocks_in header B b l) ≡ gap_from from x ∷ gaps_in l)
-  gaps_both x z [] t j = (refl, λ from less live. absurd live)
+  gaps_both x z [] t j = grind arith
   gaps_both x z (c ∷ l) t j =
-      grind (arith, gaps_both (x + c.len) z l t.2 j.2, place_told B b x c t.0, t.1)
+      grind (arith, gaps_both (x + c.len) z l t.2 j.2, place_told B b x c t.0)
 
   pub gaps_are : (x z : ℕ) (l : List Chunk) → Tell header B b x z l → AreJoined header l
       → gaps_from header x (blocks_in header B b l) ≡ gaps_in l
@@ -51,23 +51,19 @@ module _ (header : ℕ) (B : List ℕ) (b : ℕ) where
 
   end_both : (x z : ℕ) (l : List Chunk) → Tell header B b x z l → AreJoined header l → (last_end header x (blocks_in header B b l) ≡ z)
       × ((from : ℕ) → BeginsLive l → last_end header from (blocks_in header B b l) ≡ z)
-  end_both x z [] t j = (t, λ from live. absurd live)
+  end_both x z [] t j = grind arith
   end_both x z (c ∷ l) t j =
-      grind (arith, end_both (x + c.len) z l t.2 j.2, place_told B b x c t.0, t.1)
+      grind (arith, end_both (x + c.len) z l t.2 j.2, place_told B b x c t.0)
 
   pub end_is : (x z : ℕ) (l : List Chunk) → Tell header B b x z l → AreJoined header l → last_end header x (blocks_in header B b l) ≡ z
   end_is x z l t j = grind (arith, end_both)
 
   -- a block is at least as long as the words of a chunk
   pub many : (x z : ℕ) (l : List Chunk) → Tell header B b x z l → x + 12 * length (blocks_in header B b l) ≤ z
-  many x z [] t = omega (arith, t)
+  many x z [] t = omega arith
   many x z (c ∷ l) t = grind (arith, many (x + c.len) z l t.2)
 
 module _ (need : ℕ) where
-  better_is : (best : Option Gap) (gap : Gap) → (better need best gap ≡ best)
-      ⊎ ((better need best gap ≡ Some gap) × (need ≤ gap.len))
-  better_is best gap = grind arith
-
   -- a walk for the best gap looks only at the gaps
   abbrev pub better_chunk : Option Gap → Chunk → Option Gap
   better_chunk best chunk = better need best (record { at = chunk.at; len = chunk.len })
@@ -79,7 +75,7 @@ module _ (need : ℕ) where
   best_found : (best : Option Gap) (gap : Gap) (l : List Chunk) → fold better_chunk best l ≡ Some gap
       → (best ≡ Some gap) ⊎ ((c : Chunk) × In c l × (gap_in_chunk c ≡ gap) × (need ≤ gap.len))
   best_found best gap [] e = inl e
-  best_found best gap (c ∷ l) e = grind (arith, better_is, best_found (better_chunk best c) gap l e)
+  best_found best gap (c ∷ l) e = grind (arith, best_found (better_chunk best c) gap l e)
 
 -- a gap among the chunks
 pub record Found (need : ℕ) (gap : Gap) (l : List Chunk) : Type 0 where
@@ -132,11 +128,11 @@ module _ (header : ℕ) where
         → find (begins p) (gaps_in l) ≡ None
     no_gap b p x y [] t side = refl
     no_gap b p x y (c ∷ l) t side =
-        grind (arith, told_le, no_gap b p (x + c.len) y l t.2 (grind arith), place_told B b x c t.0, t.1)
+        grind (arith, told_le, no_gap b p (x + c.len) y l t.2 (grind arith), place_told B b x c t.0)
 
     front_found : (b at z : ℕ) (l : List Chunk) → Tell header B b at z l
         → len_or_none (find (begins at) (gaps_in l)) ≡ front_gap l
-    front_found b at z l t = grind (arith, place_told, owner_cases, eq-eqb, no_gap)
+    front_found b at z l t = grind (arith, place_told, no_gap)
 
 -- the room at a block's position
 abbrev pub choice : ℕ → ℕ → ℕ → ℕ → ℕ → ℕ → Option ℕ
@@ -167,7 +163,7 @@ module _ {heap : Region} {B : List ℕ} {chunk : Chunk} (a : Around heap B chunk
   gap_at_end : chunk.owner ≢ None → gap_at (chunk.at + chunk.len) (store_of heap B) ≡ front_gap a.behind
   gap_at_end live =
       let b = heap.span.at in let end = chunk.at + chunk.len in let has = a.has in
-      let all : gaps (store_of heap B) ≡ gaps_in a.before ++ gaps_in a.behind = grind (arith, owner_cases, gaps_are, in_append) in
+      let all : gaps (store_of heap B) ≡ gaps_in a.before ++ gaps_in a.behind = grind (arith, gaps_are, in_append) in
       grind (
         arith,
         find-append,
@@ -224,7 +220,7 @@ module _ {heap : Region} {B : List ℕ} (has : HasChunks heap B) {n : ℕ} (some
   Outcome target = OnTop heap target n ⊎ InGap heap B target n
 
   on_top : (target : Place) → top_place need (store_of heap B) ≡ Some target → Outcome target
-  on_top target e = grind (arith, end_is, needed, cases_Bool, leb-true)
+  on_top target e = grind (arith, end_is, needed, leb-true)
 
   in_gap : (target : Place) (gap : Gap) → best_gap (heap.header + need) (gaps (store_of heap B)) ≡ Some gap
       → place_in heap.header need gap ≡ target → Outcome target
@@ -233,8 +229,6 @@ module _ {heap : Region} {B : List ℕ} (has : HasChunks heap B) {n : ℕ} (some
         arith,
         lengths heap,
         needed heap n some,
-        gap.len - heap.header,
-        ap (λ (p : Place). p.at) same,
         around has
             (best_fits has (sym found)).stands,
       )
@@ -253,5 +247,5 @@ elsewhere_placed {heap} {B} has {n} {target} some live e same =
     let a = around has live.stands in
     elim (place_cases has some e) [
       | inl top ↦ grind arith
-      | inr low ↦ let g = around has low.gap.stands in grind arith
+      | inr low ↦ grind (arith, around has low.gap.stands)
     ]

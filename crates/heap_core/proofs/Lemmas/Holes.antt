@@ -1,7 +1,7 @@
 -- A live chunk that is put into a hole, and the holes.
-use Rattle.heap_core.proofs.Lemmas.Words.{◌≡◌, ◌≢◌, ℕ, ◌+◌, ◌-◌, ◌≤◌, ◌<◌, inl, inr, List, [], ◌∷◌, ◌++◌, length, refl, sym, ◌∙◌, subst, arith, Option, IfSome, filter, cases_eq, append-nil, ChangesOnly, Chunk, Place, Region, Block, block_at, with_block, least_room, room_in_place, least_len, chunk_at, Cut, EndsHole, AreJoined, Fits, Leaves, Left, Laid, Room, chunks_of, HasChunks, store_of, LinkedTo, gaps_among, LiveIn, GapsLinked, gap_count, gap_below, gap_from, Relinked, chunks_behind, GapAt, Owned, front_gap, place_in_chunk, at_place, bytes_in_chunk, IsWholeRoom, Some, None}
+use Rattle.heap_core.proofs.Lemmas.Words.{◌≡◌, ◌≢◌, ℕ, ◌+◌, ◌-◌, ◌≤◌, ◌<◌, inl, inr, List, [], ◌∷◌, ◌++◌, length, refl, sym, ◌∙◌, subst, arith, Option, IfSome, filter, append-nil, ChangesOnly, Chunk, Place, Region, Block, block_at, with_block, least_room, room_in_place, least_len, chunk_at, Cut, EndsHole, AreJoined, Fits, Leaves, Left, Laid, Room, chunks_of, HasChunks, store_of, LinkedTo, gaps_among, LiveIn, GapsLinked, gap_count, gap_below, gap_from, Relinked, chunks_behind, GapAt, Owned, front_gap, place_in_chunk, at_place, bytes_in_chunk, IsWholeRoom, Some, None}
 use Rattle.heap_core.proofs.Lemmas.Gaps.{room_is, Taken, taken, front_gap_whole, none_in_front, lengths, needed, live_first}
-use Rattle.heap_core.proofs.Lemmas.ChunkHeaders.{store_with, elsewhere, Around, around, blocks_append, changes_more, changes_then, spliced, joined_swap, joined_behind, owner_some, told_le, framed}
+use Rattle.heap_core.proofs.Lemmas.ChunkHeaders.{store_with, elsewhere, Around, around, blocks_append, changes_more, changes_then, spliced, joined_swap, joined_behind, told_le, framed}
 use Rattle.heap_core.proofs.Lemmas.Lists.{IsGapOf, cut_left, edit_kept, edit_put, edit_count, edit_last, edit_list}
 use Rattle.heap_core.proofs.Lemmas.Releases.{rest_of, end_below}
 
@@ -17,14 +17,12 @@ pub laid_before : {heap new : Region} {B A A' B' : List ℕ} {live : Chunk} {end
     → ChangesOnly (heap.span.at + live.at) 8 A' B' → Laid heap new B A B' live cut.before cut.behind first link
 laid_before {heap} {new} {B} {A} {A'} {B'} {live} {end} {first} {link} cut ends fits left span header changed told wrote =
     let b = heap.span.at in let next = live.at + live.len in let h = heap.header in
-    let o = owner_some live.owner fits.owner in let room = fits_least fits in
+    let room = fits_least fits in
     let was = subst (AreJoined h) cut.is cut.has.joined in
     let is_live : live.owner ≢ None = grind arith in
     let behind = left.behind B cut.behind cut.back ends
     (joined_behind h cut.gone cut.behind (joined_behind h cut.before (cut.gone ++ cut.behind) was)) in
     let far = told_le h A' b next left.to left.mid left.told in
-    let kept : bytes_in_chunk h B' b live ≡ bytes_in_chunk h A b live =
-    grind arith in
     record {
       mid = live ∷ left.mid;
       spliced = spliced heap new B B' live.at left.to cut.before (live ∷ left.mid) cut.behind span header cut.has.within
@@ -72,10 +70,10 @@ module _ {heap : Region} {B : List ℕ} {target : Place} {end n taken : ℕ} {ol
   put {B1} g l at_last at_link = record {
     chunks = l.spliced.has;
     last = edit_last r.cut l.spliced g.linked at_last;
-    count = omega (arith, l.count, g.count, edit_count r.cut l.spliced, r.count);
+    count = omega (arith, edit_count r.cut l.spliced, r.count);
     linked = edit_list r.cut l.spliced g.linked l.linked at_link at_last;
     block = λ ws fresh. (
-        grind (arith, r.blocks, l.blocks, edit_put r.cut l.spliced (block_at target name ws) olds refl));
+        grind (arith, edit_put r.cut l.spliced (block_at target name ws) olds refl));
     kept = edit_kept r.cut l.spliced;
   }
 
@@ -101,7 +99,7 @@ module _ {heap : Region} {B : List ℕ} (has : HasChunks heap B) {target : Place
     count = grind arith;
     inside = fits;
     rest = inl at;
-    most = omega (arith, at);
+    most = omega arith;
     whole = whole;
     enough = enough;
     blocks = grind (arith, append-nil);
@@ -123,13 +121,13 @@ module _ {heap : Region} {B : List ℕ} (has : HasChunks heap B) {target : Place
           back = grind arith;
           only = grind arith;
           low = omega arith;
-          high = inl (omega (arith, a.enough));
+          high = inl (omega arith);
         };
         ends = inr (a.rest.0 g.free);
         count = grind arith;
         inside = grind arith;
         rest = grind arith;
-        most = omega (arith, a.fits, g.at);
+        most = omega (arith, g.at);
         whole = whole;
         enough = enough;
         blocks = grind (arith, blocks_append, none_in_front);
@@ -162,15 +160,15 @@ module _ {heap : Region} {B : List ℕ} (has : HasChunks heap B) {chunk : Chunk}
           let k = lengths heap in let whole = own.rest.1 in
           taken heap.header least (chunk.len - heap.header) (chunk.at + chunk.len) heap.footprint (heap.span.len - heap.footprint)
           (front_gap own.behind) room
-          k.most (needed heap n some).whole (omega (arith, whole.0, whole.1, k.whole, k.room))
+          k.most (needed heap n some).whole (omega (arith, whole.1, k.whole, k.room))
           (front_gap_whole heap.header own.behind own.rest.2)
           (sym (room_is own n owns) ∙ chosen)
 
       own_rest : Leaves heap (chunk.at + (heap.header + room)) end
-      own_rest = grind (arith, own_end, cases_eq, gap_same, known, own)
+      own_rest = grind (arith, own_end, known, own)
 
       own_inside : chunk.at + (heap.header + room) ≤ heap.span.len
-      own_inside = grind (arith, own_end, cases_eq, gap_same, known, own)
+      own_inside = grind (arith, own_end, known, own)
 
       pub own_room : Room heap B (at_place chunk.at room) end n (gap_count gap) (filter (elsewhere chunk.at) (store_of heap B).blocks)
       own_room =
@@ -182,8 +180,8 @@ module _ {heap : Region} {B : List ℕ} (has : HasChunks heap B) {chunk : Chunk}
             behind = r.post;
             is = grind arith;
             front = own.front;
-            mid = grind (arith, gap_same);
-            back = grind (arith, gap_same);
+            mid = grind arith;
+            back = grind arith;
             only = ((λ _. refl), r.only chunk.at);
             low = omega arith;
             high = inl (omega (arith, own.enough));

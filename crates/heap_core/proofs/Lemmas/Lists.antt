@@ -1,14 +1,14 @@
 -- The list of the gaps: walks along it, and what remains if chunks are exchanged.
-use Rattle.heap_core.proofs.Lemmas.Words.{◌≡◌, ◌≢◌, ℕ, ◌+◌, ◌*◌, ◌≤◌, ◌<◌, ◌⊎◌, inl, List, [], ◌∷◌, ◌++◌, length, refl, sym, ap, ◌∙◌, subst, arith, Option, Some, None, IfSome, fold, append_assoc, length-append, Chunk, Region, chunk_at, Tell, chunks_of, HasChunks, gaps_among, behind_link, LinkedTo, Stands, gap_count, Follow, below_from, gap_below, gap_from, last_of, place_in_link, Relinked, KeepsFreed, append-nil, front_gap, ChangesOnly, store_of, LinkChanged, OnlyAt, Cut, Spliced, filter, Block, LiveIn, blocks_in, GapsLinked, without_place, with_block, eq-eqb, filter-append, IsLink}
-use Rattle.heap_core.proofs.Lemmas.ChunkHeaders.{store_with, Around, place_told, told_append, told_le, owner_cases, around, blocks_append, changes_more, around_split, live_kept, In, swapped, in_of, in_told, in_without, elsewhere, filter_elsewhere, blocks_between, placed_front, placed_behind}
-use Rattle.heap_core.proofs.Lemmas.Gaps.{none_in_front, gaps_append, gap_first}
+use Rattle.heap_core.proofs.Lemmas.Words.{◌≡◌, ◌≢◌, ℕ, ◌+◌, ◌*◌, ◌≤◌, ◌<◌, ◌⊎◌, inl, List, [], ◌∷◌, ◌++◌, length, refl, sym, ap, ◌∙◌, subst, arith, Option, Some, None, IfSome, fold, append_assoc, length-append, Chunk, Region, chunk_at, Tell, chunks_of, HasChunks, gaps_among, behind_link, LinkedTo, Stands, gap_count, Follow, below_from, gap_below, gap_from, last_of, place_in_link, Relinked, KeepsFreed, append-nil, front_gap, ChangesOnly, store_of, LinkChanged, OnlyAt, Cut, Spliced, filter, Block, LiveIn, blocks_in, GapsLinked, without_place, with_block, filter-append, IsLink}
+use Rattle.heap_core.proofs.Lemmas.ChunkHeaders.{store_with, Around, place_told, told_append, told_le, around, blocks_append, changes_more, around_split, live_kept, In, swapped, in_of, in_told, in_without, elsewhere, filter_elsewhere, blocks_between, placed_front, placed_behind}
+use Rattle.heap_core.proofs.Lemmas.Gaps.{gaps_append, gap_first}
 
 pub gaps_counted : (before mid behind : List Chunk)
     → length (gaps_among (before ++ (mid ++ behind))) ≡ length (gaps_among before) + (length (gaps_among mid) + length (gaps_among behind))
 gaps_counted before mid behind = grind (arith, gaps_append, length-append)
 
 pub linked_append : (head mid end : Option ℕ) (l r : List Chunk) → LinkedTo head l mid → LinkedTo mid r end → LinkedTo head (l ++ r) end
-linked_append head mid end [] r h k = subst (λ m. LinkedTo m r end) (sym h) k
+linked_append head mid end [] r h k = grind arith
 linked_append head mid end (c ∷ l) r h k = (h.0, linked_append (behind_link head c c.owner) mid end l r h.1 k)
 
 pub record Parted (head end : Option ℕ) (l r : List Chunk) : Type 0 where
@@ -27,10 +27,9 @@ follow_lower B b from end lower head (c ∷ l) le h = grind arith
 
 pub followed : (header : ℕ) (B : List ℕ) (b x end : ℕ) (head : Option ℕ) (l : List Chunk) → Tell header B b x end l → LinkedTo head l None
     → Follow B b x end head (gaps_among l) × (x + 12 * length (gaps_among l) ≤ end)
-followed header B b x end head [] t h = (h, omega (arith, t))
+followed header B b x end head [] t h = (h, omega arith)
 followed header B b x end head (c ∷ l) t h = grind (
   arith,
-  told_le,
   follow_lower,
   place_told B b x c t.0,
   followed header B b
@@ -50,24 +49,6 @@ module _ (head : Option ℕ) where
     pub last : gap_below p (gaps_among all) ≡ last_of (gaps_among before)
     pub back : LinkedTo (gap_from p (gaps_among all)) behind None
 
-  module _ (end : Option ℕ) where
-    module _ (c : Chunk) where
-      module _ (l : List Chunk) where
-        pub linked_gap : c.owner ≡ None → LinkedTo head (c ∷ l) end → (head ≡ Some c.at)
-            × LinkedTo c.link l end
-        linked_gap e h = grind arith
-
-        pub link_gap : c.owner ≡ None → head ≡ Some c.at → LinkedTo c.link l end
-            → LinkedTo head (c ∷ l) end
-        link_gap e at h = grind arith
-
-    module _ (name : ℕ) where
-      module _ (c : Chunk) where
-        module _ (l : List Chunk) where
-          pub linked_live : c.owner ≡ Some name → LinkedTo head (c ∷ l) end
-              → LinkedTo head l end
-          linked_live e h = grind arith
-
 -- the gap below a position, and the one from a position on
 module _ (header : ℕ) (B : List ℕ) (b : ℕ) where
   module _ (p : ℕ) where
@@ -75,7 +56,7 @@ module _ (header : ℕ) (B : List ℕ) (b : ℕ) where
         → IfSome (gap_from p (gaps_among l)) (λ place. place < most)
     gap_from_small x y most [] t le = tt
     gap_from_small x y most (c ∷ l) t le =
-        grind (arith, gap_from_small (x + c.len) y most l t.2 le, told_le header B b (x + c.len) y l t.2, place_told B b x c t.0, t.1)
+        grind (arith, gap_from_small (x + c.len) y most l t.2 le, told_le header B b (x + c.len) y l t.2, place_told B b x c t.0)
 
     passed : (x y : ℕ) (found : Option Chunk) (l : List Chunk) (gaps : List Chunk) → Tell header B b x y l → y ≤ p
         → (gap_from p (gaps_among l ++ gaps) ≡ gap_from p gaps)
@@ -89,7 +70,6 @@ module _ (header : ℕ) (B : List ℕ) (b : ℕ) where
           told_le header B b
               (x + c.len) y l t.2,
           place_told B b x c t.0,
-          t.1,
         )
 
     stopped : (x y : ℕ) (head : Option ℕ) (found : Option Chunk) (l : List Chunk) → Tell header B b x y l → p ≤ x → LinkedTo head l None
@@ -123,14 +103,13 @@ pub record NextGap (B : List ℕ) (b end at : ℕ) (all : List Chunk) : Type 0 w
 
 module _ (B : List ℕ) (b from end : ℕ) {head : Option ℕ} where
   pub next_gap : (l : List Chunk) {at : ℕ} → head ≡ Some at → Follow B b from end head l → NextGap B b end at l
-  next_gap [] {at} e h = absurd (let two = sym e ∙ h in cc)
+  next_gap [] {at} e h = cc
   next_gap (c ∷ l) {at} e h =
-      let same : c.at ≡ at = let two : Some c.at ≡ Some at = sym h.0 ∙ e in cc in
       grind arith
 
   pub no_gap : (l : List Chunk) → head ≡ None → Follow B b from end head l → l ≡ []
   no_gap [] e h = refl
-  no_gap (c ∷ l) e h = absurd (let two = sym e ∙ h.0 in cc)
+  no_gap (c ∷ l) e h = cc
 
   pub rises : (l : List Chunk) (word : ℕ) → head ≡ place_in_link word → from ≤ 4294967295 → Follow B b from end head l → from ≤ word
   rises [] word e most h = grind arith
@@ -139,9 +118,6 @@ module _ (B : List ℕ) (b from end : ℕ) {head : Option ℕ} where
 module _ (len : ℕ) where
   pub count_some : 0 < len → gap_count len ≡ 1
   count_some some = grind arith
-
-  pub count_none : len ≡ 0 → gap_count len ≡ 0
-  count_none none = ap gap_count none
 
 module _ (c : Chunk) where
   pub live_none : c.owner ≢ None → gaps_among (c ∷ []) ≡ []
@@ -165,10 +141,10 @@ last_found : (gap : Chunk) (found : Option Chunk) (l : List Chunk) → fold (λ 
     → ((found ≡ Some gap) × (gaps_among l ≡ [])) ⊎ LastGap gap l
 last_found gap found [] e = inl (e, refl)
 last_found gap found (c ∷ l) e =
-    grind (arith, owner_cases, last_here, last_later, last_found gap found l, last_found gap (Some c) l)
+    grind (arith, last_here, last_later, last_found gap found l, last_found gap (Some c) l)
 
 pub last_gap : (gap : Chunk) (l : List Chunk) → last_of (gaps_among l) ≡ Some gap → LastGap gap l
-last_gap gap l e = grind (arith, last_found, l)
+last_gap gap l e = grind (arith, last_found)
 
 pub no_last : (l : List Chunk) → last_of (gaps_among l) ≡ None → gaps_among l ≡ []
 no_last l e = none (gaps_among l) e
@@ -272,14 +248,14 @@ module _ {heap : Region} {B : List ℕ} where
 
     -- a gap is linked to the one that follows it
     pub behind_gap : chunk.owner ≡ None → chunk.link ≡ from_place heap B (chunk.at + chunk.len)
-    behind_gap free = grind (arith, ends_over, ends_below, linked_same, linked_gap)
+    behind_gap free = grind (arith, ends_over, ends_below, linked_same)
 
     pub leads_to_gap : chunk.owner ≡ None → from_place heap B chunk.at ≡ Some chunk.at
     leads_to_gap free = grind (arith, ends_below)
 
     module _ (live : chunk.owner ≢ None) where
       pub over_live : from_place heap B chunk.at ≡ from_place heap B (chunk.at + chunk.len)
-      over_live = grind (arith, owner_cases, ends_below, ends_over, linked_same, linked_live)
+      over_live = grind (arith, ends_below, ends_over, linked_same)
 
       module _ (some : front_gap a.behind ≢ 0) where
         first : BeginsFree a.behind
@@ -307,7 +283,7 @@ pub over_gap : {heap : Region} {B : List ℕ} {chunk : Chunk} (a : Around heap B
     → (chunk_at B heap.span.at (chunk.at + chunk.len)).link ≡ gap_from (chunk.at + chunk.len + front_gap a.behind)
     (gaps_among (chunks_of heap B))
 over_gap a linked live some =
-    grind (arith, gap_place, around, gap_around, gap_told, behind_gap, first a linked live some)
+    grind (arith, gap_place, gap_around, gap_told, behind_gap, first a linked live some)
 
 -- Chunks that go, and chunks that replace them.
 only_at : (at : ℕ) (c : Chunk) (l : List Chunk) → OnlyAt at l → c.owner ≢ None → In c l → c.at ≡ at
@@ -320,7 +296,7 @@ only_append at (c ∷ l) r h k = (h.0, only_append at l r h.1 k)
 
 only_blocks : (header : ℕ) (B : List ℕ) (b at : ℕ) (l : List Chunk) → OnlyAt at l → filter (elsewhere at) (blocks_in header B b l) ≡ []
 only_blocks header B b at [] only = refl
-only_blocks header B b at (c ∷ l) only = grind (arith, owner_cases, eq-eqb, only_blocks header B b at l only.1)
+only_blocks header B b at (c ∷ l) only = grind (arith, only_blocks header B b at l only.1)
 
 module _ {heap : Region} {B : List ℕ} {p q at : ℕ} (cut : Cut heap B p q at) where
   abbrev b : ℕ
@@ -337,7 +313,7 @@ module _ {heap : Region} {B : List ℕ} {p q at : ℕ} (cut : Cut heap B p q at)
 
   -- the blocks of the others
   pub cut_left : filter (elsewhere at) (store_of heap B).blocks ≡ xs ++ ys
-  cut_left = grind (arith, elsewhere, filter_elsewhere, blocks_between, only_blocks, blocks_append, filter-append)
+  cut_left = grind (arith, filter_elsewhere, blocks_between, only_blocks, blocks_append, filter-append)
 
   none_of : (c : Chunk) → c.owner ≢ None → c.at ≢ at → In c cut.gone → ⊥
   none_of c live far k = grind (arith, only_at)
@@ -357,11 +333,11 @@ module _ {heap : Region} {B : List ℕ} {p q at : ℕ} (cut : Cut heap B p q at)
     edit_kept c h far = grind (arith, live_kept, only_at)
 
     pub edit_gone : blocks_in heap.header B' b mid ≡ [] → store_of new B' ≡ without_place at (store_of heap B)
-    edit_gone none = grind (arith, store_with, cut_left)
+    edit_gone none = grind (arith, cut_left)
 
     pub edit_put : (block : Block) (olds : List Block) → block.at ≡ at → blocks_in heap.header B' b mid ≡ block ∷ [] → olds ≡ xs ++ ys
         → store_of new B' ≡ with_block block (store_with heap olds)
-    edit_put block olds place is left = grind (arith, placed_front, blocks_between, placed_behind, store_with)
+    edit_put block olds place is left = grind (arith, placed_front, blocks_between, placed_behind)
 
     pub edit_count : length (gaps_among (chunks_of new B')) + length (gaps_among cut.gone) ≡ length (gaps_among all) + length
         (gaps_among mid)
@@ -398,7 +374,7 @@ linked_again : (head end first : Option ℕ) (gap new : Chunk) (before behind : 
     → new.at ≡ gap.at → new.link ≡ first → gaps_among behind ≡ []
     → LinkedTo head (before ++ (gap ∷ behind)) end → LinkedTo head (before ++ (new ∷ behind)) first
 linked_again head end first gap new before behind free free' at link none h =
-    grind (arith, linked_parted, linked_gap, linked_append, link_gap, linked_none)
+    grind (arith, linked_parted, linked_append, linked_none)
 
 module _ {heap : Region} {B : List ℕ} {gap : Chunk} (a : Around heap B gap) (first : Option ℕ) (free : gap.owner ≡ None) where
   abbrev new : Chunk
@@ -407,7 +383,7 @@ module _ {heap : Region} {B : List ℕ} {gap : Chunk} (a : Around heap B gap) (f
   module _ {B' : List ℕ} (told : chunk_at B' heap.span.at gap.at ≡ new) (changes : ChangesOnly (heap.span.at + gap.at) 12 B B') where
     relinked : (a : Around heap B gap) → Spliced heap heap B B' a.before (new ∷ []) a.behind
     relinked a = swapped a new refl refl refl
-        (changes_more changes (omega arith) (omega (arith, a.enough)))
+        (changes_more changes (omega arith) (omega arith))
         told refl a.enough ((λ live. live), (λ none. none))
 
     -- it is the last gap of the prefix
@@ -417,14 +393,13 @@ module _ {heap : Region} {B : List ℕ} {gap : Chunk} (a : Around heap B gap) (f
     relinked_list before behind end is last linked later =
         let l = last_gap gap before last in
         let all : chunks_of heap B ≡ l.before ++ (gap ∷ (l.behind ++ behind)) = grind (arith, append_assoc) in
-        let there = around_split heap B gap l.before (l.behind ++ behind) a.has all in
         let again : LinkedTo heap.lowest (l.before ++ (new ∷ l.behind)) first = grind (arith, linked_again) in
-        grind (arith, relinked, append_assoc, linked_append)
+        grind (arith, relinked, append_assoc, linked_append, around_split heap B gap l.before (l.behind ++ behind) a.has all)
 
     pub link_changed : LinkChanged heap heap B B' (Some gap) first
     link_changed = record {
       chunks = (relinked a).has;
-      block = grind (arith, a, none_in_front, blocks_append, relinked a);
+      block = grind (arith, blocks_append, relinked a);
       stands = λ other h. live_kept other a.before (gap ∷ []) (new ∷ []) a.behind a.is (relinked a).is
           (grind arith) h;
       linked = grind (arith, relinked_list);

@@ -1,5 +1,5 @@
 -- The heap after a block was resized.
-use Rattle.heap_core.proofs.Lemmas.Words.{◌≡◌, ℕ, ◌≤◌, List, ◌∙◌, arith, Option, option_map, number_of, resized, Chunk, Place, Region, Block, HeapStore, find_block, place, room_in_place, moved, resized_block, reallocated, block_at, with_block, without_block, block_in_chunk, place_in_chunk, at_place, without_place, bytes_in_chunk, Some, None}
+use Rattle.heap_core.proofs.Lemmas.Words.{◌≡◌, ℕ, ◌≤◌, List, ◌∙◌, arith, Option, option_map, number_of, resized, Chunk, Place, Region, Block, HeapStore, find_block, place, room_in_place, moved, reallocated, block_at, with_block, without_block, block_in_chunk, place_in_chunk, at_place, without_place, bytes_in_chunk, Some, None}
 use Rattle.heap_core.proofs.Lemmas.ChunkHeaders.{count}
 use Rattle.heap_core.proofs.Lemmas.Names.{named_with, count_filter, count_unnamed}
 
@@ -22,9 +22,6 @@ module _ {heap : Region} {B : List ℕ} {store : HeapStore} {chunk : Chunk} {p h
   abbrev at_new : Place → HeapStore → HeapStore
   at_new target left = with_block (block_at target name (resized n (bytes_in_chunk heap.header B heap.span.at chunk))) left
 
-  reallocated_is : reallocated p h n store ≡ resized_block block n store
-  reallocated_is = grind arith
-
   pub in_place : (room : ℕ) (new : HeapStore) → room_in_place (place_in_chunk heap.header chunk) n store ≡ Some room
       → new ≡ at_new (at_place chunk.at room) (without_place chunk.at store) → reallocated p h n store ≡ Some new
   in_place room new e f = grind arith
@@ -43,4 +40,4 @@ module _ {heap : Region} {B : List ℕ} {store : HeapStore} {chunk : Chunk} {p h
 
   pub named_after : ((other : ℕ) → count other store.blocks ≤ 1) → (new : HeapStore) → reallocated p h n store ≡ Some new → (other : ℕ)
       → count other new.blocks ≤ 1
-  named_after named new e = grind (arith, named_moved, reallocated_is)
+  named_after named new e = grind (arith, named_moved)

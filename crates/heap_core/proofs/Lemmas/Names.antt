@@ -1,17 +1,14 @@
 -- The block of a name, and the number of blocks of a name.
-use Rattle.heap_core.proofs.Lemmas.Words.{◌≡◌, ◌≢◌, ℕ, ◌+◌, ◌≤◌, Bool, true, not, List, [], ◌∷◌, ◌++◌, length, refl, sym, ap, ◌∙◌, arith, Option, Some, None, IsSome, filter, find, map, if◌then◌else◌, option_map, cases_Bool, cases_eq, false≢true, length-append, filter-append, Chunk, Block, has_name, placed, blocks_in, is_owner, owned_by, Owned, block_in_chunk, ◌<◌, false, Region, IsLaidOut, heap_of, is_named, chunks_of, find_block, number_of, store_of, HasChunks, ArePlaced, rules, get_or, slice_set, replicate, zero, suc, get_or-set_same, get_or-set_other, length-set, eq-eqb, Place, HeapStore, with_block, without_block, block_at, chunk_at, place_found}
+use Rattle.heap_core.proofs.Lemmas.Words.{◌≡◌, ◌≢◌, ℕ, ◌+◌, ◌≤◌, Bool, true, not, List, [], ◌∷◌, ◌++◌, length, refl, sym, ap, ◌∙◌, arith, Option, Some, None, IsSome, filter, find, map, if◌then◌else◌, option_map, length-append, filter-append, Chunk, Block, has_name, placed, blocks_in, owned_by, Owned, block_in_chunk, ◌<◌, false, Region, IsLaidOut, heap_of, is_named, chunks_of, find_block, number_of, store_of, HasChunks, ArePlaced, rules, get_or, slice_set, replicate, zero, suc, get_or-set_same, get_or-set_other, length-set, eq-eqb, Place, HeapStore, with_block, without_block, block_at, chunk_at, place_found}
 use Rattle.heap_core.proofs.Lemmas.ChunkHeaders.{count, around, In, stands_of}
 
 pub map_none : {X Y : Type 0} (f : X → Y) (o : Option X) → option_map f o ≡ None → o ≡ None
 map_none f o e = grind arith
 
 module _ (name : ℕ) where
-  owner_is : (o : Option ℕ) → is_owner name o ≡ true → o ≡ Some name
-  owner_is o e = grind arith
-
   owned_in : (chunk : Chunk) (l : List Chunk) → find (owned_by name) l ≡ Some chunk → In chunk l × (chunk.owner ≡ Some name)
   owned_in chunk [] e = absurd (cc)
-  owned_in chunk (c ∷ l) e = grind (arith, cases_Bool, owner_is, owned_in chunk l)
+  owned_in chunk (c ∷ l) e = grind (arith, owned_in chunk l)
 
   pub owned : (chunk : Chunk) (l : List Chunk) → find (owned_by name) l ≡ Some chunk → Owned name chunk l
   owned chunk l e = let k = owned_in chunk l e in record { stands = stands_of chunk l k.0; owner = k.1 }
@@ -68,12 +65,9 @@ module _ (name : ℕ) where
     count_placed (other ∷ xs) = grind (arith, count_placed xs)
 
     module _ (xs : List Block) where
-      pub count_first : block.name ≡ name → count name (block ∷ xs) ≡ 1 + count name xs
-      count_first e = grind arith
-
       pub named_with : count block.name xs ≡ 0 → count name xs ≤ 1
           → count name (placed block xs) ≤ 1
-      named_with none few = grind (arith, cases_eq, count_placed)
+      named_with none few = grind (arith, count_placed)
 
 abbrev pub nowhere : Option ℕ
 nowhere = None
@@ -87,7 +81,7 @@ none_placed (suc n) (suc name) = none_placed n name
 module _ (places : List (Option ℕ)) (old new : HeapStore) (name : ℕ) (entry : Option ℕ) (small : name < 272)
     (others : (other : ℕ) → other ≢ name → find_block other new ≡ find_block other old) (mine : place_found name new ≡ entry) where
   pub placed_set : ArePlaced places old → ArePlaced (slice_set places name entry) new
-  placed_set were = grind (arith, length-set, cases_eq, get_or-set_same, get_or-set_other)
+  placed_set were = grind (arith, length-set, get_or-set_same, get_or-set_other)
 
 module _ (name : ℕ) where
   find_without : (gone : ℕ) (blocks : List Block) → name ≢ gone
@@ -135,7 +129,7 @@ module _ (header : ℕ) where
 
     pub some_owned : (b name : ℕ) (l : List Chunk) (o : Option Chunk) → o ≡ find (owned_by name) l
         → IsSome (find (has_name name) (blocks_in header B b l)) → IsSome o
-    some_owned b name l o e live = grind (arith, false≢true, find_is)
+    some_owned b name l o e live = grind (arith, find_is)
 
 module _ (heap : Region) where
   -- What holds of all chunks, also of those that are freed and not joined.
@@ -175,7 +169,7 @@ module _ {heap : Region} {B : List ℕ} (laid : IsStored heap B) {name : ℕ} (s
       from None is e = absurd (cc)
       from (Some c) is e =
           let there : c.at ≡ at = cc in let a = around laid.chunks (owned name c (chunks_of heap B) is).stands in
-          (is ∙ ap Some (sym a.here ∙ ap (chunk_at B heap.span.at) there), omega (arith, a.fits, a.enough))
+          (is ∙ ap Some (sym a.here ∙ ap (chunk_at B heap.span.at) there), omega (arith, a.enough))
 
 module _ (places : List (Option ℕ)) where
   module _ (store : HeapStore) where
@@ -201,12 +195,11 @@ module _ (places : List (Option ℕ)) where
               → place_found name store ≡ Some target.at → new ≡ put_again name target bytes store → ArePlaced places store
               → ArePlaced places new
           placed_there bytes at is were =
-              grind (arith, cases_eq, find_put, eq-eqb, find_gone, find_placed, other_name, find_without)
+              grind (arith, find_put, find_gone, find_placed, other_name, find_without)
 
       pub placed_moved : (found : Option Place) (at name : ℕ) (bytes : List ℕ) → name < 272
           → option_map (λ (target : Place). target.at) found ≡ Some at
           → option_map (λ target. put_again name target bytes store) found ≡ Some new → ArePlaced places store
           → ArePlaced (slice_set places name (Some at)) new
       placed_moved None at name bytes small there is were = absurd (cc)
-      placed_moved (Some target) at name bytes small there is were = let made : put_again name target bytes store ≡ new = cc in
-          grind (arith, placed_again target name bytes small (sym made) were)
+      placed_moved (Some target) at name bytes small there is were = grind (arith, placed_again target name bytes small (sym cc) were)

@@ -1,17 +1,17 @@
 -- A chunk that is freed, with the gaps beside it.
 use Rattle.heap_core.proofs.Lemmas.Words.{◌≡◌, ◌≢◌, ℕ, ◌+◌, ◌-◌, ◌%◌, ◌≤◌, ◌<◌, inl, inr, List, [], ◌∷◌, ◌++◌, length, refl, sym, ap, ◌∙◌, subst, arith, Option, Some, None, cases_eq, eq-eqb, ne_eqb, append-nil, append_assoc, length-append, Chunk, Region, chunk_at, Tell, BeginsLive, AreJoined, chunks_of, chunks_behind, gaps_among, last_of, LinkedTo, Left, OnlyAt, EndsHole, gap_count, gap_below, gap_from, Cleared, free_from, front_gap, ReachesWithGaps}
-use Rattle.heap_core.proofs.Lemmas.Lists.{count_some, count_none, LastGap, last_gap, no_last, below_is, leads_to_gap, only_append, edit_kept, edit_gone, edit_count}
-use Rattle.heap_core.proofs.Lemmas.Gaps.{gaps_append, gap_first, live_first}
+use Rattle.heap_core.proofs.Lemmas.Lists.{count_some, LastGap, last_gap, no_last, below_is, leads_to_gap, only_append, edit_kept, edit_gone, edit_count}
+use Rattle.heap_core.proofs.Lemmas.Gaps.{gaps_append, live_first}
 use Rattle.heap_core.proofs.Lemmas.ChunkHeaders.{told_append, told_le, split_at, owner_cases, spliced, joined_swap, Around, around_split, ended, joined_behind}
 
 joined_live : (header : ℕ) (l old new : List Chunk) → gaps_among l ≡ [] → AreJoined header (l ++ old) → AreJoined header new
     → AreJoined header (l ++ new)
 joined_live header [] old new none was joined = joined
-joined_live header (c ∷ l) old new none was joined = grind (arith, owner_cases, joined_live header l old new)
+joined_live header (c ∷ l) old new none was joined = grind (arith, joined_live header l old new)
 
 begins_live : (l new : List Chunk) → l ≢ [] → gaps_among l ≡ [] → BeginsLive (l ++ new)
 begins_live [] new more none = absurd (more refl)
-begins_live (c ∷ l) new more none = grind (arith, gap_first)
+begins_live (c ∷ l) new more none = grind arith
 
 -- chunks, without the gap at their front, if any
 pub record Rest (header : ℕ) (B : List ℕ) (b x z : ℕ) (l : List Chunk) : Type 0 where
@@ -35,7 +35,7 @@ rest_from header B b x z [] t joined =
       only = λ at. tt;
       count = refl;
       mid = omega arith;
-      told = omega (arith, t);
+      told = omega arith;
       joined = tt;
       ends = inl refl;
       whole = refl;
@@ -82,7 +82,7 @@ module _ {heap : Region} {B : List ℕ} {chunk : Chunk} (a : Around heap B chunk
     pub grows : from < chunk.at → gap_from from (gaps_among (chunks_of heap B)) ≡ Some from
 
   front_all : ((chunks : List Chunk) → AreJoined heap.header chunks → AreJoined heap.header (a.before ++ chunks)) → Front chunk.at
-  front_all joined = grind (arith, append-nil, count_none)
+  front_all joined = grind (arith, append-nil)
 
   module _ (gap : Chunk) (k : LastGap gap a.before) where
     all : chunks_of heap B ≡ k.before ++ (gap ∷ (k.behind ++ (chunk ∷ a.behind)))
@@ -110,10 +110,10 @@ module _ {heap : Region} {B : List ℕ} {chunk : Chunk} (a : Around heap B chunk
           gone = gap ∷ [];
           was = grind arith;
           only = grind arith;
-          count = grind (arith, gap_first, count_some, gap_told);
+          count = grind (arith, count_some, gap_told);
           told = gap_told.0;
           mid = (around_gap.0.here, around_gap.0.enough, ends);
-          low = omega (arith, ends);
+          low = omega arith;
           whole = grind (arith, around_gap.0);
           joined = grind (arith, joined_swap, joined_all);
           grows = λ less. leads_to_gap around_gap.0 linked k.free;
@@ -121,11 +121,10 @@ module _ {heap : Region} {B : List ℕ} {chunk : Chunk} (a : Around heap B chunk
 
     front_gap_below : gap.at + gap.len ≢ chunk.at → Front chunk.at
     front_gap_below short = front_all (λ chunks joined.
-        let more : k.behind ≢ [] = (grind (arith, gap_told)) in
         let rest = joined_behind heap.header k.before (gap ∷ (k.behind ++ (chunk ∷ a.behind))) joined_all in
         subst (AreJoined heap.header) (sym (ap (λ l. l ++ chunks) k.is ∙ append_assoc k.before (gap ∷ k.behind) chunks))
         (joined_swap heap.header k.before (gap ∷ (k.behind ++ (chunk ∷ a.behind))) (gap ∷ (k.behind ++ chunks)) (λ live. live) joined_all (
-          (λ _. begins_live k.behind chunks more k.none),
+          (λ _. begins_live k.behind chunks (grind (arith, gap_told)) k.none),
           rest.1,
           joined_live heap.header k.behind (chunk ∷ a.behind) chunks k.none rest.2 joined,
         )))
@@ -139,8 +138,7 @@ module _ {heap : Region} {B : List ℕ} {chunk : Chunk} (a : Around heap B chunk
       elim (cases_eq (gap.at + gap.len) chunk.at) [
         | inl ends ↦ let is = eq-eqb (gap.at + gap.len) chunk.at ends in
             rw is (front_gap_there gap k linked ends)
-        | inr short ↦ let is = ne_eqb (gap.at + gap.len) chunk.at short in
-            rw is (front_gap_below gap k short)
+        | inr short ↦ rw (ne_eqb (gap.at + gap.len) chunk.at short) (front_gap_below gap k short)
       ]
 
   -- the chunks after it, without an adjacent gap
@@ -157,14 +155,14 @@ module _ {heap : Region} {B : List ℕ} {chunk : Chunk} (a : Around heap B chunk
   reached : chunk.owner ≢ None → (from to : ℕ) → Front from → to ≡ end → ReachesWithGaps heap B chunk from to
   reached live from to f to_is =
       let r = rest_of in
-      let behind : to - (chunk.at + chunk.len) ≡ front_gap a.behind = omega (arith, to_is) in
+      let behind : to - (chunk.at + chunk.len) ≡ front_gap a.behind = omega arith in
       record {
         cut = record {
           has = a.has;
           before = f.pre;
           gone = f.gone ++ (chunk ∷ r.gone);
           behind = r.post;
-          is = grind (arith, f, r, append_assoc);
+          is = grind (arith, r, append_assoc);
           front = f.told;
           mid = grind (arith, told_append);
           back = grind arith;
@@ -204,7 +202,7 @@ cleared {heap} {new} {B} {B'} {chunk} {from} {end} r left span header count =
       spliced = s;
       linked = left.linked;
       chunks = s.has;
-      count = omega (arith, count, left.count, edit_count r.cut s, r.count);
+      count = omega (arith, left.count, edit_count r.cut s, r.count);
       block = edit_gone r.cut s (left.free B');
       others = edit_kept r.cut s;
     }

@@ -162,7 +162,7 @@ no_sender sender = of sender.earlier sender.between sender.no_turn sender.split 
       → up_to_call earlier sender.turn ++ between ≡ sent_late → ⊥
   of [] between none same = cc
   of (first ∷ []) between none same = cc
-  of (first ∷ second ∷ []) between none same = grind (decide, sender.sends)
+  of (first ∷ second ∷ []) between none same = grind decide
   of (first ∷ second ∷ third ∷ earlier) between none same = grind (decide, not_empty)
 
 sent_behind_another : BlocksAreOwn (sent_late ++ Entry.Note (Note.Sent (record { items = 0 ∷ 0 ∷ [] })) ∷ []) → ⊥

@@ -3,7 +3,7 @@ use Rattle.std.proofs.Common.{◌≡◌, ℕ, ◌≤◌, Bool, true, false, List
 use Rattle.std.proofs.lemmas.List.{get_or_past}
 use Rattle.node_memory.specs.Frames.{send_refusal}
 use Rattle.kernel_core.specs.PacketCalls.{sent}
-use Rattle.kernel_core.proofs.Common.{BlocksAreOwn, decide, list_all, range_with_len, Call, Entry, Item, Machine, Origin, Refusal, Stimulus, after_call, answer_done, fold-append, Note, at_start, Blocks, number_of, refused_or, shown_first, Turn, up_to_call, with_more_work}
+use Rattle.kernel_core.proofs.Common.{BlocksAreOwn, decide, list_all, Call, Entry, Item, Machine, Origin, Refusal, Stimulus, after_call, answer_done, fold-append, Note, at_start, Blocks, number_of, refused_or, shown_first, Turn, up_to_call, with_more_work}
 use Rattle.kernel_core.proofs.run_laws.Changes.{serve-untouched, is_note, all-append, all-mapped, all-delivered}
 use Rattle.kernel_core.proofs.run_laws.event_order.Runs.{Known, Ran, Anything, at_each, at-split, Cases, facing}
 use Rattle.kernel_core.specs.Laws.Sent.{IsSent}
@@ -54,11 +54,10 @@ module _ (known : Known) (m : Machine) (X : List Entry) (q : ℕ) (origin : Orig
   sent-front : (h : ℕ) (o : Option Refusal) → send_refusal q h m.memory.managed ≡ o
       → Front (up_to_call X (made (Call.PacketSend h)))
       (refused_or o q on (shown_first (sent q h on) (answer_done q on))).scheduler.agenda
-  sent-front h (Some refusal) e = grind (decide, s.front)
+  sent-front h (Some refusal) e = grind decide
   sent-front h None e =
       let sound = (s.told 4 (omega arith)).now.rel.sound in
-      let few : nat_le q 19 ≡ true = grind (decide, e, sound.size, get_or_past m.memory.managed.blocks (number_of q h) None) in
-      let holds = s.told q (grind (decide, few)) in (
+      let few : nat_le q 19 ≡ true = grind (decide, e, sound.size, get_or_past m.memory.managed.blocks (number_of q h) None) in (
         record {
           earlier = X;
           turn = made (Call.PacketSend h);
@@ -67,14 +66,14 @@ module _ (known : Known) (m : Machine) (X : List Entry) (q : ℕ) (origin : Orig
           between = [];
           no_turn = refl;
           split = append-nil _;
-          block = grind (decide, fold-append, blocks-told, holds, e);
+          block = grind (decide, fold-append, blocks-told, s.told q (grind (decide, few)), e);
         },
         grind (decide, s.front),
       )
 
   turn-front : (call : Call) → Front (up_to_call X (made call)) (after_call call q on).scheduler.agenda
   turn-front (Call.PacketSend h) = sent-front h (send_refusal q h m.memory.managed) refl
-  turn-front call = grind (decide, s.front, plain-front, all-mapped, all-append)
+  turn-front call = grind (decide, plain-front, all-mapped, all-append)
 
 sending_cases : Cases Sending HasSender
 sending_cases = record {
@@ -88,8 +87,8 @@ sending_cases = record {
         told = λ p few. (base p few).served known m X q origin event k (h.told p few);
         front = rw ((serve-untouched q event m).agenda) (plain-front X m.scheduler.agenda h.front);
       };
-  called_back = grind (decide, base, all-append, all-delivered);
-  round = grind (decide, base);
+  called_back = grind (decide, all-append, all-delivered);
+  round = grind decide;
   turn = λ known t agrees h.
       record {
         told = λ p few. (base p few).turn known t agrees (h.told p few);
@@ -98,7 +97,7 @@ sending_cases = record {
   told = grind decide;
   notes = grind decide;
   shown = λ known m X note h.
-      record { told = λ p few. (base p few).shown known m X note (h.told p few); front = grind (decide, plain-front) };
+      record { told = λ p few. (base p few).shown known m X note (h.told p few); front = grind decide };
   noted = grind decide;
   other = grind decide;
   input = λ known m X input none h.
@@ -110,7 +109,7 @@ module _ (run : Ran) where
   boot known =
       record {
         told = λ p few. boot-holds (view p) run.config (boot-has managed_store managed-keeps p run.config) known;
-        front = plain-front _ _ (grind (decide, all-mapped, range_with_len));
+        front = plain-front _ _ (grind (decide, all-mapped));
       }
 
   pub blocks-own : BlocksAreOwn run.after.entries

@@ -59,7 +59,6 @@ module _ (R : Machine → Machine → Type 0) (q : ℕ) (event : Event) (changes
 
   etimer-changes : (m : Machine) → (q == 0) ≡ true → R m (etimer event m)
   etimer-changes m z =
-      let after = times (free_places m) post_first_due m in
       either m (event.code == POLL) (post_due m) _
       (grind (decide, (repeated post_first_due (grind decide) (free_places m) m))) (told (event.code == EXITED) refl)
     where
@@ -84,7 +83,7 @@ module _ (R : Machine → Machine → Type 0) (q : ℕ) (event : Event) (changes
   packet-changes = grind (decide, either, repeated, next-changes)
 
 pub of_changes : {R : Machine → Machine → Type 0} {q : ℕ} {event : Event} → Changes R q event → (m : Machine) → R m (serve q event m)
-of_changes {R = R} {q = q} {event = event} = grind (decide, etimer-changes, either, serial_line-changes, packet-changes)
+of_changes {R = R} {q = q} {event = event} = grind (decide, etimer-changes, serial_line-changes, packet-changes)
 
 -- An input marks a process, or puts the note of a lost frame at the front.
 

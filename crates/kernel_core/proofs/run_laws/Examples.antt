@@ -107,7 +107,8 @@ heap_blocks_needed : map (λ call. (use_of (heap_touch (deed call))).needs)
     ≡ (1 ∷ []) ∷ (2 ∷ []) ∷ (3 ∷ []) ∷ (4 ∷ []) ∷ []
 heap_blocks_needed = refl
 
-block_made : (use_of (managed_touch (deed (Call.MmemAlloc 3 9)))).makes ∷ (use_of (heap_touch (deed (Call.HeapAlloc 3 9)))).makes ∷ [] ≡ (3 ∷ []) ∷ (3 ∷ []) ∷ []
+block_made : (use_of (managed_touch (deed (Call.MmemAlloc 3 9)))).makes ∷ (use_of (heap_touch (deed (Call.HeapAlloc 3 9)))).makes ∷ []
+    ≡ (3 ∷ []) ∷ (3 ∷ []) ∷ []
 block_made = refl
 
 -- calls that no law mentions

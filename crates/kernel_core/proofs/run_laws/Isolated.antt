@@ -2,7 +2,6 @@
 use Rattle.std.proofs.Common.{◌≡◌, ℕ, ◌≤◌, Bool, true, false, length, refl, ◌∙◌, ap, arith, Some, None, sum_by, zero, suc, List, [], ◌∷◌, ◌++◌, cond, append-nil, Option, map, filter, filter_map, is_some, ◌&&◌, take}
 use Rattle.heap_core.specs.HeapStore.{empty_heap}
 use Rattle.mmem_core.specs.ManagedStore.{ManagedStore, empty_store}
-use Rattle.node_memory.specs.MemoryCalls.{on_managed}
 use Rattle.kernel_core.specs.Laws.Isolation.{as_over_quota, asked_by, replies_from}
 use Rattle.kernel_core.specs.Laws.RunLaws.{IsAnsweredAlike}
 use Rattle.kernel_core.proofs.Common.{decide, Call, size_of, taken_by, Memory, ask, is_kernel_process, Blocks, no_blocks, deed, managed_touch, is_managed_call, handles, Reply, Entry, Frame, is_application, Config, Machine, is_bootable, after_call, IsAnsweredAlone, OwnTurn, own}
@@ -13,9 +12,6 @@ use Rattle.kernel_core.proofs.run_laws.Whole.{At, marks, due, View, Starts, told
 -- managed memory of n bytes, without a quota, and no other memory
 abbrev private_memory : ℕ → Memory
 private_memory bytes = record { managed = empty_store bytes None; heap = empty_heap 0 0; pools = [] }
-
-ask-managed : (call : Call) (p : ℕ) (m : Memory) → is_managed_call call ≡ true → ask call p m ≡ on_managed (asked_by p call) m
-ask-managed = grind decide
 
 -- only p has blocks, and no quota limits it
 pub record IsAlone (bytes p : ℕ) (s : Memory) : Type 0 where
@@ -53,13 +49,13 @@ module _ (bytes p : ℕ) (s : Memory) (few : p ≤ 19) (mortal : is_kernel_proce
       go true e =
           let change = managed-change call p s e in
           record {
-            alone = shaped-alone (omega (arith, change.total few mortal alone.size, alone.total));
+            alone = shaped-alone (omega (arith, alone.total));
             own =
                 change.blocks.own few mortal alone.size;
           }
       go false e =
           let same = ask-rest call p s e in
-          record { alone = shaped-alone (rw same alone.total); own = same_blocks _ _ (λ h. grind (arith, e, same)) }
+          record { alone = shaped-alone (rw same alone.total); own = same_blocks _ _ (λ h. grind (arith, same)) }
 
 -- The replies under a quota.
 
@@ -115,7 +111,7 @@ module _ (quota p : ℕ) where
     own-call call m s (Some reply) true f k rel has e =
         let stays = stays-alone quota p s few k rel.alone call in
         let asked : (ask call p m.memory).1 ≡ reply = one_reply _ _ _ (grind decide) e in
-        let alike : as_over_quota (ask call p s).1 ≡ reply =
+        let alike =
         same-reply quota p m.memory s rel.limit rel.alone (λ h. ap (λ (b : Blocks). b h) (rel.has.own k)) call f ∙ asked in
         let blocks : own_blocks p (ask call p s).0 ≡ accepted managed_touch call reply (own_blocks p s) = grind (arith, stays.own, alike) in
         (λ _. alike, record { has = rw blocks has; limit = call-quota call p m ∙ rel.limit; alone = stays.alone })
@@ -140,7 +136,7 @@ module _ (quota p : ℕ) where
 
   one-more : (turn : OwnTurn) (turns : List OwnTurn) (s : Memory) → LawAt AsAlone (Some turn.call) s turn.reply
       → Replied turns (answered own_after (Some turn.call) turn.reply s) → Replied (turn ∷ turns) s
-  one-more = grind (decide, ask-managed)
+  one-more = grind decide
 
   replied : (turns : List OwnTurn) (s : Memory) → OwnTold alone_view s turns → Replied turns s
   replied [] s h = refl
@@ -149,7 +145,7 @@ module _ (quota p : ℕ) where
   -- at boot neither memory has a block
   boot-like : (c : Config) → c.quota ≡ Some quota → Starts alone_view c
   boot-like c e = record {
-    has = grind (decide, no-own);
+    has = grind decide;
     limit = e;
     alone = alone-at-first quota p;
   }
@@ -166,11 +162,10 @@ module _ (run : Ran) where
       → is_application run.config.apps p ≡ true
       → before ++ later ≡ run.after.entries → IsAnsweredAlone quota p before
   alone-so-far boots quota p before later e named split =
-      let few : p ≤ 19 = grind (decide, boots, named) in
       let view = alone_view quota p in
       replied quota p (own p before) (private_memory quota)
       (own-told view before 0 (told_so_far view [])
-      (run-told view (isolated-laws quota p few) run (boot-like quota p run.config e) before later split))
+      (run-told view (isolated-laws quota p (grind (decide, boots, named))) run (boot-like quota p run.config e) before later split))
 
   all-alone : is_bootable run.config ≡ true → (quota p : ℕ) → run.config.quota ≡ Some quota → is_application run.config.apps p ≡ true
       → IsAnsweredAlone quota p run.after.entries
@@ -182,7 +177,6 @@ alone-alike run boots other tells others last quota p limited named also_runs al
     grind (
       decide,
       replies-take,
-      same,
       all-alone (ran other tells others last also_runs) also_boots quota p also_limited also_named,
       all-alone run boots quota p limited named,
     )

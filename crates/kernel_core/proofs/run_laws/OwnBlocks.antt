@@ -76,7 +76,7 @@ module _ (f : ℕ → ℕ) (g : ℕ → ℕ) where
   same-terms : (n from : ℕ) → ((h : ℕ) → from ≤ h → g h ≡ f h)
       → sum_by g (range_with_len from n) ≡ sum_by f (range_with_len from n)
   same-terms zero from e = refl
-  same-terms (suc n) from e = grind (decide, sum_by-cons, same-terms n (from + 1) (λ h low. e h (omega (arith, low))))
+  same-terms (suc n) from e = grind (decide, sum_by-cons, same-terms n (from + 1) (λ h low. e h (omega arith)))
 
   -- one term differs
   other-term : (k n from : ℕ) → from ≤ k → k < from + n → ((h : ℕ) → h ≢ k → g h ≡ f h)
@@ -105,7 +105,7 @@ put_total : (p k : ℕ) (block : Option (List ℕ)) (m : Memory) → p ≤ 19 �
     → is_name k ≡ true
     → sum_by size_of (with_block p k block m.managed).blocks + taken_by p m.managed ≡ sum_by size_of m.managed.blocks + taken_by p
     (with_block p k block m.managed)
-put_total = grind (decide, get_or-set_same, get_or-set_other, other-term, sum_by-set)
+put_total = grind (decide, get_or-set_same, get_or-set_other, sum_by-set)
 
 -- only the blocks change
 pub record HasShape (old new : Memory) : Type 0 where
@@ -135,11 +135,13 @@ module _ (call : Call) where
   -- the call is refused, or a block is replaced
   module _ (q k : ℕ) (block : Option (List ℕ)) (m : Memory) where
     is_change : (o : Option Refusal) → (o ≡ None → is_name k ≡ true)
-        → (o ≡ None → (h : ℕ) → (if h == k then block else own_blocks q m h) ≡ (use_of (managed_touch (deed call))).changes (own_blocks q m) h)
+        → (o ≡ None → (h : ℕ) → (if h == k then block else own_blocks q m h)
+        ≡ (use_of (managed_touch (deed call))).changes (own_blocks q m) h)
         → IsManagedChange q m (on_managed (λ store. unless_refused o store (done (with_block q k block store))) m)
-    is_change o low made = grind (decide, length-set, put_total, same_blocks, put_own, put_other)
+    is_change o low made = grind (decide, length-set, put_total, put_own, put_other)
 
-pub managed-change : (call : Call) (q : ℕ) (m : Memory) → alters (managed_touch (deed call)) ≡ true → IsManagedChange call q m (ask call q m)
+pub managed-change : (call : Call) (q : ℕ) (m : Memory) → alters (managed_touch (deed call)) ≡ true
+    → IsManagedChange call q m (ask call q m)
 managed-change (Call.MmemAlloc k n) q m c = is_change _ q k _ m _ (grind decide) (grind decide)
 managed-change (Call.MmemFree k) q m c = is_change _ q k _ m _ (grind decide) (grind decide)
 managed-change (Call.MmemWrite k at chunk) q m c = is_change _ q k _ m _ (grind decide) (grind decide)
@@ -155,7 +157,7 @@ abbrev pub heap_store : Store
 heap_store = record { touch = heap_touch; blocks = own_heap }
 
 pub ask-shape : (call : Call) (q : ℕ) (m : Memory) → HasShape m (ask call q m).0
-ask-shape = grind (decide, managed-change, ask-rest)
+ask-shape = grind (decide, managed-change)
 
 module _ (call : Call) (q k : ℕ) (bytes : Option (List ℕ)) (m : Memory) where
   module _ (new : HeapStore) where
@@ -172,7 +174,7 @@ module _ (call : Call) (q k : ℕ) (bytes : Option (List ℕ)) (m : Memory) wher
       → (o ≡ None → Results q k bytes m.heap result)
       → (o ≡ None → (h : ℕ) → (if h == k then bytes else own_heap q m h) ≡ (use_of (heap_touch (deed call))).changes (own_heap q m) h)
       → IsChange heap_store call q m (on_heap (λ heap. unless_refused o heap (done_or_no_room result heap)) m)
-  is_heap_change = grind (decide, same_blocks, becomes_own, becomes_other)
+  is_heap_change = grind (decide, becomes_own, becomes_other)
 
 heap-change : (call : Call) (q : ℕ) (m : Memory) → alters (heap_touch (deed call)) ≡ true → IsChange heap_store call q m (ask call q m)
 heap-change (Call.HeapAlloc k n) q m c =
@@ -217,7 +219,8 @@ module _ (store : Store) where
         → due (marks p (after_call call p m).scheduler.agenda) ≡ Some reply → KindLaw store.touch (store.blocks p m.memory) call reply
     pub asked : (call : Call) → alters (store.touch (deed call)) ≡ true → is_memory_call call ≡ true
     pub change : (call : Call) (q : ℕ) (m : Memory) → alters (store.touch (deed call)) ≡ true → IsChange store call q m (ask call q m)
-    pub rest : (call : Call) (q p : ℕ) (m : Memory) → alters (store.touch (deed call)) ≡ false → store.blocks p (ask call q m).0 ≡ store.blocks p m
+    pub rest : (call : Call) (q p : ℕ) (m : Memory) → alters (store.touch (deed call)) ≡ false → store.blocks p (ask call q m).0
+        ≡ store.blocks p m
     -- storing or dropping a frame
     pub framed : (slot p : ℕ) (bytes : Option (List ℕ)) (m : Memory) → nat_le slot 15 ≡ true → is_kernel_process p ≡ false
         → store.blocks p (with_managed (with_block 3 slot bytes m.managed) m) ≡ store.blocks p m
@@ -245,7 +248,7 @@ module _ (call : Call) where
       → IsSound (after_call call q m).memory (after_call call q m).packets.frames
   call-sound q m h =
       each-call IsSound q m h
-      (λ slot e. record { size = length-set m.memory.managed.blocks (number_of 3 slot) None ∙ h.size; slots = grind (decide, h.slots) })
+      (λ slot e. record { size = length-set m.memory.managed.blocks (number_of 3 slot) None ∙ h.size; slots = grind decide })
       call (record { size = (ask-shape call q m.memory).size ∙ h.size; slots = h.slots })
 
 module _ (store : Store) (keeps : Keeps store) (p : ℕ) (few : p ≤ 19) where
@@ -257,14 +260,14 @@ module _ (store : Store) (keeps : Keeps store) (p : ℕ) (few : p ≤ 19) where
     left-after q m n k sound =
         each-call (λ x frames. store.blocks p x ≡ store.blocks p m.memory) q m refl
         (λ slot e. keeps.framed slot p None m.memory (front_low m.packets.frames slot sound.slots e) k)
-        call (grind (decide, keeps))
+        call (grind decide)
 
     own-after : (m : Machine) (b : Bool) (reply : Option Reply) → alters (store.touch (deed call)) ≡ b → is_kernel_process p ≡ false
         → IsSound m.memory m.packets.frames
         → due (marks p (after_call call p m).scheduler.agenda) ≡ reply
         → store.blocks p (after_call call p m).memory ≡ answered (accepted store.touch) (Some call) reply (store.blocks p m.memory)
     own-after m true reply e k sound d = grind (decide, told-reply)
-    own-after m false reply e k sound d = grind (decide, left-after, sound)
+    own-after m false reply e k sound d = grind (decide, left-after)
 
   pub own-laws : Laws (own_view store p)
   own-laws =
@@ -274,7 +277,7 @@ module _ (store : Store) (keeps : Keeps store) (p : ℕ) (few : p ≤ 19) where
           (grind (decide, call-sound, own-after)),
         );
         other = λ call q m blocks n has.
-            record { sound = call-sound call q m has.sound; own = λ k. left-after call q m (grind (arith, n)) k has.sound ∙ has.own k };
+            record { sound = call-sound call q m has.sound; own = λ k. left-after call q m (grind arith) k has.sound ∙ has.own k };
         frame = grind (decide, length-set, list_all-append);
       }
 
@@ -296,14 +299,14 @@ module _ (store : Store) where
 module _ (p : ℕ) (m : Machine) (reply : Reply) where
   managed-law : (call : Call) → due (marks p (after_call call p m).scheduler.agenda) ≡ Some reply
       → KindLaw managed_touch (own_blocks p m.memory) call reply
-  managed-law (Call.MmemAlloc h n) d = grind (decide, told-reply)
-  managed-law (Call.MmemFree h) d = grind (decide, told-reply)
+  managed-law (Call.MmemAlloc h n) d = grind decide
+  managed-law (Call.MmemFree h) d = grind decide
   managed-law (Call.MmemWrite h at chunk) d = grind (decide, told-reply)
   managed-law (Call.MmemRead h at len) d = grind (decide, told-reply)
   managed-law (Call.MmemCopy source target) d = grind (decide, told-reply)
   managed-law Call.MmemAvail d = grind (decide, told-reply)
   managed-law (Call.PacketSend h) d = grind decide
-  managed-law call d = nothing managed_touch (own_blocks p m.memory) call reply (grind decide)
+  managed-law call d = grind arith
 
 all_same : {A : Type 0} (d : A) (n i : ℕ) → get_or (replicate n d) i d ≡ d
 all_same d zero i = refl
@@ -311,7 +314,7 @@ all_same d (suc n) zero = refl
 all_same d (suc n) (suc i) = all_same d n i
 
 pub empty-own : (p : ℕ) (m : Memory) → m.managed.blocks ≡ replicate 272 None → own_blocks p m ≡ no_blocks
-empty-own p m e = same_blocks _ _ (λ h. grind (decide, e, all_same {A = Option (List ℕ)} None 272 (number_of p h)))
+empty-own p m e = same_blocks _ _ (λ h. grind (decide, all_same {A = Option (List ℕ)} None 272 (number_of p h)))
 
 pub managed-keeps : Keeps managed_store
 managed-keeps = record {
@@ -319,7 +322,7 @@ managed-keeps = record {
   asked = grind decide;
   change = λ call q m e. (managed-change call q m e).blocks;
   rest = λ call q p m e. grind decide;
-  framed = λ slot p bytes m low k. same_blocks _ _ (λ h. put_other 3 slot p h bytes m (grind (decide, k)) k low);
+  framed = λ slot p bytes m low k. same_blocks _ _ (λ h. put_other 3 slot p h bytes m (grind decide) k low);
   boot = λ p c. empty-own p (booted c).memory refl;
 }
 
@@ -340,12 +343,12 @@ module _ (result : Option HeapStore) where
 module _ (p : ℕ) (m : Machine) (reply : Reply) where
   heap-law : (call : Call) → due (marks p (after_call call p m).scheduler.agenda) ≡ Some reply
       → KindLaw heap_touch (own_heap p m.memory) call reply
-  heap-law (Call.HeapAlloc b n) d = grind (decide, told-reply, alloc-law)
-  heap-law (Call.HeapRealloc b n) d = grind (decide, told-reply, realloc-law)
+  heap-law (Call.HeapAlloc b n) d = grind (decide, alloc-law)
+  heap-law (Call.HeapRealloc b n) d = grind (decide, realloc-law)
   heap-law (Call.HeapFree b) d = grind (decide, told-reply)
   heap-law (Call.HeapWrite b at chunk) d = grind (decide, told-reply)
   heap-law (Call.HeapRead b at len) d = grind (decide, told-reply)
-  heap-law call d = nothing heap_touch (own_heap p m.memory) call reply (grind decide)
+  heap-law call d = grind arith
 
 pub heap-keeps : Keeps heap_store
-heap-keeps = grind (decide, heap-law, heap-change, same_blocks, heap-rest)
+heap-keeps = grind (decide, heap-law, heap-change, heap-rest)

@@ -69,7 +69,7 @@ module _ (bound : ℕ) where
     round-falls : (m : Machine) → m.work ≤ 10000 → (m.work == 10000) ≡ false → costs bound m.scheduler.agenda ≤ round_cost bound
         → Falls bound ((10000 - m.work) * suc (round_cost bound) + old) m (with_more_work m)
     unfolding measure
-    round-falls = grind (decide, one_less, measure)
+    round-falls = grind (decide, one_less)
 
     -- only the agenda shrinks
     quiet-falls : (m new : Machine) → m.work ≤ 10000 → new.work ≡ m.work → present new.scheduler ≤ present m.scheduler
@@ -82,7 +82,7 @@ module _ (bound : ℕ) where
     module _ (m : Machine) (old : ℕ) (h : length m.scheduler.processes ≤ bound) (w : m.work ≤ 10000) where
       job-falls : (next : Option (Job Bool)) → is_rest next ≡ false → IsPaid bound next old (costs bound m.scheduler.agenda)
           → Falls bound ((10000 - m.work) * suc (round_cost bound) + old) m (job_done answers next m).0
-      job-falls (Some (Job.TakeTurn p origin stimulus)) r paid = grind (decide, limit-falls, call-falls)
+      job-falls (Some (Job.TakeTurn p origin stimulus)) r paid = grind (decide, call-falls)
       job-falls (Some (Job.Serve p event)) r paid = grind (decide, serve-untouched, quiet-falls)
       job-falls (Some (Job.CallBack p c false)) r paid =
           let given : Machine = scheduled (in_front (Item.Give p Origin.Callback (Stimulus.Callback c) ∷ [])) m in
@@ -95,10 +95,10 @@ module _ (bound : ℕ) where
         → Falls bound (measure bound m) m (one_step answers m).0
     unfolding measure
     step-falls m w few live =
-        let up : m.is_halted ≡ false = grind (decide, live) in
-        let works : is_rest (job m.scheduler) ≡ false = grind (decide, m.scheduler) in
+        let up : m.is_halted ≡ false = grind decide in
         let fewer = after_front-present m.scheduler in
-        let f = job-falls (scheduled after_front m) (costs bound m.scheduler.agenda) (omega (arith, fewer, few)) w (job m.scheduler) works
+        let f = job-falls (scheduled after_front m) (costs bound m.scheduler.agenda) (omega (arith, fewer, few)) w (job m.scheduler)
+        (grind (decide, m.scheduler))
         (paid bound m.scheduler (omega (arith, few))) in
         subst (λ (b : Bool).
         Falls bound (measure bound m) m (if b then silent m else job_done answers (job m.scheduler) (scheduled after_front m)).0)
@@ -117,7 +117,7 @@ module _ (says : Applications) where
 
   rests_within : (bound fuel : ℕ) (r : Running) → r.machine.work ≤ 10000 → reserve r.machine ≤ bound
       → (r.machine.is_halted ≡ false → measure bound r.machine + 1 ≤ fuel) → Rests r
-  rests_within bound zero r w few h = (r, (zero, refl, grind (decide, h)))
+  rests_within bound zero r w few h = (r, (zero, refl, grind decide))
   rests_within bound (suc fuel) r w few h = go (is_still r.machine) refl (rests_within bound fuel (after_step says r))
     where
       later : Running
@@ -129,7 +129,7 @@ module _ (says : Applications) where
       go true still further = (r, (zero, refl, still))
       go false live further =
           let f = step-falls bound (answers_after says r.entries) r.machine w few live in
-          let rest = further f.work (omega (arith, f.reserve, few))
+          let rest = further f.work (omega (arith, few))
           (λ running. omega (arith, f.measure running, h (grind (decide, live)))) in
           (rest.0, (suc rest.1.0, rest.1.1, rest.1.2))
 

@@ -1,6 +1,6 @@
 -- What the agenda holds for one process.
 use Rattle.kernel_core.proofs.run_laws.Changes.{farewells-same, all-delivered, state_of-seats, seats-with_state, seats-with_mark, seats-without, serve-untouched, effect-keeps, all-append, all-mapped, is_regular, carried-regular}
-use Rattle.std.proofs.Common.{is_none, ◌≡◌, ℕ, Bool, true, false, not, ◌&&◌, ◌||◌, List, [], ◌∷◌, ◌++◌, refl, arith, Option, Some, None, map, ◌==◌, if◌then◌else◌, ◌≤◌, subst, fold, zero, suc, ◌+◌, nat_le}
+use Rattle.std.proofs.Common.{is_none, ◌≡◌, ℕ, Bool, true, false, not, ◌&&◌, ◌||◌, List, [], ◌∷◌, ◌++◌, refl, arith, Option, Some, None, map, ◌==◌, if◌then◌else◌, ◌≤◌, subst, fold, zero, suc, ◌+◌}
 use Rattle.kernel_core.proofs.Common.{cons_option, decide, Stimulus, Origin, Reply, Process, State, Item, state_of, is_on_list, is_running, is_kernel_process, Scheduler, reply_of, is_turn_entry, after_item, Call, farewells, Machine, after_call, Entry, Frame, frame_taken, Memory, with_more_work, list_all, range_with_len, fold-append, PacketQueue, free_slot, Config, booted, at_start, reply_in, HasCall, Turn, up_to_call, OwnTurn, own_from, ticks_in}
 use Rattle.kernel_core.proofs.run_laws.event_order.Runs.{Known, carried, facing, Taken, taking, taken, entry_of, Cases, kernel_carried, Ran, Anything, AllFrom, at_each}
 
@@ -192,18 +192,16 @@ module _ {S : Type 0} (view : View S) where
           let busy : idle view.p m.scheduler.processes ≡ false = grind (decide, h.is_fit) in
           let rest : only_removes (marked m) ≡ true = grind (decide, h.is_fit) in
           let mortal : is_kernel_process view.p ≡ false = grind (arith, busy) in
-          let turns : due (marked (facing (Item.Turn view.p origin stimulus) m)) ≡ reply_of stimulus = grind decide in
           let s = answered view.next t.last (reply_of stimulus) t.now in
           let rel : At m s = grind decide in
           let owed = laws.self call old s (due (marked (after_call call view.p old))) mortal rel rest refl in
           grind (decide, after_call-fit)
 
     turn-step : (b : Bool) (u : Taken) (t : Knowledge S) → (u.q == view.p) ≡ b → Now t (taking u) → Turned t (entry_of u) (taken u)
-    turn-step true u t e h = grind (decide, e, turn-self u.call u.origin u.stimulus t u.m)
+    turn-step true u t e h = grind (decide, turn-self u.call u.origin u.stimulus t u.m)
     turn-step false u t e h =
-        let same : marked (taking u) ≡ marked u.m = grind (arith, e) in
-        let kept = after_call-others view.p u.q (with_more_work u.m) e (rw same at h.is_fit) u.call in
-        grind decide
+        let same : marked (taking u) ≡ marked u.m = grind arith in
+        grind (decide, after_call-others view.p u.q (with_more_work u.m) e (rw same at h.is_fit) u.call)
 
 slot_low : (packets : PacketQueue) (slot : ℕ) → free_slot packets ≡ Some slot → slot ≤ 15
 unfolding free_slot
@@ -247,23 +245,21 @@ module _ {S : Type 0} (view : View S) where
 
     pub told_cases : Cases Holds Fitting
     told_cases = record {
-      carried = λ known m X item n s h. carried-holds known item m X (grind (arith, n)) h;
+      carried = λ known m X item n s h. carried-holds known item m X (grind arith) h;
       served = λ known m X q origin event k h.
-          let there : Holds known m X = subst (λ n. Holds known n X) (kernel_carried q origin (Stimulus.Event event) m k)
+          let there = subst (λ n. Holds known n X) (kernel_carried q origin (Stimulus.Event event) m k)
           (carried-holds known (Item.Give q origin (Stimulus.Event event)) m X refl h) in
-          grind (decide, there, serve-untouched q event m);
+          grind (decide, serve-untouched q event m);
       called_back = grind decide;
       round = grind decide;
       turn = λ known t agrees h.
-          let high : nat_le 4 t.q ≡ true = grind (arith, h.regular) in
-          let rest : list_all is_regular t.m.scheduler.agenda ≡ true = grind (arith, h.regular) in
           record {
             regular = grind (decide, all-mapped, all-append);
             now = rw (fold-append (told view.next view.p) (told_so_far view []) t.X (entry_of t ∷ [])) ((turned _ t h).now);
           };
       told = λ t h. (turned _ t h).fine;
       notes = grind decide;
-      shown = grind (decide, carried-holds, fold-append);
+      shown = grind (decide, fold-append);
       noted = grind decide;
       other = grind decide;
       input = grind (decide, effect-keeps, state_of-seats, seats-with_mark, fold-append, slot_low);
@@ -297,7 +293,7 @@ module _ {S : Type 0} (view : View S) where
       let t = told_so_far view (up_to_call before turn) in
       let last : t.last ≡ Some turn.call = grind (decide, fold-append, same) in
       let later = well-after (told_so_far view []) (up_to_call before turn) has.later (rw has.is_split well) in
-      let answered : reply_in view.p has.later ≡ Some reply = rw same at has.is_answered in
+      let answered = rw same at has.is_answered in
       rw (last, answered) at (law-at has.later t later)
 
   -- so are all replies to p's calls, each by what p knew before it

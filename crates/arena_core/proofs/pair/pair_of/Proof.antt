@@ -6,7 +6,7 @@
 use seplogic.Ra.Ura.{Ura}
 use Rattle.arena_core.specs.Code.Written.{written}
 use Rattle.core.proofs.alloc.Shapes.{after}
-use Rattle.std.proofs.Common.{List, MutBor, [], ap, arith, inl, inr, length, refl, sym, take, w64, ℕ, ◌*◌, ◌++◌, ◌+◌, ◌-◌, ◌<◌, ◌^◌, ◌∙◌, ◌∷◌, ◌≡◌, ◌≤◌, ◌⊎◌}
+use Rattle.std.proofs.Common.{List, MutBor, [], ap, arith, inl, inr, length, refl, sym, take, w64, ℕ, ◌++◌, ◌+◌, ◌-◌, ◌∙◌, ◌∷◌, ◌≡◌, ◌≤◌, ◌⊎◌}
 use Rattle.std.proofs.lemmas.List.{drop-take, take-take}
 use Rattle.std.proofs.raw_atomic.Walks.{proved}
 use base.Fml.{Fml, GName, Lft, Share, fauth, fbor, flft, fobor, fobs, fsep, ftrue}
@@ -113,16 +113,15 @@ module _ {M : Type 1} {𝓤 : Ura M} (𝓛 : Logic 𝓤) (b : ℕ) where
           ++ (hs ++ drop-written xs lo ls (omega arith) (hi + length hs) (omega arith) i))
 
       high_first : written (written xs hi hs) lo ls ≡ both ls hs
-      high_first = let g = front_long in
-          ap (λ l. written l lo ls) (written_is xs hi hs (omega arith))
-          ∙ written-append_left (take hi xs) (hs ++ drop_l (hi + length hs) xs) lo ls (omega arith)
+      high_first = ap (λ l. written l lo ls) (written_is xs hi hs (omega arith))
+          ∙ written-append_left (take hi xs) (hs ++ drop_l (hi + length hs) xs) lo ls (omega (arith, front_long))
 
     same_run : take low (drop_l lo (take hi xs)) ≡ take low (drop_l lo xs)
     same_run = let e : hi ≡ lo + (hi - lo) = omega arith in grind (arith, drop-take, take-take)
 
     module _ (o : ℕ) where
       inner : lo + low ≤ length (take hi xs)
-      inner = let g = front_long in omega arith
+      inner = omega (arith, front_long)
 
       abbrev Others : Fml
       Others = fsep (Around o (take hi xs) lo low inner) (Row (high + (hi + o)) (drop_l (hi + high) xs))
@@ -242,7 +241,7 @@ pair_of_spec 𝓤 𝓛 𝓜 𝓡 wired =
     let at = a.1.0 in let len = a.1.1.0 in let to = a.1.1.1.0 in let more = a.1.1.1.1.0 in let ys = take len (drop_l at xs) in let zs =
     take more (drop_l to xs) in
     let y : W.Ghost = ((κs, qs, bounds, a, (mut_slice_vals a.0, (vals at, (vals len, (vals to, (vals more, tt)))))), tt) in
-    let rm = are.0.0.1 in let fl = are.1.1.0.1 in let fm = are.1.1.1.1.0.1 in let S = MutSlice (named 0) κ u8 in
+    let fl = are.1.1.0.1 in let fm = are.1.1.1.1.0.1 in let S = MutSlice (named 0) κ u8 in
     qed 𝓛 (((‵ (flft κ q) ⊛ ‵ ftrue) ⊛ ‵ (S.own_val a.0 (mut_slice_vals a.0)) ⊛ ‵ (usize.own_val at (vals at))
     ⊛ ‵ (usize.own_val len (vals len)) ⊛ ‵ (usize.own_val to (vals to)) ⊛ ‵ (usize.own_val more (vals more)) ⊛ ‵ ftrue)
     ∷ (raw (fact 𝓤 (at + len ≤ length xs)) ⊛ raw (fact 𝓤 (to + more ≤ length xs))
@@ -254,7 +253,7 @@ pair_of_spec 𝓤 𝓛 𝓜 𝓡 wired =
     omega (arith, length-take more (drop_l to xs), length-drop to xs) in
     enter ! _ _ _ _ _ $ alloc_all !
     (λ l. pass_all ! refl (
-      (tt, (tt, (record { fits = rm.0 }, tt))),
+      (tt, (tt, (record { fits = are.0.0.1.0 }, tt))),
       (
         (tt, record { fits = are.1.0.1 }),
         ((tt, record { fits = fl }), ((tt, record { fits = are.1.1.1.0.1 }), ((tt, record { fits = fm }), tt))),
@@ -264,13 +263,9 @@ pair_of_spec 𝓤 𝓛 𝓜 𝓡 wired =
     $ open_ref ! tt (Arr (mem u8) (length xs)) {b = b} {o = o} $ fsplit ! $ drop ! $
     let one : ℕ × ℕ = (b, at + o) in let two : ℕ × ℕ = (b, to + o) in let runs = two_runs 𝓛 b o xs at len to more p p' apart in let L =
     Arr (mem u8) (length xs) in
-    let low : length ys ≤ length xs = omega arith in let low' : length zs ≤ length xs = omega arith in let fit = rm.1 in
-    let room : (length ys < 2 ^ 64) × (length ys * 1 < 2 ^ 63) = (omega arith, omega arith) in let room' : (length zs < 2 ^ 64)
-    × (length zs * 1 < 2 ^ 63) = (omega arith, omega arith) in
     let F : List ℕ → List ℕ → List ℕ = λ ws us. written (written xs at ws) to us in
     let way = λ (ws us : List ℕ) (s : length ws ≡ length ys) (t : length us ≡ length zs).
-    let way_in : ent 𝓤 (sep 𝓤 (sem 𝓛 (cells (mem u8) ws b (at + o))) (sep 𝓤 (sem 𝓛 (cells (mem u8) us b (to + o))) (sem 𝓛 runs.rest)))
-    (sem 𝓛 (L.own_at (F ws us) b o)) =
+    let way_in =
     qed 𝓛 (‵ (cells (mem u8) ws b (at + o)) ∷ ‵ (cells (mem u8) us b (to + o)) ∷ ‵ runs.rest ∷ []) ∵ use3 𝓛
     (‵ (cells (mem u8) (F ws us) b o)) (runs.back ws us (s ∙ count) (t ∙ count')) $
     feq_i ! ℕ (length (F ws us)) (length xs) (length-written (written xs at ws) to us ∙ length-written xs at ws) $ fjoin ! $ done !
@@ -294,7 +289,8 @@ pair_of_spec 𝓤 𝓛 𝓜 𝓡 wired =
     use1 𝓛 (later (some (λ (δ : GName × GName). ‵ (S.own_val (r δ.0) (slice_val one (length ys) ∷ []))
     ⊛ (‵ (S.own_val (s δ.1) (slice_val two (length zs) ∷ []))
     ⊛ (‵ (flft κ q) ⊛ ‵ (after₂ L (Arr (mem u8) 0) (Arr (mem u8) 0) γ δ.0 δ.1 F))))))
-    (lends_two 𝓛 L F κ q b o b (at + o) (to + o) γ ys zs room room' runs.rest way ((coded_list u8.coded).code xs)
+    (lends_two 𝓛 L F κ q b o b (at + o) (to + o) γ ys zs (omega arith, omega arith) (omega arith, omega arith) runs.rest way
+    ((coded_list u8.coded).code xs)
     ((coded_list u8.coded).code xs)) $ await ! tt $ pick ! (λ δ. split ! $
     rewrite ! 0 (λ (k : ℕ). ‵ (S.own_val (r δ.0) (slice_val one k ∷ []))) count refl $ move ! (1 ∷ []) $ split3 ! $
     rewrite ! 0 (λ (k : ℕ). ‵ (S.own_val (s δ.1) (slice_val two k ∷ []))) count' refl $
@@ -308,7 +304,6 @@ pair_of_spec 𝓤 𝓛 𝓜 𝓡 wired =
     nothing ! $ nothing ! $ fjoin ! $ nothing ! $ fjoin ! $ nothing ! $ fjoin ! $ nothing ! $ fjoin ! $ nothing ! $ fjoin ! $ join !
     $ nothing ! $ move ! (2 ∷ 0 ∷ []) $ join ! $ join ! $ frame ! $
     says_two ! (
-      let i : len ≡ (at + len) - at = omega arith in ap (λ k. take k (drop_l at xs)) i,
-      let j : more ≡ (to + more) - to =
-          omega arith in ap (λ k. take k (drop_l to xs)) j,
+      ap (λ k. take k (drop_l at xs)) (omega arith),
+      ap (λ k. take k (drop_l to xs)) (omega arith),
     ) $ done !))))))

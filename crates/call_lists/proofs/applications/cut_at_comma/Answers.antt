@@ -7,7 +7,7 @@ pub returns-in-Some-clause-first : goal.returns-in-Some-clause-first
 returns-in-Some-clause-first c =
     λ front rest is.
     let cut = c.in-Some.ensures.cases in
-    (omega (arith, first_at c.args.text.now (codes ", ") cut.0 cut.2.0 front rest is, cut.6), refl)
+    (omega (arith, first_at c.args.text.now (codes ", ") cut.0 cut.2.0 front rest is), refl)
 
 pub returns-in-None-clause-first : goal.returns-in-None-clause-first
 returns-in-None-clause-first c = λ front rest is.

@@ -1,25 +1,20 @@
 use Rattle.kernel_core.proofs.all_runs.runs_keep_laws.Goals as goal
-use Rattle.kernel_core.proofs.run_laws.Callers.{blocks-own}
-use Rattle.kernel_core.proofs.run_laws.Isolated.{alone-alike, alone-so-far}
-use Rattle.kernel_core.proofs.run_laws.Rests.{run_of}
-use Rattle.kernel_core.proofs.run_laws.event_order.Runs.{ran}
-use Rattle.kernel_core.proofs.run_laws.event_order.Sound.{events-kept}
-use Rattle.kernel_core.proofs.run_laws.timer_deadlines.Attended.{timers-kept}
 
 pub returns-clause-events : goal.returns-clause-events
-returns-clause-events c = λ config says inputs after runs. events-kept (ran config says inputs after runs)
+returns-clause-events c = c.events_arrive.ensures.events
 
 pub returns-clause-laws : goal.returns-clause-laws
 returns-clause-laws c = λ config boots.
     record {
-      exists = run_of config;
+      exists = c.run_exists.ensures.exists config;
       kept = λ says inputs after runs.
-          let run = ran config says inputs after runs in
+          let own = c.memory_is_private.ensures in
+          let arrive = c.events_arrive.ensures in
           record {
-            memory = blocks-own run;
-            events = events-kept run;
-            timers = timers-kept run boots;
-            isolation = record { alone_so_far = alone-so-far run boots };
-            alike = alone-alike run boots;
+            memory = own.own config says inputs after runs;
+            events = arrive.events config says inputs after runs;
+            timers = arrive.timers config says inputs after boots runs;
+            isolation = own.isolated config says inputs after boots runs;
+            alike = own.alike config says inputs after boots runs;
           };
     }

@@ -1,5 +1,5 @@
 -- What an entry adds to the events accepted for p and delivered to it.
-use Rattle.std.proofs.Common.{◌≡◌, ℕ, ◌+◌, Bool, false, ◌||◌, List, [], ◌∷◌, ◌++◌, refl, append-nil, Option, None, option_to_list, filter_map, if◌then◌else◌, ◌==◌}
+use Rattle.std.proofs.Common.{◌≡◌, ℕ, ◌+◌, Bool, false, ◌||◌, List, [], ◌∷◌, ◌++◌, refl, Option, None, option_to_list, filter_map, if◌then◌else◌, ◌==◌}
 use Rattle.kernel_core.specs.Laws.EventLaws.{is_event_of_code, posted_event}
 use Rattle.kernel_core.proofs.Common.{deed, cons_option, list_any, decide, Call, Reply, Stimulus, Event, Entry, EXIT, heard, OwnTurn, own_from, reply_of, is_done, ticks_in, has_ended, is_exit, given_events, event_for, accepted_events}
 use Rattle.std.proofs.lemmas.List.Elements.{filter_map-append}
@@ -19,13 +19,10 @@ abbrev pub accepted_with : Known → ℕ → List Entry → List Event
 accepted_with known p [] = []
 accepted_with known p (entry ∷ later) = cons_option (accepted_or known p entry later) (accepted_with known p later)
 
-pub cons_option-append : {A : Type 0} (o : Option A) (xs ys : List A) → cons_option o (xs ++ ys) ≡ cons_option o xs ++ ys
-cons_option-append = grind decide
-
 module _ (known : Known) (p : ℕ) where
   accepted_or-more : (entry : Entry) (X : List Entry) (e : Entry)
       → accepted_or known p entry (X ++ e ∷ []) ≡ accepted_or (told e known) p entry X
-  accepted_or-more = grind (decide, filter_map-append, append-nil)
+  accepted_or-more = grind (decide, filter_map-append)
 
   -- what a turn adds
   abbrev pub own_event : ℕ → Call → List Event
@@ -34,7 +31,7 @@ module _ (known : Known) (p : ℕ) where
   pub accepted-more : (X : List Entry) (e : Entry)
       → accepted_with known p (X ++ e ∷ []) ≡ accepted_with (told e known) p X ++ option_to_list (accepted_or known p e [])
   accepted-more [] e = grind decide
-  accepted-more (entry ∷ X) e = grind (decide, accepted_or-more, cons_option-append, accepted-more X e)
+  accepted-more (entry ∷ X) e = grind (decide, accepted_or-more, accepted-more X e)
 
 abbrev given_turn : OwnTurn → Option Event
 given_turn turn = posted_event turn.origin turn.stimulus

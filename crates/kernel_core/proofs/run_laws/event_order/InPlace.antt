@@ -116,7 +116,7 @@ module _ (p : ℕ) where
   pub carried-stands : (item : Item) (s : Scheduler Bool) → is_silent item ≡ true → stands p (behind item s) ≡ true
       → stands p (after_item item s) ≡ true
   carried-stands (Item.Start q) s n h = grind (decide, state_of-seats)
-  carried-stands (Item.Give q origin stimulus) s n h = grind (decide, state_of-seats, seats-with_state)
+  carried-stands (Item.Give q origin stimulus) s n h = grind (decide, seats-with_state)
   carried-stands (Item.GiveExit q) s n h = grind (decide, seats-with_state)
   carried-stands (Item.Remove q) s n h = grind (decide, seats-without)
   carried-stands item s n h = grind (decide, holds-append, all-mapped, seats-with_mark, all-delivered)
@@ -127,7 +127,7 @@ module _ (p : ℕ) where
       → (list_any (is_start p) items
       || (list_any (is_turn_of p) items || (list_any (is_give_exit p) items || list_any (is_exit_turn p) items))) ≡ false
   walk-free [] h = refl
-  walk-free (item ∷ items) h = grind (arith, h, walk-free items)
+  walk-free (item ∷ items) h = grind (arith, walk-free items)
 
   -- a Give of origin event finds p Running
   pub given-running : (q : ℕ) (stimulus : Stimulus) (s : Scheduler Bool) → (q == p) ≡ true
@@ -137,7 +137,7 @@ module _ (p : ℕ) where
 
 module _ (q : ℕ) (m : Machine) (h : is_ordered m.scheduler.agenda ≡ true) where
   pub after-ordered : (call : Call) → is_ordered (after_call call q m).scheduler.agenda ≡ true
-  after-ordered Call.Wait = grind (arith, h)
+  after-ordered Call.Wait = grind arith
   after-ordered Call.Exit = grind (decide, farewells-same is_ordered q (λ n items. refl))
   after-ordered (Call.Kill r) = grind (decide, farewells-same is_ordered r (λ n items. refl))
   after-ordered call = grind decide
@@ -151,7 +151,8 @@ module _ (p : ℕ) where
       → holds p l ((farewells q s ++ rest) ++ agenda) ≡ holds p l (rest ++ agenda)
   holds-farewells l q = farewells-same (holds p l) q (grind decide)
 
-  module _ (q : ℕ) (m : Machine) (origin : Origin) (stimulus : Stimulus) (h : stands p (behind (Item.Turn q origin stimulus) m.scheduler) ≡ true) where
+  module _ (q : ℕ) (m : Machine) (origin : Origin) (stimulus : Stimulus)
+      (h : stands p (behind (Item.Turn q origin stimulus) m.scheduler) ≡ true) where
     pub after-stands : (call : Call) → ends_in p (Entry.Turn (record { 0 = q }) origin stimulus call) ≡ false
         → stands p (after_call call q m).scheduler ≡ true
     after-stands Call.Wait n = grind (decide, state_of-seats, seats-with_state)

@@ -159,10 +159,6 @@ pub record Cases (K : Invariant) (R : List Entry → Entry → Type 0) : Type 0 
 call-halted : (call : Call) (q : ℕ) (m : Machine) → (after_call call q m).is_halted ≡ m.is_halted
 call-halted call q m = grind arith
 
-fed_first : (says : Applications) (r : Running) (input : Input) → r.machine.is_halted ≡ false
-    → after_step says (with_input input r) ≡ after_fed r input
-fed_first = grind decide
-
 module _ (K : Invariant) (R : List Entry → Entry → Type 0) (cases : Cases K R) where
   abbrev Holds : Machine → List Entry → Type 0
   Holds m X = (known : Known) → FrontAgrees known m.scheduler.agenda → K known m X
@@ -175,15 +171,15 @@ module _ (K : Invariant) (R : List Entry → Entry → Type 0) (cases : Cases K 
   module _ (X : List Entry) where
     -- also if Halt is shown
     limit_kept : (m : Machine) (step : StepMade) → Kept X step → Kept X (within_limit m step)
-    limit_kept = grind (decide, cases.other)
+    limit_kept = grind decide
 
     silent_kept : (m : Machine) → m.is_halted ≡ false → Holds m X → Kept X (silent m)
     silent_kept m live h =
-        record { holds = λ up known agrees. rw append-nil (h known agrees); shown = grind decide; halts = grind (decide, live) }
+        record { holds = λ up known agrees. rw append-nil (h known agrees); shown = grind decide; halts = grind decide }
 
     module _ (m : Machine) (live : m.is_halted ≡ false) where
       at_agenda : (agenda : List Item) → m.scheduler.agenda ≡ agenda → Holds m X → Holds (with_agenda agenda m) X
-      at_agenda agenda e h = subst (λ (items : List Item). Holds (with_agenda items m) X) e h
+      at_agenda agenda e h = grind arith
 
       module _ (answers : Answers) where
         round_kept : (b : Bool) → m.scheduler.agenda ≡ [] → Holds m X
@@ -227,7 +223,6 @@ module _ (K : Invariant) (R : List Entry → Entry → Type 0) (cases : Cases K 
             show : (entry : Entry) → K (agreeing m.scheduler.agenda) (facing (Item.Show entry) m) X → Holds (facing (Item.Show entry) m) X
                 → Kept X (m, Some entry)
             show (Entry.Note note) given h =
-                let r = cases.noted _ m X note given in
                 record {
                   holds = λ up known agrees. cases.shown known m X note (h known agrees);
                   shown = grind decide;
@@ -257,13 +252,11 @@ module _ (K : Invariant) (R : List Entry → Entry → Type 0) (cases : Cases K 
         still : is_still r.machine ≡ true
 
       rested : Ended → r.machine.is_halted ≡ false → Q r.entries
-      rested ended live =
-          let none : r.machine.scheduler.agenda ≡ [] = grind (decide, ended.still) in
-          rest r.machine r.entries (grind (decide, ended.still)) (ended.good.holds live nothing_known (rw none tt))
+      rested ended live = grind arith
 
       good-fed : (input : Input) → Ended → r.machine.is_halted ≡ false → Good (after_fed r input)
       good-fed input ended live =
-          let none : r.machine.scheduler.agenda ≡ [] = grind (decide, ended.still) in
+          let none : r.machine.scheduler.agenda ≡ [] = grind decide in
           record {
             each = all-more R Q [] r.entries (Entry.Input input) ended.good.each
                 (cases.other r.entries (Entry.Input input) refl refl, λ _. rested ended live);
@@ -275,13 +268,12 @@ module _ (K : Invariant) (R : List Entry → Entry → Type 0) (cases : Cases K 
       module _ (r : Running) where
         kept-good : (step : StepMade) → Good r → Kept r.entries step → Good (gone_on r.entries step)
         kept-good step g k =
-            record { each = go step.1 refl; holds = k.holds; halts = λ halted. grind (decide, list_any-append, k.halts halted) }
+            record { each = go step.1 refl; holds = k.holds; halts = λ halted. grind (decide, list_any-append) }
           where
             go : (o : Option Entry) → step.1 ≡ o → AllFrom R Q [] (r.entries ++ option_to_list o)
             go None e = rw append-nil g.each
             go (Some entry) e =
-                let s = k.shown entry e in
-                all-more R Q [] r.entries entry g.each (s.0, λ i. absurd (grind (arith, s.1, i)))
+                all-more R Q [] r.entries entry g.each ((k.shown entry e).0, λ i. absurd (grind arith))
 
         good-step : (b : Bool) → r.machine.is_halted ≡ b → Good r
             → Good (gone_on r.entries
@@ -303,7 +295,7 @@ module _ (K : Invariant) (R : List Entry → Entry → Type 0) (cases : Cases K 
       fed-rest : (r new : Running) (input : Input) → r.machine.is_halted ≡ false → ComesToRest says (with_input input r) new
           → ComesToRest says (after_fed r input) new
       fed-rest r new input live (zero, goes, still) = absurd (grind decide)
-      fed-rest r new input live (suc n, goes, still) = let first = fed_first says r input live in (n, grind decide, still)
+      fed-rest r new input live (suc n, goes, still) = (n, grind decide, still)
 
       fed-runs : (inputs : List Input) (r new : Running) (input : Input) → r.machine.is_halted ≡ false
           → Runs says (with_input input r) inputs new → Runs says (after_fed r input) inputs new

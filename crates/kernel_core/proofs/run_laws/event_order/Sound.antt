@@ -34,13 +34,13 @@ module _ (p : ℕ) where
     pub tally : has_ended p X ≡ false → accepted_with known p X ≡ given_events X p ++ all_waiting p m.scheduler
 
   pub boot-sound : (c : Config) (known : Known) → is_application c.apps p ≡ true → Sound known (at_start c).machine []
-  boot-sound = grind (decide, range_with_len, starts-ordered, starts-all, starts-covered, starts-waits)
+  boot-sound = grind (decide, starts-ordered, starts-all, starts-covered, starts-waits)
 
   module _ (X : List Entry) where
     module _ (e : Entry) where
       order-other : is_turn e ≡ false → Keeps IsInOrder X e
       order-other n i = λ alive. (
-        (i (grind (arith, alive, ended-more p X e))).0,
+        (i (grind (arith, ended-more p X e))).0,
         grind (
           decide,
           given-more,
@@ -60,7 +60,6 @@ module _ (p : ℕ) where
     rest_given m e h = λ alive.
         let none : m.scheduler.agenda ≡ [] = grind decide in
         let empty : m.scheduler.events ≡ [] = grind (decide, nothing_queued) in
-        let t = h.tally alive in
         grind (decide, append-nil, accepted_with-none)
 
   module _ (t : Taken) where
@@ -73,9 +72,9 @@ module _ (p : ℕ) where
     turn_sound : (known : Known) → FrontAgrees known (taken t).scheduler.agenda → Sound (told e known) (taking t) t.X
         → Sound known (taken t) (with_turn t)
     turn_sound known agrees h = record {
-      ordered = after-ordered t.q on (grind (decide, h.ordered)) t.call;
+      ordered = after-ordered t.q on (grind decide) t.call;
       place = λ alive. after-stands p t.q on t.origin t.stimulus (h.place (still_alive t.X e alive)) t.call
-          (grind (arith, alive, ended-more p t.X e));
+          (grind (arith, ended-more p t.X e));
       tally = λ alive.
           rw (
             accepted-more known p t.X e,
@@ -87,11 +86,18 @@ module _ (p : ℕ) where
     }
 
     turn_order : Sound (told e nothing_known) (taking t) t.X → Keeps IsInOrder t.X e
-    turn_order h old = λ alive.
-        let tally = h.tally (still_alive t.X e alive) in (
-          all_waiting p t.m.scheduler,
-          grind (decide, accepted_with-none, accepted-more nothing_known p t.X e, append-nil, given-more, append_assoc),
-        )
+    turn_order h old = λ alive. (
+      all_waiting p t.m.scheduler,
+      grind (
+        decide,
+        accepted_with-none,
+        accepted-more nothing_known p t.X e,
+        append-nil,
+        given-more,
+        append_assoc,
+        h.tally (still_alive t.X e alive),
+      ),
+    )
 
   pub sound_cases : nat_le 4 p ≡ true → Cases Sound (Keeps IsInOrder)
   sound_cases a = record {
@@ -102,7 +108,7 @@ module _ (p : ℕ) where
     turn = λ known t agrees h. turn_sound t known agrees h;
     told = turn_order;
     notes = grind decide;
-    shown = grind (decide, still_alive, given-more, no_given, append-nil, accepted-more);
+    shown = grind (decide, still_alive, given-more, append-nil, accepted-more);
     noted = grind (decide, order-other);
     other = grind (decide, order-other);
     input = grind (decide, still_alive, given-more, no_given, append-nil, accepted-more, effect-keeps, seats-with_mark);
@@ -111,7 +117,7 @@ module _ (p : ℕ) where
 module _ (run : Ran) where
   module _ (p : ℕ) (a : is_application run.config.apps p ≡ true) where
     cases : Cases (Sound p) (Keeps (IsInOrder p))
-    cases = sound_cases p (grind (arith, a))
+    cases = sound_cases p (grind arith)
 
     boot : (known : Known) → Sound p known (at_start run.config).machine []
     boot known = boot-sound p run.config known a

@@ -1,17 +1,17 @@
 -- No timer event is early or lost: at each step the machine's timers follow the ledger.
-use Rattle.std.proofs.Common.{◌≡◌, ℕ, true, false, ◌||◌, List, [], ◌∷◌, ◌++◌, ◌+◌, refl, arith, None, nat_le, ◌≤◌, subst, nat_lt, Bool, ◌&&◌, ◌==◌, append_assoc, map, slice_get}
+use Rattle.std.proofs.Common.{◌≡◌, ℕ, true, false, ◌||◌, List, [], ◌∷◌, ◌++◌, ◌+◌, refl, arith, nat_le, ◌≤◌, subst, nat_lt, Bool, ◌&&◌, ◌==◌, append_assoc, map, slice_get}
 use Rattle.kernel_core.specs.Laws.TimerLaws.{is_ripe, ripe_by, is_number}
 use Rattle.kernel_core.proofs.Totals.{total-none}
 use Rattle.kernel_core.proofs.Common.{TimersAreKept, with_more_work, decide, list_any, Stimulus, Event, Item, Timer, Timers, is_due, Machine, Entry, list_all, has_ended, clock_after, ticks_in, fold-append, all_timers, standing, is_timer, Config, is_bootable, is_at_rest, at_start, is_application, range_with_len, Origin, Scheduler, list_any-append, Call, after_call, EXITED, number_event, Queued, numbers, after_item, delivery}
 use Rattle.kernel_core.proofs.run_laws.Changes.{is_regular, carried-regular, KeptByCalls, kept_by_call, all-more, all-append, all-mapped, none-mapped, serve-untouched, is_turn, carried-any, after-any}
 use Rattle.kernel_core.proofs.run_laws.timer_deadlines.Balanced.{is_lawful, plain-cancelled, turn-follows, Balanced, less-balanced, in_wait, carried-count, carried-same, serve-fair, after-count}
-use Rattle.kernel_core.proofs.run_laws.timer_deadlines.MovedTimers.{after-timers, after-clock, OwnTimer, own_timer, cell_names, armed-names, zero-names, zero-cells, after-moves, still_moves}
+use Rattle.kernel_core.proofs.run_laws.timer_deadlines.MovedTimers.{after-clock, OwnTimer, own_timer, cell_names, armed-names, zero-names, zero-cells, after-moves}
 use Rattle.kernel_core.proofs.run_laws.timer_deadlines.Ledger.{ledger-turn, timer_ledger, timer_events-ledger, ledger-other, standing-ledger}
 use Rattle.kernel_core.proofs.run_laws.event_order.Runs.{Known, FrontAgrees, nothing_known, told, Keeps, Taken, taking, taken, facing, is_quiet_item, carried, entry_of, with_turn, Cases, kernel_carried, Ran, at_prefixes, at_rest}
 use Rattle.kernel_core.proofs.run_laws.event_order.AcceptedEvents.{ends_in, ended-more}
 use Rattle.kernel_core.proofs.run_laws.event_order.WaitingEvents.{nothing_queued, to_all}
 use Rattle.kernel_core.proofs.run_laws.event_order.Sound.{Sound, IsInOrder, sound_cases, boot-sound}
-use Rattle.kernel_core.proofs.run_laws.timer_deadlines.Watched.{Watched, rest-not_due, watched-after, watched-carried, watched-input, watched-serve, without_item}
+use Rattle.kernel_core.proofs.run_laws.timer_deadlines.Watched.{Watched, rest-not_due, watched-after, watched-carried, watched-input, watched-serve}
 use Rattle.kernel_core.proofs.run_laws.event_order.InPlace.{is_give_exit, is_exit_turn}
 
 -- Nobody gets p's EXITED while p lives.
@@ -41,7 +41,7 @@ module _ (p : ℕ) where
   no_farewell-delivery : (ns : List ℕ) (events : List (Queued Bool)) → list_all is_lawful events ≡ true
       → has_farewell p (delivery ns (slice_get events 0)) ≡ false
   no_farewell-delivery ns (Queued.To q event ∷ events) h = grind decide
-  no_farewell-delivery ns (Queued.ToAll event ∷ events) h = no_farewell-broadcast ns event (grind (arith, h))
+  no_farewell-delivery ns (Queued.ToAll event ∷ events) h = no_farewell-broadcast ns event (grind arith)
   no_farewell-delivery ns _ h = refl
 
 -- if p isn't doomed afterwards, it wasn't before
@@ -78,7 +78,7 @@ module _ (p : ℕ) where
       → has_farewell p m.scheduler.agenda ≡ false → has_farewell p (after_call call q m).scheduler.agenda ≡ false
   after-farewell Call.Exit q origin stimulus m n d h = grind (decide, append_assoc, list_any-append, no_farewell-others)
   after-farewell (Call.Kill r) q origin stimulus m n d h = grind (decide, append_assoc, list_any-append, no_farewell-others)
-  after-farewell call q origin stimulus m n d h = grind (arith, h)
+  after-farewell call q origin stimulus m n d h = grind arith
 
 -- The clock, the names of the timers, and what waits.
 
@@ -101,10 +101,10 @@ module _ (t : Taken) where
   watched-turn : Watched (taking t) → Watched (taken t)
   watched-turn h =
       watched-after t.q (with_more_work t.m)
-      (grind (decide, without_item (Item.Turn t.q t.origin t.stimulus) t.m refl h)) t.call
+      (grind decide) t.call
 
   steady-turn : Steady (taking t) t.X → Steady (taken t) (with_turn t)
-  steady-turn = grind (decide, after-clock, clock-more, armed-names, after-timers, kept_by_call, after-plain, all-mapped, all-append)
+  steady-turn = grind (decide, after-clock, clock-more, armed-names, kept_by_call, after-plain, all-mapped, all-append)
 
 module _ (o : OwnTimer) where
   record Spared (agenda : List Item) (X : List Entry) : Type 0 where
@@ -152,22 +152,13 @@ module _ (o : OwnTimer) where
             (h.farewell (spared-before s));
         balanced = rw (after-clock t.call t.q on, after-count o t.q on t.call, ledger-turn o known t h.steady.clock)
             (turn-follows o _ _ t (known o.p) (taken t).timers (timer_ledger o (told (entry_of t) known) t.X)
-            (after-moves o t.q known on (grind (decide, h.steady)) t.call front) (in_wait o on) spared-before
-            (grind (decide, h.balanced)));
+            (after-moves o t.q known on (grind decide) t.call front) (in_wait o on) spared-before
+            (grind decide));
       }
 
       timely-turn : Heeded (told (entry_of t) nothing_known) (taking t) t.X → Keeps IsTimely t.X (entry_of t)
       timely-turn h timely =
-          grind (
-            decide,
-            clock-more,
-            ledger-turn,
-            h.steady,
-            turn-follows o (Spared (taking t).scheduler.agenda t.X) ⊥ t None t.m.timers
-                (timer_ledger o (told (entry_of t) nothing_known) t.X)
-                (still_moves o t.q t.m.clock t.call None t.m.timers t.m.timers (grind arith) refl (λ n. refl))
-                (in_wait o t.m) (λ none. absurd none) (grind (decide, h.balanced)),
-          )
+          grind (decide, clock-more, ledger-turn)
 
     sound : Cases (Sound o.p) (Keeps (IsInOrder o.p))
     sound = sound_cases o.p low
@@ -179,7 +170,7 @@ module _ (o : OwnTimer) where
           let spared : Spared (carried item m).scheduler.agenda X → Spared (item ∷ m.scheduler.agenda) X =
           λ s. record { alive = s.alive; safe = carried-doomed o.p item m.scheduler n s.safe } in
           let lawful = h.steady.plain in
-          let regular : is_regular item ≡ true = grind (arith, h.steady.regular) in
+          let regular : is_regular item ≡ true = grind arith in
           record {
             steady = grind (decide, carried-regular, h.steady);
             farewell = λ s. carried-farewell o.p item m.scheduler lawful (h.farewell (spared s));
@@ -195,20 +186,20 @@ module _ (o : OwnTimer) where
       carried = λ known m X item n s h.
           record {
             sound = sound.carried known m X item n s h.sound;
-            watched = watched-carried item m n s (grind (arith, h.heeded.steady.regular)) h.watched;
+            watched = watched-carried item m n s (grind arith) h.watched;
             heeded = heeded-carried known m X item n h.sound h.heeded;
           };
       served = λ known m X q origin event k h.
           let gone =
           subst (λ n. Heeded known n X) (kernel_carried q origin (Stimulus.Event event) m k)
           (heeded-carried known m X (Item.Give q origin (Stimulus.Event event)) refl h.sound h.heeded) in
-          let fair = serve-fair o (Spared m.scheduler.agenda X) q event (λ s. grind (decide, h.heeded.farewell)) m in
+          let fair = serve-fair o (Spared m.scheduler.agenda X) q event (λ s. grind decide) m in
           let same = (serve-untouched q event m).agenda in
           record {
             sound = sound.served known m X q origin event k h.sound;
             watched = watched-serve q origin event m h.watched;
             heeded = record {
-              steady = grind (decide, gone.steady);
+              steady = grind decide;
               farewell = rw same gone.farewell;
               balanced = rw same
                   (rw same at (fair.balanced (timer_ledger o known X) gone.balanced));
@@ -217,7 +208,7 @@ module _ (o : OwnTimer) where
       called_back = λ known m X q c h d.
           record {
             sound = sound.called_back known m X q c h.sound d.sound;
-            watched = grind (decide, d.watched);
+            watched = grind decide;
             heeded = grind (decide, d.heeded);
           };
       round = grind decide;
@@ -276,10 +267,10 @@ mine p t = record { p = p; t = t }
 module _ (run : Ran) (boots : is_bootable run.config ≡ true) where
   module _ (p : ℕ) (a : is_application run.config.apps p ≡ true) (t : ℕ) where
     high : nat_lt p 20 ≡ true
-    high = grind (decide, boots, a)
+    high = grind decide
 
     cases : Cases (Attended (mine p t)) (Keeps (IsTimely (mine p t)))
-    cases = attended_cases (mine p t) (grind (arith, a)) high
+    cases = attended_cases (mine p t) (grind arith) high
 
     boot : (known : Known) → Attended (mine p t) known (at_start run.config).machine []
     boot known = boot-attended (mine p t) run.config known high a

@@ -11,7 +11,7 @@ use Rattle.kernel_core.proofs.run_laws.Changes.{farewells-same, behind, kept_by_
 use Rattle.kernel_core.proofs.run_laws.event_order.Runs.{Taken, facing, carried}
 use Rattle.std.proofs.lemmas.Map.Views.{any-filter_same}
 use Rattle.kernel_core.proofs.run_laws.timer_deadlines.MovedTimers.{Moves, OwnTimer, cell_names, own_timer, stopped-other, stopped-own}
-use Rattle.kernel_core.proofs.run_laws.timer_deadlines.Ledger.{Ledger, ledger_then, one_if, unarmed}
+use Rattle.kernel_core.proofs.run_laws.timer_deadlines.Ledger.{Ledger, ledger_then, one_if}
 
 -- what may wait in the queue: no EXITED, and no TIMER for all
 abbrev pub is_lawful : Queued Bool → Bool
@@ -70,7 +70,8 @@ module _ (o : OwnTimer) where
     -- only a timer that a call can name is on the list
     pub named : is_armed (own_timer o) timers ≡ true → nat_le o.t 7 ≡ true
     pub set : is_armed (own_timer o) timers ≡ true → ledger.standing.is_armed ≡ true
-    pub count : waiting + ledger.given ≤ ledger.standing.ripe + one_if (not (is_armed (own_timer o) timers) && is_ripe clock ledger.standing)
+    pub count : waiting + ledger.given ≤ ledger.standing.ripe + one_if
+        (not (is_armed (own_timer o) timers) && is_ripe clock ledger.standing)
     pub awaits : Spared → ledger.standing.is_armed ≡ true
         → (is_armed (own_timer o) timers || (nat_lt 0 waiting || ledger.standing.was_given)) ≡ true
 
@@ -129,7 +130,7 @@ module _ (o : OwnTimer) where
                 chained = fair-then;
                 expired = expired-fair;
                 timers_gone = λ n m z k e.
-                    let other : Spared → (n == o.p) ≡ false = λ s. grind (decide, spares s) in
+                    let other : Spared → (n == o.p) ≡ false = λ s. grind decide in
                     grind (decide, any-filter, kept-filter);
                 callbacks_gone = λ n m.
                     let a = with_timers (without_callback_timers n m.timers) m in
@@ -179,6 +180,6 @@ module _ (o : OwnTimer) where
               → Balanced Left new t.m.clock w (ledger_then o t k ledger)
           go false d a s b e f i = grind decide
           go true true true s b e f i = grind decide
-          go true true false true b e f i = grind (decide, unarmed)
+          go true true false true b e f i = grind decide
           go true true false false b e f i = grind decide
           go true false a s b e f i = grind decide

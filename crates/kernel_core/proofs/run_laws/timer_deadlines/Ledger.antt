@@ -4,7 +4,7 @@ use Rattle.kernel_core.specs.Laws.TimerLaws.{Standing, arms, cell_after, standin
 use Rattle.timer_core.specs.Timers.{zero_cell}
 use Rattle.timer_core.specs.declared.timer.Cell.{Cell}
 use Rattle.kernel_core.proofs.Common.{decide, fold-append, Reply, Deed, standing, cons_option, Entry, heard, OwnTurn, own_from, ticks_in, clock_after, is_timer_event, timer_events}
-use Rattle.kernel_core.proofs.run_laws.event_order.AcceptedEvents.{reply_or, cons_option-append}
+use Rattle.kernel_core.proofs.run_laws.event_order.AcceptedEvents.{reply_or}
 use Rattle.kernel_core.proofs.run_laws.Changes.{is_turn}
 use Rattle.kernel_core.proofs.run_laws.event_order.Runs.{Known, nothing_known, told, Taken, entry_of, with_turn}
 use Rattle.std.proofs.lemmas.List.Elements.{filter_map-append}
@@ -35,13 +35,13 @@ module _ (p : ℕ) where
   module _ (known : Known) where
     turn-more : (clock : ℕ) (entry : Entry) (X : List Entry) (e : Entry)
         → own_turn_or known p clock entry (X ++ e ∷ []) ≡ own_turn_or (told e known) p clock entry X
-    turn-more = grind (decide, filter_map-append, append-nil)
+    turn-more = grind (decide, filter_map-append)
 
     turns-more : (clock : ℕ) (X : List Entry) (e : Entry)
         → turns_or known p clock (X ++ e ∷ [])
         ≡ turns_or (told e known) p clock X ++ option_to_list (own_turn_or known p (clock_from clock X) e [])
     turns-more clock [] e = grind decide
-    turns-more clock (entry ∷ X) e = grind (decide, turn-more, cons_option-append, turns-more (clock + ticks_in entry) X e)
+    turns-more clock (entry ∷ X) e = grind (decide, turn-more, turns-more (clock + ticks_in entry) X e)
 
 pub record Ledger : Type 0 where
   pub standing : Standing

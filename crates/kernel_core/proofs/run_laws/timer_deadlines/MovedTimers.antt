@@ -96,7 +96,7 @@ pub record Setting (p : ℕ) (timers : Timers) : Type 0 where
 
 module _ (call : Call) (q : ℕ) (m : Machine) where
   pub after-timers : is_timer_call call ≡ false → (after_call call q m).timers ≡ m.timers
-  after-timers h = grind (arith, h)
+  after-timers h = grind arith
 
   pub after-clock : (after_call call q m).clock ≡ m.clock
   after-clock = grind arith
@@ -136,7 +136,7 @@ module _ (o : OwnTimer) where
       cell = grind decide;
       set = grind decide;
       named = grind decide;
-      unset = grind (decide, same_timer, stopped-own);
+      unset = grind (decide, stopped-own);
     }
 
   by_refusal : (call : Call) (q : ℕ) (known : Known) (m after : Machine) (refused : Option Refusal)
@@ -149,7 +149,7 @@ module _ (o : OwnTimer) where
     pub after-moves : (call : Call) → FrontAgrees known (after_call call q m).scheduler.agenda
         → Moves q m.clock call (known o.p) m.timers (after_call call q m).timers
     after-moves (Call.TimerSet u interval) front =
-        grind (decide, still_moves, armed-other, cell-armed_other, same_timer, cell-armed_own)
+        grind (decide, armed-other, cell-armed_other, same_timer, cell-armed_own)
     after-moves (Call.TimerRestart u) front =
         grind (decide, still_moves, armed-other, cell-armed_other, same_timer, cell-armed_own)
     after-moves (Call.TimerReset u) front =

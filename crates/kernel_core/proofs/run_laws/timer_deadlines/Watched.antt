@@ -96,8 +96,8 @@ module _ (call : Call) (q : ℕ) (m : Machine) where
 
 module _ (q : ℕ) (m : Machine) (h : Watched m) where
   pub watched-after : (call : Call) → Watched (after_call call q m)
-  watched-after (Call.TimerSet u interval) = grind (decide, watched-front, home-with_mark, marks-home)
-  watched-after (Call.TimerRestart u) = grind (decide, watched-front, home-with_mark, marks-home)
+  watched-after (Call.TimerSet u interval) = grind (decide, home-with_mark, marks-home)
+  watched-after (Call.TimerRestart u) = grind (decide, home-with_mark, marks-home)
   watched-after (Call.TimerReset u) = grind (decide, watched-front, home-with_mark, marks-home)
   watched-after (Call.CallbackSet c interval) = grind (decide, watched-front, home-with_mark, marks-home)
   watched-after (Call.TimerStop u) = grind (decide, fewer, any-filter)
@@ -149,7 +149,7 @@ module _ (q : ℕ) where
     where
       go : (b : Bool) → (q == 0 && event.code == POLL) ≡ b → Watched (serve q event m)
       go true e =
-          let etimer : (q == 0) ≡ true = grind (arith, e) in
+          let etimer : (q == 0) ≡ true = grind arith in
           let polled : (event.code == POLL) ≡ true = grind (arith, e) in
           rw (etimer, polled) (watched-due m h.home)
       go false e = of_changes (changes-watched event) m (without_item (Item.Give q origin (Stimulus.Event event)) m e h)

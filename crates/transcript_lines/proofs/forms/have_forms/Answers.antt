@@ -1,4 +1,4 @@
-use Rattle.std.proofs.Common.{◌≡◌, ◌∙◌, [], None, is_none, sym, rules, arith}
+use Rattle.std.proofs.Common.{◌≡◌, ◌∙◌, [], None, sym, rules, arith}
 use Rattle.std.proofs.lemmas.List.{at_drop_all, at_drop_more}
 use Rattle.transcript_lines.specs.declared.forms.Form.{Form}
 use Rattle.transcript_lines.specs.Code.{words_in}
@@ -14,7 +14,8 @@ returns-in_default c =
 
 pub returns : goal.returns
 returns c =
-    let none : c.is_none.result ≡ is_none c.loop-form.left = search rules in
-    none ∙ sym (at_drop_all (λ forms. turns.have_forms forms (words_in c.loop-form.left)) c.args.forms.now c.loop-form.form-index (omega
-    arith)
-    ∙ none_left c.loop-form.left) ∙ c.loop-form.invariant
+    search rules
+    ∙ sym
+    (at_drop_all (λ forms. turns.have_forms forms (words_in c.loop-form.left)) c.args.forms.now c.loop-form.form-index (omega arith)
+    ∙ none_left c.loop-form.left)
+    ∙ c.loop-form.invariant

@@ -1,7 +1,6 @@
 use Rattle.std.proofs.Common.{arith}
-use Rattle.std.proofs.lemmas.Bool.Decides.{nat_tests}
 use Rattle.transcript_lines.proofs.Numbers.{parsed}
 use Rattle.transcript_lines.proofs.forms.number.Goals as goal
 
 pub returns : goal.returns
-returns c = grind (arith, nat_tests, parsed)
+returns c = grind (arith, parsed)

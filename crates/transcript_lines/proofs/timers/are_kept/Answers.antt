@@ -6,8 +6,8 @@ use Rattle.transcript_lines.proofs.timers.are_kept.Goals as goal
 
 pub loop-line-init : goal.loop-line-init
 loop-line-init c =
-    let same = c.in_ok-timers.ensures.items_if_clones_equal (λ timers is. is) in
-    inl (λ clock. ap (list_all (are_not_lost clock)) same ∙ none_lost clock c.args.applications)
+    inl (λ clock. ap (list_all (are_not_lost clock)) (c.in_ok-timers.ensures.items_if_clones_equal (λ timers is. is))
+    ∙ none_lost clock c.args.applications)
 
 pub returns-then-not-is_kept : goal.returns-then-not-is_kept
 returns-then-not-is_kept c =

@@ -1,5 +1,4 @@
-use Rattle.std.proofs.Common.{false, length, arith, subst, sym}
-use Rattle.std.proofs.lemmas.Bool.Decides.{nat_tests}
+use Rattle.std.proofs.Common.{length, arith, subst, sym}
 use Rattle.std.proofs.lemmas.List.{nil_from_length}
 use Rattle.call_lists.specs.Calls.{IsListOf}
 use Rattle.call_lists.proofs.Filling.{listed_none, listed_put}
@@ -15,13 +14,13 @@ returns-clause-listed c =
           ↦ let put = w.in_ok-put_calls.ensures.put in
           subst (IsListOf c.args.text.now) (sym w.calls-is) (listed_put _ _ _ put.0 put.1 c.waits-calls.ensures put.2 put.3)
       | else-not-is_empty w ↦ subst (IsListOf c.args.text.now) (sym w.calls-is)
-          (listed_none _ _ (grind (arith, nil_from_length, nat_tests, w.if-not-is_empty.false)) c.waits-calls.ensures)
+          (listed_none _ _ (grind (arith, nil_from_length)) c.waits-calls.ensures)
     ])
 
 pub returns-in_err-put_calls-clause-refused : goal.returns-in_err-put_calls-clause-refused
 returns-in_err-put_calls-clause-refused c =
     of_each _ c.from_residual.result (λ calls possible long list.
     let has = calls_of_list c.args.text.now calls (length c.waits-calls.result) (grind arith) possible
-    (omega (arith, long, c.waits-calls.auto, c.waits-calls.type_inv)) list in
+    (omega arith) list in
     let wrong = c.in_err-put_calls.ensures.only has in
     absurd (cc))

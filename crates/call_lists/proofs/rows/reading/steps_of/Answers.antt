@@ -1,4 +1,4 @@
-use Rattle.std.proofs.Common.{◌≡◌, None, refl, rules, subst, sym}
+use Rattle.std.proofs.Common.{refl, rules, subst, sym}
 use Rattle.call_lists.specs.RowTexts.{AreCalls, AreOfParts}
 use Rattle.call_lists.proofs.Parting.{IsOnward, none_left, one_part_less}
 use Rattle.call_lists.proofs.RowParts.{of_text}
@@ -17,5 +17,4 @@ loop-left-preserved c =
 
 pub returns : goal.returns
 returns c =
-    let none : c.loop-left.left ≡ None = search rules in
-    none_left AreOfParts (AreCalls c.args.text.now) c.loop-left.steps.items none refl c.loop-left.invariant
+    none_left AreOfParts (AreCalls c.args.text.now) c.loop-left.steps.items (search rules) refl c.loop-left.invariant

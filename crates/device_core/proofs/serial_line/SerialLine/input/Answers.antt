@@ -9,9 +9,8 @@ returns-then-takes_all c =
     let s = c.self.inside in
     let bytes = c.args.bytes.now in
     let all = ap (λ v. takes_all v bytes) c.self.view_is ∙ sym c.takes_all.ensures ∙ c.if-takes_all.true in
-    let now = after_bytes_all_taken s.ring.items bytes s.line.items s.overflow all in
     let fill = c.fill_from_slice in
     let whole = none_left s.ring.items bytes s.line.items s.overflow fill.result all (rw (sym c.self.invariant.0) fill.ensures.count) in
-    let ring = ap (λ more. state (s.ring.items ++ more) s.overflow s.line.items) whole in
     rw (fill.ensures.items)
-    (ring ∙ sym now ∙ ap (λ v. after_bytes v bytes) c.self.view_is)
+    (ap (λ more. state (s.ring.items ++ more) s.overflow s.line.items) whole
+    ∙ sym (after_bytes_all_taken s.ring.items bytes s.line.items s.overflow all) ∙ ap (λ v. after_bytes v bytes) c.self.view_is)

@@ -12,7 +12,6 @@ pub returns-in_err-place-clause-refused : goal.returns-in_err-place-clause-refus
 returns-in_err-place-clause-refused c =
     grind (
       arith,
-      c.from_residual.ensures,
       chosen (goal.at.returns-in_err-place-clause-refused c).After-join None
           (sym c.in_err-place.ensures),
     )
@@ -34,7 +33,7 @@ returns c = let some = chosen (goal.at.returns c).After-join (Some c.in_ok-place
     let put = put_named j.joins.chunks j.joins.freed j.none c.put_block.ensures.kept block
     (store_of c.join.new.self c.join.new.arena.bytes) c.put_block.ensures.block (j.joins.freed.all ∙ j.none)
     c.number_of-name.ensures.within in
-    let is : mid ≡ with_block block old = put.is ∙ ap (with_block block) (joined_is j.joins j.none) in let f = put.freed in
+    let is = put.is ∙ ap (with_block block) (joined_is j.joins j.none) in let f = put.freed in
     let named : (other : ℕ) → count other mid.blocks ≤ 1 =
     grind (arith, named_with, count_absent) in
     let places = placed_more was.places old mid target name bytes c.number_of-name.ensures.within absent is laid.places in

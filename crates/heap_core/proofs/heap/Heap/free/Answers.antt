@@ -8,7 +8,7 @@ pub returns : goal.returns
 unfolding chunks_of
 returns c = let heap = c.self.inside.region in let B = c.args.arena.now.bytes in
     let laid : IsLaidOut heap B = grind arith in
-    let counts = c.set_aside.ensures.counts in let number = c.number_of-name.result in
+    let number = c.number_of-name.result in
     let mid = heap_of c.set_aside.new.self c.set_aside.new.arena.bytes in let named : (name : ℕ) → count name mid.blocks ≤ 1 =
     grind (arith, count_filter, elsewhere) in
     let is : mid ≡ without_block number (heap_of heap B) =

@@ -101,5 +101,4 @@ returns-in_err-at-clause-refused c = let k = (goal.at.returns-in_err-at-clause-r
       c.from_residual.ensures,
       told k None (moved_nowhere (resizing k)
           (sym c.room_in_place.ensures ∙ c.in_default.is) c.in_err-at.ensures.refused),
-      store_of c.join.new.self c.join.new.arena.bytes,
     )

@@ -27,7 +27,7 @@ returns c = let k = (goal.at.returns c).After-body-body in let heap = c.self.ins
     c.live_chunk-chunk.ensures.owned in
     let small = c.number_of.ensures.within in let laid = (ready k).0 in let room = (ready k).1 in
     let live = live_blocks (stored laid) small o at ws room in let same = same_chunks (stored laid) small o at ws room in
-    let over = λ (block : Block). (let new : Block = record block { bytes = overwritten at ws block.bytes } in new) in
+    let over = λ (block : Block). (record block { bytes = overwritten at ws block.bytes }) in
     let new : IsLaidOut heap (written B (heap.span.at + chunk.at + heap.header + at) ws) = record {
       chunks = (body_spliced (stored laid) small o at ws room).has;
       named = grind (arith, count_map, keeps_name);

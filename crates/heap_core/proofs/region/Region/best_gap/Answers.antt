@@ -11,16 +11,16 @@ loop-next-init c = grind (arith, search_begun)
 
 pub len_told-len-requires-clause-inside : goal.len_told-len-requires-clause-inside
 len_told-len-requires-clause-inside c =
-    omega (arith, (next_met c.loop-next.invariant c.loop-next-test.true refl).fits, c.args.self.now.inside)
+    omega (arith, (next_met c.loop-next.invariant c.loop-next-test.true refl).fits)
 
 pub overflow_cast-next-then-len-need : goal.overflow_cast-next-then-len-need
 overflow_cast-next-then-len-need c =
     let heap = c.args.self.now in
-    omega (arith, (next_met c.loop-next.invariant c.loop-next-test.true refl).fits, heap.inside, heap.small)
+    omega (arith, (next_met c.loop-next.invariant c.loop-next-test.true refl).fits, heap.small)
 
 pub next_word-next-requires-clause-inside : goal.next_word-next-requires-clause-inside
 next_word-next-requires-clause-inside c =
-    omega (arith, (next_met c.loop-next.invariant c.loop-next-test.true refl).fits, c.args.self.now.inside)
+    omega (arith, (next_met c.loop-next.invariant c.loop-next-test.true refl).fits)
 
 pub next_word-next-requires-clause-free : goal.next_word-next-requires-clause-free
 next_word-next-requires-clause-free c =
@@ -28,23 +28,22 @@ next_word-next-requires-clause-free c =
 
 pub loop-next-smaller : goal.loop-next-smaller
 loop-next-smaller c =
-    grind (arith, rises, next_met c.loop-next.invariant c.loop-next-test.true c.len_told-len.ensures, c.args.self.now)
+    grind (arith, rises, next_met c.loop-next.invariant c.loop-next-test.true c.len_told-len.ensures)
 
 pub loop-next-preserved : goal.loop-next-preserved
-loop-next-preserved c = let heap = c.args.self.now in let B = c.args.arena.now.bytes in let next = place_in_link c.next_word-next.result in
-    elim c.if-len-need.branch [
-      | then-len-need+else-len-need-2 w ↦
-          let s = search_past_long c.loop-next.invariant c.loop-next-test.true c.len_told-len.ensures w.shorter.ensures
-          (omega (arith, w.if-len-need.true)) c.next_word-next.ensures.link in grind arith
-      | else-len-need w ↦
-          let s = search_past_short c.loop-next.invariant c.loop-next-test.true c.len_told-len.ensures (omega (arith, w.if-len-need.false))
-          c.next_word-next.ensures.link in grind arith
-    ]
+loop-next-preserved c = let B = c.args.arena.now.bytes in elim c.if-len-need.branch [
+  | then-len-need+else-len-need-2 w ↦
+      let s = search_past_long c.loop-next.invariant c.loop-next-test.true c.len_told-len.ensures w.shorter.ensures
+      (omega (arith, w.if-len-need.true)) c.next_word-next.ensures.link in grind arith
+  | else-len-need w ↦
+      let s = search_past_short c.loop-next.invariant c.loop-next-test.true c.len_told-len.ensures (omega (arith, w.if-len-need.false))
+      c.next_word-next.ensures.link in grind arith
+]
 
 pub returns-then-len-need-2 : goal.returns-then-len-need-2
 returns-then-len-need-2 c =
     search_exact c.loop-next.invariant c.loop-next-test.true c.len_told-len.ensures
-    c.shorter.ensures (omega (arith, c.if-len-need.true)) c.if-len-need-2.true
+    c.shorter.ensures (omega arith) c.if-len-need-2.true
 
 pub returns : goal.returns
 returns c = grind (

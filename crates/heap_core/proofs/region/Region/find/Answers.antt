@@ -7,7 +7,6 @@ chunk_at-requires-clause-inside c =
       arith,
       (some_found
           (stored c.requires.laid_out) c.requires.name c.in_ok-at.was).1,
-      c.args.self.now.inside,
     )
 
 pub returns-in_err-at : goal.returns-in_err-at

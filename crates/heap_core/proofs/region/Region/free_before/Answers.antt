@@ -1,4 +1,4 @@
-use Rattle.heap_core.proofs.Lemmas.{sym, ◌∙◌, arith, eq-eqb, around, below_is, last_gap, gap_ends_below}
+use Rattle.heap_core.proofs.Lemmas.{sym, ◌∙◌, arith, around, below_is, last_gap, gap_ends_below}
 use Rattle.heap_core.proofs.region.Region.free_before.Goals as goal
 
 pub overflow_add-gap : goal.overflow_add-gap
@@ -8,10 +8,9 @@ overflow_add-gap c =
       arith,
       gap_ends_below a c.in-Some.gap (last_gap c.in-Some.gap a.before
           (sym (below_is a c.requires.gaps.linked) ∙ sym c.requires.below ∙ c.in-Some.is)),
-      a.fits,
       heap.inside,
       heap.small,
     )
 
 pub returns-in-Some : goal.returns-in-Some
-returns-in-Some c = grind (arith, eq-eqb)
+returns-in-Some c = grind arith

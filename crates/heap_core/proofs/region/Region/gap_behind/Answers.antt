@@ -2,7 +2,7 @@ use Rattle.heap_core.proofs.Lemmas.{◌+◌, sym, ap, ◌∙◌, arith, front_ga
 use Rattle.heap_core.proofs.region.Region.gap_behind.Goals as goal
 
 pub overflow_add-end : goal.overflow_add-end
-overflow_add-end c = grind (arith, around c.requires.chunks c.requires.stands, c.args.self.now)
+overflow_add-end c = grind (arith, around c.requires.chunks c.requires.stands)
 
 pub returns-then-end-self : goal.returns-then-end-self
 returns-then-end-self c =
@@ -10,16 +10,16 @@ returns-then-end-self c =
     let a = around c.requires.chunks c.requires.stands in
     sym (ap front_gap (a.behind_is
     ∙ ended heap.header c.args.arena.now.bytes heap.span.at (chunk.at + chunk.len) heap.footprint a.behind a.back
-    (omega (arith, c.if-end-self.true))))
+    (omega arith)))
 
 pub chunk_at-behind-requires-clause-inside : goal.chunk_at-behind-requires-clause-inside
 chunk_at-behind-requires-clause-inside c =
-    grind (arith, room_for_header, around c.requires.chunks c.requires.stands, c.args.self.now)
+    grind (arith, room_for_header, around c.requires.chunks c.requires.stands)
 
 pub returns-then-is_gap : goal.returns-then-is_gap
 returns-then-is_gap c =
-    grind (arith, around c.requires.chunks c.requires.stands, c.args.chunk, c.args.arena.now.bytes, c.args.self.now)
+    grind (arith, around c.requires.chunks c.requires.stands, c.args.self.now)
 
 pub returns-else-is_gap : goal.returns-else-is_gap
 returns-else-is_gap c =
-    grind (arith, around c.requires.chunks c.requires.stands, c.args.chunk, c.args.arena.now.bytes, c.args.self.now)
+    grind (arith, around c.requires.chunks c.requires.stands, c.args.self.now)

@@ -4,10 +4,10 @@ use Rattle.heap_core.proofs.region.Region.gaps_beside.Goals as goal
 pub chunk_at-requires-clause-inside : goal.chunk_at-requires-clause-inside
 chunk_at-requires-clause-inside c =
     let heap = c.args.self.now in let B = c.args.arena.now.bytes in
-    let found = gap_below c.args.at (gaps_among (chunks_of heap B)) in
     omega (
       arith,
-      (gap_kept B heap.span.at heap.footprint c.in-Some.place found (sym c.in-Some.is ∙ c.places_beside-below.ensures.below)
+      (gap_kept B heap.span.at heap.footprint c.in-Some.place (gap_below c.args.at (gaps_among (chunks_of heap B)))
+          (sym c.in-Some.is ∙ c.places_beside-below.ensures.below)
           (below_told heap B c.args.at c.requires.gaps.chunks c.requires.gaps.linked)).1,
       heap.inside,
     )
@@ -15,9 +15,9 @@ chunk_at-requires-clause-inside c =
 pub returns-in-Some-clause-below : goal.returns-in-Some-clause-below
 returns-in-Some-clause-below c =
     let heap = c.args.self.now in let B = c.args.arena.now.bytes in
-    let found = gap_below c.args.at (gaps_among (chunks_of heap B)) in
     grind (
       arith,
-      gap_kept B heap.span.at heap.footprint c.in-Some.place found (sym c.in-Some.is ∙ c.places_beside-below.ensures.below)
+      gap_kept B heap.span.at heap.footprint c.in-Some.place (gap_below c.args.at (gaps_among (chunks_of heap B)))
+          (sym c.in-Some.is ∙ c.places_beside-below.ensures.below)
           (below_told heap B c.args.at c.requires.gaps.chunks c.requires.gaps.linked),
     )

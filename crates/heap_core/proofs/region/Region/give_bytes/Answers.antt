@@ -1,4 +1,4 @@
-use Rattle.heap_core.proofs.Lemmas.{rules, ◌≡◌, ◌+◌, ◌-◌, ◌≤◌, ◌⊎◌, length, slice_range, sym, subst, arith, zeros, Contents, ChangesOnly, length-range, changes_only, changes_then, copied_front, resized_copy, resized_none}
+use Rattle.heap_core.proofs.Lemmas.{rules, ◌≡◌, ◌+◌, ◌-◌, ◌≤◌, length, slice_range, sym, subst, arith, zeros, Contents, ChangesOnly, length-range, changes_only, changes_then, copied_front, resized_copy, resized_none}
 use Rattle.heap_core.proofs.region.Region.give_bytes.Goals as goal
 
 pub returns : goal.returns
@@ -8,10 +8,7 @@ returns c =
     c.clear.new.arena.bytes in
     let m = c.min.result in let W = slice_range B Q (Q + m) in let least = c.min.ensures in let size = c.clear.ensures.others.size in
     let fits : source.at + heap.header + source.size ≤ heap.span.len = grind arith in
-    let apart : (source.at + heap.header + source.size ≤ live.at) ⊎ (live.at + heap.header + n ≤ source.at) = grind arith in
     let count : length W ≡ m = grind (arith, length-range) in
-    let read : W ≡ slice_range c.args.arena.now.bytes Q (Q + m) =
-    grind arith in
     let none : P + 0 - P ≡ 0 = omega arith in
     let fresh : slice_range B P (P + n) ≡ zeros n = grind (arith, resized_none) in
     record {

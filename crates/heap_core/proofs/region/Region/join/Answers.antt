@@ -5,7 +5,7 @@ pub chunk_at-chunk-requires-clause-inside : goal.chunk_at-chunk-requires-clause-
 chunk_at-chunk-requires-clause-inside c =
     let heap = c.loop-self.self in let i = c.loop-self.invariant in
     let a = around i.chunks (newest_is i.chunks i.freed c.in-Some.is refl).live.stands in
-    omega (arith, a.fits, a.enough, heap.inside, place_told c.loop-self.arena.bytes heap.span.at c.in-Some.at _ refl)
+    omega (arith, a.enough, heap.inside, place_told c.loop-self.arena.bytes heap.span.at c.in-Some.at _ refl)
 
 pub release-requires : goal.release-requires
 unfolding chunks_of
@@ -18,7 +18,7 @@ release-requires c =
 
 pub loop-self-preserved : goal.loop-self-preserved
 unfolding chunks_of
-loop-self-preserved c = let heap = c.loop-self.self in let i = c.loop-self.invariant in let chunk =
+loop-self-preserved c = let i = c.loop-self.invariant in let chunk =
     c.chunk_at-chunk.result in
     let new = c.release.new.self in
     let n = newest_is i.chunks i.freed c.in-Some.is c.chunk_at-chunk.ensures in

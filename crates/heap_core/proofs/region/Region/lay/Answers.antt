@@ -1,4 +1,4 @@
-use Rattle.heap_core.proofs.Lemmas.{arith, fits_least, owner_live, laid_before, changes_then, changes_more}
+use Rattle.heap_core.proofs.Lemmas.{arith, fits_least, laid_before, changes_then, changes_more}
 use Rattle.heap_core.proofs.region.Region.lay.Goals as goal
 
 pub leave-first-requires : goal.leave-first-requires
@@ -6,12 +6,11 @@ leave-first-requires c = grind arith
 
 pub put_chunk-requires : goal.put_chunk-requires
 put_chunk-requires c =
-    grind (arith, fits_least c.requires.fits, c.args.self.now)
+    grind (arith, fits_least c.requires.fits)
 
 pub returns : goal.returns
 returns c =
-    let heap = c.args.self.now in let fits = c.requires.fits in let room = fits_least fits in let same = c.leave-first.ensures.rest in
-    let wrote = c.put_chunk.ensures.live (owner_live c.args.live.owner fits.owner) in
+    let fits = c.requires.fits in let same = c.leave-first.ensures.rest in
     record {
       laid = λ bytes cut ends changed.
           laid_before cut ends fits c.leave-first.ensures.left same.span same.header changed (grind arith) (grind arith);

@@ -13,7 +13,7 @@ returns-then-end-self-clause-left c =
       count = omega arith;
       free = λ other. refl;
       behind = λ other behind told ends joined. (
-          grind (arith, ended heap.header other heap.span.at c.args.end heap.footprint behind told (omega (arith, c.if-end-self.true))));
+          grind (arith, ended heap.header other heap.span.at c.args.end heap.footprint behind told (omega arith)));
     }
 
 pub returns-then-from-end-clause-left : goal.returns-then-from-end-clause-left
@@ -26,16 +26,11 @@ pub overflow_sub-end : goal.overflow_sub-end
 overflow_sub-end c = grind arith
 
 pub put_chunk-requires-clause-inside : goal.put_chunk-requires-clause-inside
-put_chunk-requires-clause-inside c = omega (
-  arith,
-  (long (goal.at.put_chunk-requires-clause-inside c).Else-from-end).1,
-  c.args.self.now.inside,
-)
+put_chunk-requires-clause-inside c = omega (arith, (long (goal.at.put_chunk-requires-clause-inside c).Else-from-end).1)
 
 pub returns-clause-left : goal.returns-clause-left
 returns-clause-left c =
     let heap = c.args.self.now in let b = heap.span.at in let l = long (goal.at.returns-clause-left c).Else-from-end in
-    let k = lengths heap in
     record {
       mid = (record { at = c.args.from; len = c.args.end - c.args.from; owner = None; size = 0; link = c.args.link }) ∷ [];
       to = c.args.end;
@@ -52,4 +47,4 @@ returns-clause-first c = grind arith
 
 pub returns-clause-rest : goal.returns-clause-rest
 returns-clause-rest c =
-    grind (arith, long (goal.at.returns-clause-rest c).Else-from-end, c.args.self.now)
+    grind (arith, long (goal.at.returns-clause-rest c).Else-from-end)

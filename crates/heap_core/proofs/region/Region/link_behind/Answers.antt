@@ -9,9 +9,8 @@ returns-then-behind-end c = grind (arith, over_live, around)
 
 pub chunk_at-requires-clause-inside : goal.chunk_at-requires-clause-inside
 chunk_at-requires-clause-inside c =
-    let a = around c.requires.gaps.chunks c.requires.live.stands in let is = ap front_gap a.behind_is in
-    let some : front_gap a.behind ≢ 0 = grind arith in
-    omega (arith, gap_fits a c.requires.gaps.linked c.requires.live.live some, c.args.self.now.inside)
+    let a = around c.requires.gaps.chunks c.requires.live.stands in let some : front_gap a.behind ≢ 0 = grind arith in
+    omega (arith, gap_fits a c.requires.gaps.linked c.requires.live.live some, c.args.self.now.inside, ap front_gap a.behind_is)
 
 pub returns : goal.returns
 returns c =

@@ -7,7 +7,7 @@ gap_stands c = grind arith
 
 pub put_link-requires : goal.put_link-requires
 put_link-requires c =
-    grind (arith, around c.requires.chunks (gap_stands (goal.at.put_link-requires c).In-Some).0, c.args.self.now)
+    grind (arith, around c.requires.chunks (gap_stands (goal.at.put_link-requires c).In-Some).0)
 
 pub returns-in-Some-clause-relinked : goal.returns-in-Some-clause-relinked
 returns-in-Some-clause-relinked c =
@@ -17,7 +17,7 @@ returns-in-Some-clause-relinked c =
 
 pub returns-in-Some-clause-rest : goal.returns-in-Some-clause-rest
 returns-in-Some-clause-rest c =
-    grind (arith, around c.requires.chunks (gap_stands (goal.at.returns-in-Some-clause-rest c).In-Some).0, c.args.self.now)
+    grind (arith, around c.requires.chunks (gap_stands (goal.at.returns-in-Some-clause-rest c).In-Some).0)
 
 pub returns-in-None-clause-relinked : goal.returns-in-None-clause-relinked
 unfolding chunks_of

@@ -8,7 +8,6 @@ pub returns : goal.returns
 returns c =
     grind (
       arith,
-      owned,
       find_named,
       find_is,
       option_map,

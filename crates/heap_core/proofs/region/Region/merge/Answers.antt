@@ -5,7 +5,7 @@ pub returns-then-end-self-clause-linked : goal.returns-then-end-self-clause-link
 returns-then-end-self-clause-linked c =
     let x = c.clear_away-first.ensures.cleared in
     edit_grown x.cut x.spliced c.requires.divided.gaps.linked x.linked c.requires.link
-    (c.requires.reach.grows c.if-from-chunk.true ∙ sym (c.clear_away-first.ensures.begins (λ e. omega (arith, e, c.if-end-self.true))))
+    (c.requires.reach.grows c.if-from-chunk.true ∙ sym (c.clear_away-first.ensures.begins (λ e. omega (arith, c.if-end-self.true))))
     c.clear_away-first.ensures.lowest
 
 pub link_below-requires-clause-before : goal.link_below-requires-clause-before

@@ -1,4 +1,4 @@
-use Rattle.heap_core.proofs.Lemmas.{arith, length-range, chunk_at, link_free, word_inside}
+use Rattle.heap_core.proofs.Lemmas.{arith, length-range, chunk_at, word_inside}
 use Rattle.heap_core.proofs.region.Region.next_word.Goals as goal
 
 pub word_in-requires : goal.word_in-requires
@@ -6,4 +6,4 @@ word_in-requires c = grind (arith, length-range)
 
 pub returns-clause-link : goal.returns-clause-link
 unfolding chunk_at
-returns-clause-link c = grind (arith, word_inside, link_free)
+returns-clause-link c = grind (arith, word_inside)

@@ -1,4 +1,4 @@
-use Rattle.heap_core.proofs.Lemmas.{leb, arith, option_map, option_or, cond-true, cond-false, le-leb, lt-leb, end_is, best_fits}
+use Rattle.heap_core.proofs.Lemmas.{leb, arith, cond-true, cond-false, le-leb, lt-leb, end_is, best_fits}
 use Rattle.heap_core.proofs.region.Region.place.Goals as goal
 
 pub overflow_cast-room : goal.overflow_cast-room
@@ -14,7 +14,7 @@ room_taken-requires c =
     omega (arith, (best_fits c.requires.gaps.chunks c.in-Some.ensures).fits)
 
 pub returns-in-None : goal.returns-in-None
-returns-in-None c = grind (arith, end_is, option_or, option_map, cond-true, leb, le-leb)
+returns-in-None c = grind (arith, end_is, cond-true, leb, le-leb)
 
 pub returns-in-None-2 : goal.returns-in-None-2
-returns-in-None-2 c = grind (arith, end_is, option_or, option_map, cond-false, leb, lt-leb)
+returns-in-None-2 c = grind (arith, end_is, cond-false, leb, lt-leb)

@@ -10,7 +10,7 @@ loop-next-init c = grind (arith, walk_begun)
 
 pub next_word-below-requires-clause-inside : goal.next_word-below-requires-clause-inside
 next_word-below-requires-clause-inside c =
-    omega (arith, (walk_step c.loop-next.invariant.0 c.loop-next-test.true c.ranges.at.fits).fits, c.args.self.now.inside)
+    omega (arith, (walk_step c.loop-next.invariant.0 c.loop-next-test.true c.ranges.at.fits).fits)
 
 pub next_word-below-requires-clause-free : goal.next_word-below-requires-clause-free
 next_word-below-requires-clause-free c = ap is_a_name (walk_step c.loop-next.invariant.0 c.loop-next-test.true c.ranges.at.fits).free
@@ -26,7 +26,6 @@ next_word-next-requires-clause-inside c =
       arith,
       (walk_step (walked
           (goal.at.next_word-next-requires-clause-inside c).After-next_word-below) c.if-below-end.false c.ranges.at.fits).fits,
-      c.args.self.now.inside,
     )
 
 pub next_word-next-requires-clause-free : goal.next_word-next-requires-clause-free
@@ -41,7 +40,6 @@ loop-next-smaller c =
       rises,
       walk_step (walked (goal.at.loop-next-smaller c).After-next_word-below) c.if-below-end.false c.ranges.at.fits,
       walk_step c.loop-next.invariant.0 c.loop-next-test.true c.ranges.at.fits,
-      c.args.self.now,
     )
 
 pub loop-next-preserved : goal.loop-next-preserved

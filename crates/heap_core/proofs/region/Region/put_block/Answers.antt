@@ -1,4 +1,4 @@
-use Rattle.heap_core.proofs.Lemmas.{rules, ◌+◌, ◌-◌, ◌≤◌, ◌⊎◌, inl, inr, arith, chunks_of, store_of, LiveIn, gap_count, Put, fits, changes_inside, put, cut_apart, elsewhere_placed, link_small, gaps_few, kept_then, if_some, inside}
+use Rattle.heap_core.proofs.Lemmas.{rules, ◌+◌, ◌-◌, ◌≤◌, ◌⊎◌, inl, inr, arith, chunks_of, store_of, LiveIn, gap_count, Put, fits, changes_inside, put, cut_apart, elsewhere_placed, link_small, gaps_few, if_some, inside}
 use Rattle.heap_core.proofs.region.Region.put_block.Goals as goal
 use Rattle.heap_core.proofs.region.Region.put_block.Goals.{After-lay-first}
 
@@ -7,11 +7,7 @@ give_bytes-requires-clause-source c =
     let heap = c.args.self.now in let B = c.args.arena.now.bytes in
     if_some (λ other. LiveIn other (chunks_of heap B))
     (λ other. other.at + heap.header + other.size ≤ heap.span.len) c.args.source c.requires.source
-    (λ other h. omega (
-      arith,
-      inside heap.header B heap.span.at heap.footprint other (chunks_of heap B) c.requires.divided.chunks.told h,
-      heap.inside,
-    ))
+    (λ other h. omega (arith, inside heap.header B heap.span.at heap.footprint other (chunks_of heap B) c.requires.divided.chunks.told h))
 
 pub give_bytes-requires-clause-apart : goal.give_bytes-requires-clause-apart
 give_bytes-requires-clause-apart c =
@@ -20,7 +16,7 @@ give_bytes-requires-clause-apart c =
     ⊎ (target.at + heap.header + c.args.n ≤ other.at)) c.args.source c.requires.source
     (λ other h. elim (cut_apart r.cut other h (elsewhere_placed c.requires.divided.chunks c.requires.some h c.requires.place)) [
       | inl low ↦ inl low
-      | inr high ↦ inr (omega (arith, high, r.enough, r.rest))
+      | inr high ↦ inr (omega (arith, r.enough, r.rest))
     ])
 
 laid : (c : After-lay-first)
@@ -50,19 +46,12 @@ pub link_below-requires-clause-before : goal.link_below-requires-clause-before
 link_below-requires-clause-before c = (laid (goal.at.link_below-requires-clause-before c).After-lay-first).last
 
 pub overflow_sub-self : goal.overflow_sub-self
-overflow_sub-self c = omega (
-  arith,
-  c.link_below.ensures.relinked.gaps,
-  c.link_below.ensures.relinked.count,
-  (laid (goal.at.overflow_sub-self c).After-lay-first).count,
-  c.gap_count.ensures,
-)
+overflow_sub-self c = omega (arith, (laid (goal.at.overflow_sub-self c).After-lay-first).count, c.gap_count.ensures)
 
 pub returns : goal.returns
 unfolding chunks_of
 returns c =
     let l = laid (goal.at.returns c).After-lay-first in
-    let k = kept_then c.lay-first.ensures.kept c.link_below.ensures.kept in
     record {
       divided = grind arith;
       block = grind arith;

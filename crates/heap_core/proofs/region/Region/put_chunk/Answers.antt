@@ -1,11 +1,11 @@
-use Rattle.heap_core.proofs.Lemmas.{arith, told_by, link_named, link_free, changes_then, changes_more}
+use Rattle.heap_core.proofs.Lemmas.{arith, told_by, changes_more}
 use Rattle.heap_core.proofs.region.Region.put_chunk.Goals as goal
 
 pub returns-then-is_a_name : goal.returns-then-is_a_name
-returns-then-is_a_name c = grind (arith, told_by, link_named, changes_then, changes_more)
+returns-then-is_a_name c = grind (arith, told_by, changes_more)
 
 pub returns-clause-chunk : goal.returns-clause-chunk
-returns-clause-chunk c = grind (arith, told_by, link_free)
+returns-clause-chunk c = grind (arith, told_by)
 
 pub returns-clause-others : goal.returns-clause-others
-returns-clause-others c = grind (arith, changes_then, changes_more)
+returns-clause-others c = grind arith

@@ -1,9 +1,9 @@
-use Rattle.heap_core.proofs.Lemmas.{arith, chunk_at, told_by, link_free, changes_more}
+use Rattle.heap_core.proofs.Lemmas.{arith, chunk_at}
 use Rattle.heap_core.proofs.region.Region.put_link.Goals as goal
 
 pub returns-clause-chunk : goal.returns-clause-chunk
 unfolding chunk_at
-returns-clause-chunk c = grind (arith, told_by, link_free)
+returns-clause-chunk c = grind arith
 
 pub returns-clause-others : goal.returns-clause-others
-returns-clause-others c = grind (arith, changes_more)
+returns-clause-others c = grind arith

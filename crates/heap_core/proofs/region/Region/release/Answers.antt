@@ -9,12 +9,12 @@ reaches c = reach (around c.requires.divided.chunks c.requires.live.stands) c.re
     (ap (λ k. c.args.chunk.at + c.args.chunk.len + k) c.gap_behind-gap.ensures)
 
 pub overflow_add-end : goal.overflow_add-end
-overflow_add-end c = grind (arith, around c.requires.divided.chunks c.requires.live.stands, c.args.self.now)
+overflow_add-end c = grind (arith, around c.requires.divided.chunks c.requires.live.stands)
 
 pub overflow_add-end-2 : goal.overflow_add-end-2
 overflow_add-end-2 c =
     let heap = c.args.self.now in let a = around c.requires.divided.chunks c.requires.live.stands in
-    omega (arith, heap.inside, heap.small, end_below a, c.gap_behind-gap.ensures, ap front_gap a.behind_is)
+    omega (arith, heap.small, end_below a, c.gap_behind-gap.ensures, ap front_gap a.behind_is)
 
 pub merge-requires-clause-reach : goal.merge-requires-clause-reach
 merge-requires-clause-reach c = reaches (goal.at.merge-requires-clause-reach c).After-link_behind-link

@@ -1,4 +1,4 @@
-use Rattle.heap_core.proofs.Lemmas.{arith, rules, ◌≡◌, not, sym, ap, ◌∙◌, ne_eqb, lt-ltb, resized, block_at, is_a_name, chunks_of, store_of, bytes_in_chunk, filter_placed, blocks_ascending, elsewhere, elsewhere_placed, KeepsToSpan-then, put_named, owned_live}
+use Rattle.heap_core.proofs.Lemmas.{arith, rules, not, sym, ap, ◌∙◌, ne_eqb, lt-ltb, resized, block_at, is_a_name, chunks_of, store_of, bytes_in_chunk, filter_placed, blocks_ascending, elsewhere, elsewhere_placed, put_named, owned_live}
 use Rattle.heap_core.proofs.region.Region.relocate.Goals as goal
 
 pub put_block-requires-clause-source : goal.put_block-requires-clause-source
@@ -36,4 +36,4 @@ pub returns-clause-places : goal.returns-clause-places
 returns-clause-places c = grind arith
 
 pub returns-clause-rest : goal.returns-clause-rest
-returns-clause-rest c = grind (arith, KeepsToSpan-then)
+returns-clause-rest c = grind arith

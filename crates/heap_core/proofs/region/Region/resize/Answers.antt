@@ -22,11 +22,11 @@ laid c =
 
 pub overflow_add-self : goal.overflow_add-self
 overflow_add-self c =
-    omega (arith, (own_room c.requires.divided.chunks c.requires.owned refl c.requires.some c.requires.room).inside, c.args.self.now.small)
+    omega (arith, (own_room c.requires.divided.chunks c.requires.owned refl c.requires.some c.requires.room).inside)
 
 pub refill-requires-clause-fits : goal.refill-requires-clause-fits
 refill-requires-clause-fits c =
-    omega (arith, (own_room c.requires.divided.chunks c.requires.owned refl c.requires.some c.requires.room).enough, c.if-self-room.true)
+    omega (arith, (own_room c.requires.divided.chunks c.requires.owned refl c.requires.some c.requires.room).enough)
 
 pub returns-then-self-room : goal.returns-then-self-room
 unfolding chunks_of
@@ -34,22 +34,22 @@ returns-then-self-room c = grind arith
 
 pub overflow_add-end : goal.overflow_add-end
 overflow_add-end c = let heap = c.args.self.now in
-    omega (arith, (own c.requires.divided.chunks c.requires.owned).fits, heap.inside, heap.small)
+    omega (arith, (own c.requires.divided.chunks c.requires.owned).fits, heap.small)
 
 pub overflow_add-end-2 : goal.overflow_add-end-2
 overflow_add-end-2 c = let heap = c.args.self.now in
-    omega (arith, own_end c.requires.divided.chunks c.requires.owned c.gap_behind-gap.ensures, heap.inside, heap.small)
+    omega (arith, own_end c.requires.divided.chunks c.requires.owned c.gap_behind-gap.ensures, heap.small)
 
 pub overflow_add-live : goal.overflow_add-live
-overflow_add-live c = omega (arith, (room (goal.at.overflow_add-live c).After-gap_behind-gap).inside, c.args.self.now.small)
+overflow_add-live c = omega (arith, (room (goal.at.overflow_add-live c).After-gap_behind-gap).inside)
 
 pub clear-requires-clause-inside : goal.clear-requires-clause-inside
 clear-requires-clause-inside c = let r = room (goal.at.clear-requires-clause-inside c).After-gap_behind-gap in
-    omega (arith, r.inside, r.enough)
+    omega (arith, r.enough)
 
 pub clear-requires-clause-before : goal.clear-requires-clause-before
 clear-requires-clause-before c =
-    grind (arith, own c.requires.divided.chunks c.requires.owned, c.args.self.now)
+    grind (arith, own c.requires.divided.chunks c.requires.owned)
 
 pub lay-first-requires-clause-fits : goal.lay-first-requires-clause-fits
 lay-first-requires-clause-fits c =
@@ -68,17 +68,11 @@ pub link_below-requires-clause-before : goal.link_below-requires-clause-before
 link_below-requires-clause-before c = (laid (goal.at.link_below-requires-clause-before c).After-lay-first).last
 
 pub overflow_sub-self : goal.overflow_sub-self
-overflow_sub-self c = omega (
-  arith,
-  c.link_below.ensures.relinked.gaps,
-  c.link_below.ensures.relinked.count,
-  (laid (goal.at.overflow_sub-self c).After-lay-first).count,
-  c.gap_count.ensures,
-)
+overflow_sub-self c = omega (arith, (laid (goal.at.overflow_sub-self c).After-lay-first).count, c.gap_count.ensures)
 
 pub returns : goal.returns
 unfolding chunks_of
-returns c = let heap = c.args.self.now in let A = c.args.arena.now in let mid = c.lay-first.new.self in let new = c.link_below.new.self in
+returns c = let A = c.args.arena.now in let mid = c.lay-first.new.self in let new = c.link_below.new.self in
     let last = c.link_below.new.arena in
     let r = room (goal.at.returns c).After-gap_behind-gap in let l = laid (goal.at.returns c).After-lay-first in let f =
     kept_then c.lay-first.ensures.kept c.link_below.ensures.kept in

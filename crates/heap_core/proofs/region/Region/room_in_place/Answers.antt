@@ -19,7 +19,7 @@ overflow_sub-room c = omega (arith, (around c.requires.chunks c.requires.live.st
 
 pub overflow_add-chunk : goal.overflow_add-chunk
 overflow_add-chunk c = let heap = c.args.self.now in
-    omega (arith, (around c.requires.chunks c.requires.live.stands).fits, heap.inside, heap.small)
+    omega (arith, (around c.requires.chunks c.requires.live.stands).fits, heap.small)
 
 pub returns-then-least-most : goal.returns-then-least-most
 returns-then-least-most c = grind (arith, chosen (goal.at.returns-then-least-most c).After-least_room-least)

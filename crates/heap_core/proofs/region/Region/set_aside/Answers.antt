@@ -3,7 +3,7 @@ use Rattle.heap_core.proofs.region.Region.set_aside.Goals as goal
 
 pub put_chunk-requires : goal.put_chunk-requires
 put_chunk-requires c =
-    grind (arith, newest_small, around c.requires.divided.chunks c.requires.stands, c.args.self.now)
+    grind (arith, newest_small, around c.requires.divided.chunks c.requires.stands)
 
 pub overflow_add-self : goal.overflow_add-self
 overflow_add-self c = omega (arith, freed_small c.requires.divided.chunks c.requires.freed)
@@ -16,4 +16,4 @@ returns-clause-aside c =
 
 pub returns-clause-rest : goal.returns-clause-rest
 returns-clause-rest c =
-    grind (arith, around c.requires.divided.chunks c.requires.stands, c.args.self.now)
+    grind (arith, around c.requires.divided.chunks c.requires.stands)

@@ -6,12 +6,12 @@ loop-at-init c = counted_first c.requires
 
 pub chunk_at-chunk-requires-clause-inside : goal.chunk_at-chunk-requires-clause-inside
 chunk_at-chunk-requires-clause-inside c =
-    let m = met c.loop-at.invariant refl c.loop-at-test.true in omega (arith, m.enough, m.fits, c.args.self.now.inside)
+    let m = met c.loop-at.invariant refl c.loop-at-test.true in omega (arith, m.fits, c.args.self.now.inside)
 
 pub overflow_add-at : goal.overflow_add-at
 overflow_add-at c =
     let heap = c.args.self.now in
-    omega (arith, (met c.loop-at.invariant c.chunk_at-chunk.ensures c.loop-at-test.true).fits, heap.inside, heap.small)
+    omega (arith, (met c.loop-at.invariant c.chunk_at-chunk.ensures c.loop-at-test.true).fits, heap.small)
 
 pub overflow_sub-allocated : goal.overflow_sub-allocated
 overflow_sub-allocated c = omega (arith, (met c.loop-at.invariant c.chunk_at-chunk.ensures c.loop-at-test.true).enough)
@@ -20,7 +20,6 @@ pub overflow_add-allocated : goal.overflow_add-allocated
 overflow_add-allocated c =
     omega (
       arith,
-      c.args.self.now.small,
       counted_fits c.requires
           (counted_live c.loop-at.invariant c.chunk_at-chunk.ensures c.loop-at-test.true (sym c.is_live.ensures ∙ c.if-is_live.true)),
     )
@@ -29,7 +28,6 @@ pub overflow_add-chunks : goal.overflow_add-chunks
 overflow_add-chunks c =
     omega (
       arith,
-      c.args.self.now.small,
       counted_fits c.requires
           (counted_live c.loop-at.invariant c.chunk_at-chunk.ensures c.loop-at-test.true (sym c.is_live.ensures ∙ c.if-is_live.true)),
     )
@@ -44,14 +42,14 @@ loop-at-preserved c =
 
 pub loop-at-smaller : goal.loop-at-smaller
 loop-at-smaller c =
-    let m = met c.loop-at.invariant c.chunk_at-chunk.ensures c.loop-at-test.true in omega (arith, m.enough, m.fits)
+    let m = met c.loop-at.invariant c.chunk_at-chunk.ensures c.loop-at-test.true in omega (arith, m.fits)
 
 pub loop-at-smaller-then-is_live : goal.loop-at-smaller-then-is_live
 loop-at-smaller-then-is_live c =
-    let m = met c.loop-at.invariant c.chunk_at-chunk.ensures c.loop-at-test.true in omega (arith, m.enough, m.fits)
+    let m = met c.loop-at.invariant c.chunk_at-chunk.ensures c.loop-at-test.true in omega (arith, m.fits)
 
 pub overflow_mul-overhead : goal.overflow_mul-overhead
-overflow_mul-overhead c = omega (arith, c.args.self.now.small, counted_fits c.requires c.loop-at.invariant)
+overflow_mul-overhead c = omega (arith, counted_fits c.requires c.loop-at.invariant)
 
 pub overflow_sub-result : goal.overflow_sub-result
 overflow_sub-result c = omega (arith, counted_fits c.requires c.loop-at.invariant)

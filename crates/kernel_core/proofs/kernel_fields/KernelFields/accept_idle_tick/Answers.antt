@@ -1,4 +1,4 @@
-use Rattle.std.proofs.Common.{◌≡◌, ◌+◌, false, sym, ◌∙◌, arith}
+use Rattle.std.proofs.Common.{sym, ◌∙◌, arith}
 use Rattle.kernel_core.proofs.IdleRound.{idle_tick}
 use Rattle.kernel_core.proofs.kernel_fields.KernelFields.accept_idle_tick.Goals as goal
 
@@ -8,8 +8,8 @@ returns-clause-passed c = λ done. λ answers.
     c.is_any_due.ensures.answer
     ∙ c.if-is_any_due.false in
     let kept = c.is_any_due.ensures.kept in
-    let round = rw kept at (c.rest_goes_on.ensures.round 0 (omega arith)) in
     let rest = rw kept at (c.rest_goes_on.ensures.rest 0) in
     rw (c.in-Tick.is, kept)
-    (idle_tick answers c.args.self.now c.in-Tick.ticks c.requires.at_work.running c.requires.at_work.shown none round rest
+    (idle_tick answers c.args.self.now c.in-Tick.ticks c.requires.at_work.running c.requires.at_work.shown none
+    (rw kept at (c.rest_goes_on.ensures.round 0 (omega arith))) rest
     (rw kept at (c.rest_goes_on.ensures.same 0)) (rw kept at c.rest_goes_on.ensures.idle))

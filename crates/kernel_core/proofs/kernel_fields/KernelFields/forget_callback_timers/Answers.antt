@@ -8,4 +8,5 @@ returns-in-Some-clause-machine c =
     let e : exited_application c.args.payload.now ≡ Some c.in-Some.pid.0 = search rules in
     rw e (renewed_all c.args.self.now c.forget_callbacks.new.self _ c.requires.events
     (ap (λ t. t.timers) (rw c.deref_mut.ensures.value at c.forget_callbacks.ensures.changed))
-    c.in-Some.pid.0 (rw c.deref_mut.ensures.value at c.forget_callbacks.ensures.cancelled) (rw c.deref_mut.ensures.value at c.forget_callbacks.ensures.others))
+    c.in-Some.pid.0 (rw c.deref_mut.ensures.value at c.forget_callbacks.ensures.cancelled)
+    (rw c.deref_mut.ensures.value at c.forget_callbacks.ensures.others))

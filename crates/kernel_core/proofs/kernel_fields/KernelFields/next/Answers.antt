@@ -1,4 +1,4 @@
-use Rattle.std.proofs.Common.{◌≡◌, ◌∙◌, ap, false, rules}
+use Rattle.std.proofs.Common.{◌∙◌, ap, rules}
 use Rattle.kernel_core.proofs.Common.{KernelFields, machine_of}
 use Rattle.kernel_core.specs.Code.Steps.{stepped}
 use Rattle.kernel_core.proofs.Reaching.{entry_is_shown, goes_after, makes_after, worked_after}

@@ -17,7 +17,7 @@ pub returns-clause-fit : goal.returns-clause-fit
 returns-clause-fit c =
     let fit = job_is_fit c.args.self.now.timers.value.armings.drawn c.args.self.now.scheduler.state c.next_to.new.self.state
     (job_of c.next_to.result c.next_to.new.told) c.requires.at_work.order.events c.next_to.ensures.job in
-    record { events = fit.0; draws = omega (arith, fit.1); job = fit.2 }
+    record { events = fit.0; draws = omega arith; job = fit.2 }
 
 pub returns-clause-served : goal.returns-clause-served
 returns-clause-served c = λ pid is bound few.

@@ -1,14 +1,13 @@
-use Rattle.std.proofs.Common.{◌≡◌, false, refl, sym, ◌∙◌, is_some, ◌==◌}
-use Rattle.kernel_core.proofs.Common.{decide, first_due, IsLonePoll, work_limit}
+use Rattle.std.proofs.Common.{◌≡◌, false, refl, sym, ◌∙◌, ◌==◌}
+use Rattle.kernel_core.proofs.Common.{decide, work_limit}
 use Rattle.kernel_core.proofs.IdleRound.{order_polled, poll_passed}
 use Rattle.kernel_core.proofs.kernel_fields.KernelFields.pass_idle_poll.Goals as goal
 
 pub returns-clause-steps : goal.returns-clause-steps
 returns-clause-steps c =
-    let none : is_some (first_due c.args.self.now.clock c.args.self.now.timers.value.timers) ≡ false =
-    sym c.is_any_due.ensures.answer ∙ c.if-is_any_due.false in
+    let none = sym c.is_any_due.ensures.answer ∙ c.if-is_any_due.false in
     let room : (c.args.self.now.work == work_limit) ≡ false = grind (decide, c.if-self-eq-WORK_LIMIT.false) in
-    let lone : IsLonePoll 0 c.args.self.now.scheduler.state = c.polls_alone.ensures.round c.if-not-polls_alone.false in
+    let lone = c.polls_alone.ensures.round c.if-not-polls_alone.false in
     rw (c.pass_poll.ensures, c.is_any_due.ensures.kept) (record {
       passed = λ answers. poll_passed answers c.args.self.now c.requires.at_work.running c.requires.at_work.shown room none lone;
       order = order_polled c.args.self.now c.requires.at_work.order room;

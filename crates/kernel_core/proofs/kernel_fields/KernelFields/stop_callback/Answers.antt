@@ -7,5 +7,7 @@ pub returns-clause-machine : goal.returns-clause-machine
 returns-clause-machine c =
     let accepted : callback_refusal c.args.number ≡ None = grind arith in
     rw accepted (c.answer.ensures.machine ∙ ap (answer_done c.args.pid.0)
-    (renewed_one c.args.self.now c.stop_callback.new.self _ c.requires.at_turn.events (ap (λ t. t.timers) (rw c.deref_mut.ensures.value at c.stop_callback.ensures.changed))
-    c.args.pid.0 c.args.number (rw c.deref_mut.ensures.value at c.stop_callback.ensures.cancelled) (rw c.deref_mut.ensures.value at c.stop_callback.ensures.others)))
+    (renewed_one c.args.self.now c.stop_callback.new.self _ c.requires.at_turn.events
+    (ap (λ t. t.timers) (rw c.deref_mut.ensures.value at c.stop_callback.ensures.changed))
+    c.args.pid.0 c.args.number (rw c.deref_mut.ensures.value at c.stop_callback.ensures.cancelled)
+    (rw c.deref_mut.ensures.value at c.stop_callback.ensures.others)))

@@ -1,4 +1,4 @@
-use Rattle.std.proofs.Common.{◌≡◌, rules, refl, arith, ap}
+use Rattle.std.proofs.Common.{rules, refl, arith, ap}
 use Rattle.kernel_core.proofs.Reaching.{then_job, job_makes, job_silently}
 use Rattle.kernel_core.proofs.Common.{present, KernelFields}
 use Rattle.kernel_core.proofs.kernel_fields.KernelFields.work_to_entry.Goals as goal
@@ -28,7 +28,7 @@ job-preserved-in-Serve c = record {
   so_far = λ answers. job_silently (then_job (c.job.invariant.so_far answers) (c.in-Serve.ensures.reached answers))
       (c.serve.ensures.machine answers _);
   present =
-      omega (arith, (c.in-Serve.ensures.paid _ c.job.invariant.present).1, c.serve.ensures.kept.present, c.job.invariant.present);
+      omega (arith, (c.in-Serve.ensures.paid _ c.job.invariant.present).1);
 }
 
 pub job-preserved-in-CallBack : goal.job-preserved-in-CallBack
@@ -37,7 +37,7 @@ job-preserved-in-CallBack c = record {
   so_far = λ answers. (job_silently (then_job (c.job.invariant.so_far answers) (c.in-CallBack.ensures.reached answers))
       (rw (← (ap (λ (k : KernelFields). k.timers) c.in-CallBack.ensures.taken.kept)) (c.expire.ensures.machine answers)));
   present =
-      omega (arith, (c.in-CallBack.ensures.paid _ c.job.invariant.present).1, c.expire.ensures.kept.present, c.job.invariant.present);
+      omega (arith, (c.in-CallBack.ensures.paid _ c.job.invariant.present).1);
 }
 
 pub returns-in-Rest : goal.returns-in-Rest
@@ -69,20 +69,12 @@ job-preserved c = record {
       omega (
         arith,
         (c.in-Round.ensures.paid _ c.job.invariant.present).1,
-        c.job.invariant.present,
-        ap
-            (λ (k : KernelFields). present k.scheduler.state) c.begin_round.ensures.kept,
+        ap (λ (k : KernelFields). present k.scheduler.state) c.begin_round.ensures.kept,
       );
 }
 
 pub job-smaller-in-CallBack : goal.job-smaller-in-CallBack
-job-smaller-in-CallBack c =
-    let bound = present c.args.self.now.scheduler.state in
-    let same : c.expire.new.self.work ≡ c.job.self.work = search rules in
-    rw same (omega (arith, (c.in-CallBack.ensures.paid bound c.job.invariant.present).0, c.expire.ensures.kept.costs bound))
+job-smaller-in-CallBack c = grind arith
 
 pub job-smaller-in-Serve : goal.job-smaller-in-Serve
-job-smaller-in-Serve c =
-    let bound = present c.args.self.now.scheduler.state in
-    let same : c.serve.new.self.work ≡ c.job.self.work = search rules in
-    rw (c.serve.ensures.kept.agenda, same) (omega (arith, c.in-Serve.ensures.served _ refl bound c.job.invariant.present))
+job-smaller-in-Serve c = grind arith

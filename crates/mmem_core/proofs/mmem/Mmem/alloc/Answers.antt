@@ -1,4 +1,4 @@
-use Rattle.mmem_core.proofs.Lemmas.{length-map, Span, length, get_or, rules, ◌≡◌, ◌-◌, ◌<◌, None, sym, ap, ◌∙◌, arith, up4, number_of, ManagedStore, unused, place_in, last_end, HandleTable, store_of, region_of, begins_behind, bytes_moved-set, bytes_moved-same, placed, no_place, get_or-blocks, block_in, unused-added}
+use Rattle.mmem_core.proofs.Lemmas.{length-map, length, get_or, rules, ◌≡◌, ◌<◌, None, sym, ap, ◌∙◌, arith, number_of, ManagedStore, unused, place_in, last_end, HandleTable, store_of, region_of, begins_behind, bytes_moved-set, bytes_moved-same, placed, no_place, get_or-blocks, block_in, unused-added}
 use Rattle.mmem_core.proofs.mmem.Mmem.alloc.Goals as goal
 
 pub returns-then-avail-size-clause-refused : goal.returns-then-avail-size-clause-refused
@@ -22,15 +22,15 @@ returns c =
     let none = no_place (region_of old bytes) (place_in old.places i)
     (sym (get_or-blocks (region_of old bytes) old.places i) ∙ c.requires.unused) in
     let n = c.args.n in let store = store_of middle c.make_room.new.arena.bytes in
-    let count : length c.self.inside.places ≡ 272 = search rules in let names = ap (λ (t : HandleTable). length t.places) c.self.view_is in
+    let names = ap (λ (t : HandleTable). length t.places) c.self.view_is in
     let below : i < length (store_of old bytes).blocks =
     grind (arith, length-map, block_in) in
     let below' : i < length store.blocks = grind arith in
     let none' : get_or store.blocks i None ≡ None =
     grind arith in
-    let taken : unused (store_of c.put_last.new.self c.put_last.new.arena.bytes) ≡ unused store - up4 n = ap unused c.put_last.ensures.block
+    let taken = ap unused c.put_last.ensures.block
     ∙ unused-added store i n below' none' in
-    let span = ap (λ (s : Span). s.len) c.put_last.ensures.rest.span in let region = region_of middle c.make_room.new.arena.bytes in
+    let region = region_of middle c.make_room.new.arena.bytes in
     let before = length-map old.places (block_in (region_of old bytes)) in let after = length-map middle.places (block_in region) in
     let lengths = ap (λ (s : ManagedStore). length s.blocks) c.make_room.ensures.blocks in
     let here : i < length middle.places = grind arith in

@@ -11,7 +11,6 @@ returns-then-source-target c =
     let live' : place_in t.places j ≡ Some to = grind arith in
     let block = block_is t lie bytes c.requires.within i from live in
     let block' = block_is t lie bytes c.requires.within j to live' in
-    let long = place_length t lie bytes c.requires.within i from live in
     let long' = place_length t lie bytes c.requires.within j to live' in
     let ws = slice_range bytes (t.span.at + from.at) (t.span.at + from.at + from.len) in
     let room : 0 + length ws ≤ to.len = grind arith in

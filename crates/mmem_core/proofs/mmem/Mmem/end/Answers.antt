@@ -1,26 +1,25 @@
-use Rattle.mmem_core.proofs.Lemmas.{ends, arith, inl, refl, last_below, last_is, last_le, shown, live_from_room}
+use Rattle.mmem_core.proofs.Lemmas.{ends, arith, inl, refl, last_below, last_is, shown}
 use Rattle.mmem_core.proofs.mmem.Mmem.end.Goals as goal
 
 pub last-requires : goal.last-requires
 last-requires c = last_below (shown c.self.invariant.0)
 
 pub unwrap-place-requires : goal.unwrap-place-requires
-unwrap-place-requires c = grind (arith, live_from_room, (shown c.self.invariant.0).last 272 (inl refl))
+unwrap-place-requires c = grind (arith, (shown c.self.invariant.0).last 272 (inl refl))
 
 pub overflow_add-result : goal.overflow_add-result
-overflow_add-result c = grind (arith, c.self.invariant.1.inside, c.self.inside)
+overflow_add-result c = grind arith
 
 pub returns-in-Some : goal.returns-in-Some
 returns-in-Some c = let lie = c.self.invariant.1 in
-    grind (arith, last_le, lie.inside, last_is (shown c.self.invariant.0) c.self.inside.span.len lie)
+    grind (arith, lie.inside, last_is (shown c.self.invariant.0) c.self.inside.span.len lie)
 
 pub returns-in-None-clause-end : goal.returns-in-None-clause-end
-returns-in-None-clause-end c = let m = c.self.inside in let lie = c.self.invariant.1 in
+returns-in-None-clause-end c = let lie = c.self.invariant.1 in
     grind (
       arith,
       ends (shown c.self.invariant.0),
       c.in-None.ensures.number,
       (shown c.self.invariant.0).names,
-      last_is
-          (shown c.self.invariant.0) m.span.len lie,
+      last_is (shown c.self.invariant.0) c.self.inside.span.len lie,
     )

@@ -1,4 +1,4 @@
-use Rattle.mmem_core.proofs.Lemmas.{seen_apart, rules, ◌≡◌, ◌+◌, ◌-◌, ◌≤◌, ◌<◌, length, get_or, slice_set, None, arith, length-replicate, up4, zeros, number_of, place_in, last_end, IsLaidOut, LieApart, LieApart-added, linked_appended, last_below, sum_by-set, unused_is, len_le_room, last_end-added, placed, get_or-set_same, taken_is, taken_le_used, block_shared, free_under, unused_place, added, shown, hidden}
+use Rattle.mmem_core.proofs.Lemmas.{seen_apart, rules, ◌≡◌, ◌+◌, ◌-◌, ◌≤◌, ◌<◌, length, get_or, slice_set, None, arith, up4, number_of, place_in, last_end, IsLaidOut, LieApart, LieApart-added, linked_appended, last_below, sum_by-set, unused_is, len_le_room, last_end-added, placed, get_or-set_same, taken_is, taken_le_used, block_shared, free_under, unused_place, added, shown, hidden}
 use Rattle.mmem_core.proofs.mmem.Mmem.put_last.Goals as goal
 
 pub append-requires-clause-last : goal.append-requires-clause-last
@@ -47,8 +47,6 @@ returns c =
     let lie = seen_apart c.self.view_is c.self.invariant.1 in
     let m = c.self.inside in let t = c.args.self.now in let number = c.number_of-number.result in
     let n = c.args.n in
-    let count : length (zeros n) ≡ n = length-replicate n 0 in let long = len_le_room n in
-    let below : number < length m.places = omega (arith, c.number_of-number.ensures.within) in
     let is = added t lie c.args.arena.now.bytes c.requires.within t.slid number n (omega arith) in
     record {
       block = grind arith;

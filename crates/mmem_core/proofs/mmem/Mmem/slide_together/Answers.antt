@@ -1,4 +1,4 @@
-use Rattle.mmem_core.proofs.Lemmas.{◌≡◌, ◌+◌, ◌-◌, ◌^◌, min, ap, ◌∙◌, arith, rules, inl, refl, midway_first, is_live, link_below, next_below, down, inside, some_room, midway_more, slid_shared, room_behind, shown}
+use Rattle.mmem_core.proofs.Lemmas.{◌+◌, ◌-◌, ◌^◌, min, ap, ◌∙◌, arith, rules, inl, refl, midway_first, is_live, link_below, next_below, down, midway_more, slid_shared, room_behind, shown}
 use Rattle.mmem_core.proofs.mmem.Mmem.slide_together.Goals as goal
 
 pub first-next-requires : goal.first-next-requires
@@ -13,34 +13,26 @@ unwrap-place-requires c = is_live c.in-Some.is c.loop-next.invariant
 pub slide_down-moved-requires : goal.slide_down-moved-requires
 slide_down-moved-requires c = record {
   within = search rules;
-  inside = grind (arith, inside c.in-Some.is c.loop-next.invariant c.unwrap-place.ensures);
+  inside = grind arith;
   down = down c.in-Some.is c.loop-next.invariant c.unwrap-place.ensures;
 }
 
 pub overflow_add-end : goal.overflow_add-end
 overflow_add-end c =
-    grind (
-      arith,
-      down c.in-Some.is c.loop-next.invariant c.unwrap-place.ensures,
-      inside c.in-Some.is c.loop-next.invariant c.unwrap-place.ensures,
-    )
+    grind arith
 
 pub next-next-requires-clause-link : goal.next-next-requires-clause-link
 next-next-requires-clause-link c = link_below c.in-Some.is c.loop-next.invariant
 
 pub loop-next-smaller : goal.loop-next-smaller
 loop-next-smaller c =
-    grind (
-      arith,
-      some_room c.in-Some.is c.loop-next.invariant c.unwrap-place.ensures,
-      down c.in-Some.is c.loop-next.invariant c.unwrap-place.ensures,
-      inside c.in-Some.is c.loop-next.invariant c.unwrap-place.ensures,
-    )
+    grind (arith, down c.in-Some.is c.loop-next.invariant c.unwrap-place.ensures)
 
 pub loop-next-preserved : goal.loop-next-preserved
 loop-next-preserved c =
     rw (c.moved_to.ensures, c.rounded.ensures)
-    (midway_more c.in-Some.is c.loop-next.invariant c.unwrap-place.ensures c.saturating_add-self-inside.result c.slide_down-moved.new.arena c.next-next.result
+    (midway_more c.in-Some.is c.loop-next.invariant c.unwrap-place.ensures c.saturating_add-self-inside.result
+    c.slide_down-moved.new.arena c.next-next.result
     (c.saturating_add-self-inside.ensures ∙ ap (λ k. min (c.loop-next.self-inside.slid + k) (2 ^ 64 - 1)) c.slide_down-moved.ensures.moved)
     c.slide_down-moved.ensures.bytes c.next-next.ensures.number c.next-next.ensures.within)
 

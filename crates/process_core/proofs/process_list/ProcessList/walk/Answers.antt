@@ -1,6 +1,5 @@
 use Rattle.process_core.proofs.Lemmas.{arith, numbers_seen}
-use Rattle.std.proofs.lemmas.Grind.{common_steps}
 use Rattle.process_core.proofs.process_list.ProcessList.walk.Goals as goal
 
 pub returns-clause-all : goal.returns-clause-all
-returns-clause-all c = grind (arith, common_steps, numbers_seen c.self.invariant.kept c.self.view_is)
+returns-clause-all c = grind (arith, numbers_seen c.self.invariant.kept c.self.view_is)

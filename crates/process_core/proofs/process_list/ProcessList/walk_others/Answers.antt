@@ -1,4 +1,4 @@
-use Rattle.process_core.proofs.Lemmas.{◌≡◌, sym, ◌∙◌, ap, List, numbers, without, others, numbers_listed, without_listed, Process}
+use Rattle.process_core.proofs.Lemmas.{sym, ◌∙◌, ap, List, numbers, without, others, numbers_listed, without_listed, Process}
 use Rattle.process_core.proofs.process_list.ProcessList.walk_others.Goals as goal
 
 pub returns : goal.returns

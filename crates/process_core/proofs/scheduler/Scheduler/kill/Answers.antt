@@ -1,11 +1,11 @@
-use Rattle.process_core.proofs.Lemmas.{◌≡◌, ◌∷◌, Continuation, true, answering, reverse, sym, ◌∙◌, ap, arith, has_ended, in_order, is_in_activation, none_in, pushed, room_on_stack, sound-answered, sound-left, turn_sound}
+use Rattle.process_core.proofs.Lemmas.{◌∷◌, Continuation, true, answering, reverse, sym, ◌∙◌, ap, arith, has_ended, in_order, is_in_activation, none_in, pushed, room_on_stack, sound-answered, sound-left, turn_sound}
 use Rattle.process_core.proofs.scheduler.Scheduler.kill.Goals as goal
 
 pub push-requires : goal.push-requires
 push-requires c = omega (arith, room_on_stack c.self.inside.fields c.self.invariant)
 
 pub push-requires-in-Running : goal.push-requires-in-Running
-push-requires-in-Running c = omega (arith, room_on_stack c.self.inside.fields c.self.invariant, c.push.ensures.len)
+push-requires-in-Running c = omega (arith, room_on_stack c.self.inside.fields c.self.invariant)
 
 pub invariant_of-self : goal.invariant_of-self
 invariant_of-self c =

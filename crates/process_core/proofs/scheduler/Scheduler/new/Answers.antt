@@ -9,7 +9,7 @@ push-requires c =
 pub loop-number-preserved : goal.loop-number-preserved
 loop-number-preserved c =
     record {
-      so_far = grind (arith, range_more 4 (c.loop-number.number - 4), c.loop-number.invariant.so_far, c.push.ensures);
+      so_far = grind (arith, range_more 4 (c.loop-number.number - 4));
       from =
           omega arith;
     }

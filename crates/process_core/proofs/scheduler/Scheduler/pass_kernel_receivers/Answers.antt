@@ -1,4 +1,4 @@
-use Rattle.process_core.proofs.Lemmas.{◌≡◌, true, false, refl, sym, ◌∙◌, passes_receiver, passed, none_passed}
+use Rattle.process_core.proofs.Lemmas.{refl, sym, ◌∙◌, passed, none_passed}
 use Rattle.process_core.proofs.scheduler.Scheduler.pass_kernel_receivers.Goals as goal
 
 pub returns-then-passes_receiver : goal.returns-then-passes_receiver

@@ -1,4 +1,4 @@
-use Rattle.process_core.proofs.Lemmas.{◌≡◌, false, refl, agenda_of, delivers_only, is_empty, is_only_marked, order_marked}
+use Rattle.process_core.proofs.Lemmas.{false, refl, agenda_of, delivers_only, is_empty, is_only_marked, order_marked}
 use Rattle.std.proofs.lemmas.Bool.{and_parts}
 use Rattle.process_core.proofs.scheduler.Scheduler.pass_poll.Goals as goal
 

@@ -1,4 +1,4 @@
-use Rattle.process_core.proofs.Lemmas.{◌≡◌, ◌∙◌, refl, state_of, in_order, no_front, not_ending, sound-waited, stays_here, turn_sound}
+use Rattle.process_core.proofs.Lemmas.{◌∙◌, refl, state_of, in_order, no_front, not_ending, sound-waited, stays_here, turn_sound}
 use Rattle.process_core.proofs.scheduler.Scheduler.waited.Goals as goal
 
 pub returns-in_default : goal.returns-in_default

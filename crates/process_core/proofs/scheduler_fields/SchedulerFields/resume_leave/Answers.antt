@@ -1,4 +1,4 @@
-use Rattle.process_core.proofs.Lemmas.{arith, refl, false, [], Continuation, pushed, room_below, leaver_above, idle_sound, in_order, sound-exiting, sound-removed}
+use Rattle.process_core.proofs.Lemmas.{arith, refl, false, [], Continuation, pushed, room_below, idle_sound, in_order, sound-exiting, sound-removed}
 use Rattle.std.proofs.Common.{rules}
 use Rattle.process_core.proofs.scheduler_fields.SchedulerFields.resume_leave.Goals as goal
 
@@ -46,4 +46,4 @@ returns-else-not-exits-clause-finds c =
     }
 
 pub remove-requires : goal.remove-requires
-remove-requires c = leaver_above c.args.self.now c.args.pid c.args.walk c.args.exits _ c.requires.order
+remove-requires c = grind arith

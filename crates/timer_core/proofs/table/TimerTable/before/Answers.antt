@@ -1,4 +1,4 @@
-use Rattle.timer_core.proofs.Lemmas.{◌∙◌, sym, arith, listed_shorter, listed_from_none, next_at, passes_at, behind_walked, walked_more, none_of_more, at_below, other_at, list_any-append}
+use Rattle.timer_core.proofs.Lemmas.{arith, listed_from_none, passes_at, behind_walked, walked_more, none_of_more, at_below, list_any-append}
 use Rattle.timer_core.proofs.table.TimerTable.before.Goals as goal
 
 pub returns-then-other-place : goal.returns-then-other-place
@@ -10,16 +10,13 @@ bounds-self-inside-other c =
 
 pub loop-link-smaller : goal.loop-link-smaller
 loop-link-smaller c =
-    grind (arith, next_at, listed_shorter, passes_at c.in-Some.is c.loop-link.invariant.walked.list)
+    grind (arith, passes_at c.in-Some.is c.loop-link.invariant.walked.list)
 
 pub loop-link-preserved : goal.loop-link-preserved
 loop-link-preserved c =
-    let h = c.loop-link.invariant in
-    let differs = other_at c.args.timer c.in-Some.other (passes_at c.in-Some.is h.walked.list).named
-    (λ e. c.if-other-place.false (e ∙ sym c.place-place.ensures.value)) in
     record {
       earlier = _;
-      walked = walked_more c.in-Some.is h.walked;
+      walked = walked_more c.in-Some.is c.loop-link.invariant.walked;
       absent = grind (arith, none_of_more);
     }
 

@@ -1,4 +1,4 @@
-use Rattle.timer_core.proofs.Lemmas.{◌≡◌, ◌∙◌, ap, arith, AllNamed, Timer, stop_timer, all_named, all_callbacks, is_callback_timer_of, one_callback, without_more, without_none, without_same}
+use Rattle.timer_core.proofs.Lemmas.{◌≡◌, ◌∙◌, ap, arith, Timer, stop_timer, all_named, all_callbacks, is_callback_timer_of, one_callback, without_more, without_none, without_same}
 use Rattle.timer_core.proofs.table.TimerTable.disarm_callbacks.Goals as goal
 
 pub loop-number-init : goal.loop-number-init
@@ -11,6 +11,5 @@ loop-number-preserved c =
 
 pub returns : goal.returns
 returns c =
-    let listed : AllNamed c.args.self.now.armed = grind (arith, all_named) in
     let last : c.loop-number.number ≡ 4 = omega arith in
-    (rw last at c.loop-number.invariant) ∙ without_same _ _ (all_callbacks c.args.pid.0) c.args.self.now listed
+    (rw last at c.loop-number.invariant) ∙ without_same _ _ (all_callbacks c.args.pid.0) c.args.self.now (grind (arith, all_named))

@@ -1,15 +1,15 @@
-use Rattle.timer_core.proofs.Lemmas.{◌≡◌, true, false, subst, arith, le-leb, lt-leb, Timers, is_due, timer_at, timers_of, link_behind, named_last, passes_at, walked_behind, walked_more, none_of_more, due_here, none_here, nothing_passed, listed_shorter, at_below, deadline_at, next_at}
+use Rattle.timer_core.proofs.Lemmas.{◌≡◌, true, false, subst, arith, le-leb, lt-leb, Timers, is_due, timer_at, timers_of, named_last, passes_at, walked_behind, walked_more, none_of_more, due_here, none_here, at_below, deadline_at, next_at}
 use Rattle.timer_core.specs.Code.Outlooks.{IsOutlook}
 use Rattle.timer_core.specs.declared.table.Outlook.{Outlook}
 use Rattle.timer_core.proofs.table.TimerTable.look.Goals.{then-clock-passed, else-clock-passed}
 use Rattle.timer_core.proofs.table.TimerTable.look.Goals as goal
 
 pub bounds-self-inside-last : goal.bounds-self-inside-last
-bounds-self-inside-last c = grind (arith, else-clock-passed, nothing_passed, at_below, named_last)
+bounds-self-inside-last c = grind (arith, named_last)
 
 pub loop-link-init : goal.loop-link-init
 loop-link-init c =
-    grind (arith, then-clock-passed, else-clock-passed, nothing_passed, link_behind, walked_behind)
+    grind (arith, walked_behind)
 
 pub bounds-self-inside-place : goal.bounds-self-inside-place
 bounds-self-inside-place c =
@@ -22,16 +22,15 @@ deadline-deadline-requires c =
 pub returns-then-deadline-clock : goal.returns-then-deadline-clock
 returns-then-deadline-clock c =
     let h = c.loop-link.invariant in
-    let step = passes_at c.in-Some-link.is h.walked.list in
     let due : is_due c.args.clock (timers_of c.self.inside) (timer_at c.in-Some-link.place) ≡ true =
-    grind (arith, deadline_at, le-leb) in
+    grind (arith, deadline_at, le-leb, passes_at c.in-Some-link.is h.walked.list) in
     subst (λ (v : Timers). IsOutlook c.args.clock v (Outlook.Due c.in-Some-link.place c.loop-link.passed)) c.self.view_is
     (due_here c.self.inside c.self.invariant c.loop-link.passed c.loop-link.link h.earlier h.walked c.args.clock h.undue h.now
     c.in-Some-link.place c.in-Some-link.is due)
 
 pub loop-link-smaller : goal.loop-link-smaller
 loop-link-smaller c =
-    grind (arith, next_at, listed_shorter, passes_at c.in-Some-link.is c.loop-link.invariant.walked.list)
+    grind (arith, next_at, passes_at c.in-Some-link.is c.loop-link.invariant.walked.list)
 
 pub loop-link-preserved : goal.loop-link-preserved
 loop-link-preserved c =
@@ -43,7 +42,7 @@ loop-link-preserved c =
       earlier = _;
       walked = walked_more c.in-Some-link.is h.walked;
       now = grind (arith, none_of_more);
-      undue = grind (arith, deadline_at, lt-leb, none_of_more);
+      undue = grind (arith, deadline_at, none_of_more);
     }
 
 pub returns : goal.returns

@@ -1,9 +1,8 @@
-use Rattle.timer_core.proofs.Lemmas.{◌≡◌, ◌∙◌, ap, sym, refl, arith, ℕ, Some, None, deadline_at, listed_from_none, listed_shorter, next_at, passes_at, at_below, timer_at, timers_of}
+use Rattle.timer_core.proofs.Lemmas.{◌≡◌, ◌∙◌, ap, sym, refl, arith, ℕ, Some, None, deadline_at, listed_from_none, next_at, passes_at, at_below, timer_at, timers_of}
 use Rattle.std.proofs.Common.{Option}
 use Rattle.timer_core.specs.Code.Links.{listed_from, next_of}
 use Rattle.timer_core.specs.Code.Earliest.{earliest_with}
 use Rattle.timer_core.specs.Deadlines.{earliest_of, earlier_of}
-use Rattle.timer_core.specs.Timers.{deadline}
 use Rattle.timer_core.proofs.table.TimerTable.next_deadline.Goals as goal
 
 all_known : (o : Option ℕ) → earliest_with o None ≡ o
@@ -12,9 +11,7 @@ all_known (Some m) = refl
 
 one_more : (o : Option ℕ) (d : ℕ) (later : Option ℕ) → earliest_with (Some (earlier_of d o)) later ≡ earliest_with o
     (Some (earlier_of d later))
-one_more None d later = refl
-one_more (Some m) d None = grind arith
-one_more (Some m) d (Some n) = grind arith
+one_more o d later = grind arith
 
 pub bounds-self-inside-place : goal.bounds-self-inside-place
 bounds-self-inside-place c = at_below c.in-Some.place (passes_at c.in-Some.is c.loop-link.invariant.list).named
@@ -25,7 +22,7 @@ deadline-requires c =
 
 pub loop-link-smaller : goal.loop-link-smaller
 loop-link-smaller c =
-    grind (arith, next_at, listed_shorter, passes_at c.in-Some.is c.loop-link.invariant.list)
+    grind (arith, passes_at c.in-Some.is c.loop-link.invariant.list)
 
 pub loop-link-preserved : goal.loop-link-preserved
 loop-link-preserved c =
@@ -46,4 +43,4 @@ loop-link-preserved c =
     }
 
 pub returns : goal.returns
-returns c = grind (arith, listed_from_none, all_known)
+returns c = grind (arith, listed_from_none)

@@ -7,7 +7,7 @@ invariant_of-self c =
     grind arith in (
       λ clock before.
           ap (first_due clock) c.arm.ensures.armed
-          ∙ none_due_after_arming clock c.args.timer c.args.cell c.self.inside.table (omega (arith, at, c.min-self-inside.ensures))
-          (c.self.invariant.0 clock (omega (arith, c.min-self-inside.ensures))),
+          ∙ none_due_after_arming clock c.args.timer c.args.cell c.self.inside.table (omega (arith, c.min-self-inside.ensures))
+          (c.self.invariant.0 clock (omega arith)),
       nothing_passed _ _,
     )
