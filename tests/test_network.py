@@ -201,9 +201,12 @@ def test_only_of_no_mote(network: Path, script: str, mote: str) -> None:
     assert (ran.returncode, ran.stdout, ran.stderr) == (64, b"", f"network: no mote {mote}\n".encode())
 
 
-def test_malformed_before_only(network: Path) -> None:
-    ran = run(network, "--only", "3", stdin=b"walk\n")
-    assert (ran.returncode, ran.stdout, ran.stderr) == (2, b"bad line 1\n", b"")
+@pytest.mark.parametrize(("script", "status", "line"), [(b"walk\n", 2, b"bad line 1\n"), (b"\n" * (2 ** 24 + 1), 4, b"too long\n")],
+                         ids=["malformed", "too long"])
+def test_no_run_before_only(network: Path, script: bytes, status: int, line: bytes) -> None:
+    """A script of which nothing is executed ends so also where the lines of a mote that doesn't exist are wished for."""
+    ran = run(network, "--only", "3", stdin=script)
+    assert (ran.returncode, ran.stdout, ran.stderr) == (status, line, b"")
 
 
 def test_room_that_memory_lacks(network: Path) -> None:

@@ -1,6 +1,6 @@
 -- For those that keep a pool, its lists and their arena together: the span stays in the arena, and what the pool and the
 -- lists show depends only on the span's bytes.
-use Rattle.memb_core.proofs.Words.{◌≡◌, ℕ, ◌+◌, ◌≤◌, ◌⊎◌, List, arith, Contents, PoolTable, ListHeads, ListName, region_of, pool_of, IsWithin, KeepsToSpan, link_of, list_of, AreLinked}
+use Rattle.memb_core.proofs.Words.{◌≡◌, ℕ, ◌+◌, ◌≤◌, ◌⊎◌, List, arith, Contents, PoolTable, ListHeads, ListName, pool_of, IsWithin, KeepsToSpan, link_of, list_of, AreLinked}
 use Rattle.arena_core.specs.Code.Outside.{ChangesOnly}
 
 pub IsWithin-kept : {old new : PoolTable} {before after : Contents} → KeepsToSpan old new before after → IsWithin old before.bytes

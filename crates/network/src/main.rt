@@ -1,23 +1,21 @@
 //! Runs a network of motes: a script comes from standard input, its transcript goes to standard output.
 //!
-//! The contracts here promise that the program is safe and that it ends. What it writes of the network that was set up is promised by
-//! the contract of `network_setup`'s `run_setup`. Which lines `--only` keeps is only tested.
+//! The contracts here promise that the program is safe and that it ends. What it writes of a script is promised by the contract of
+//! `network_setup`'s `run_script`. Which lines `--only` keeps is only tested.
 #![tactic(auto)]
 
-mod fault;
 mod only;
 mod options;
 mod run;
 
 use command_line::{Failure, exit_code, finish, texts_of, words_of};
-use fault::RunFault;
 use mote_session::refusal::SessionRefusal;
-use mote_text::script::{End, SCRIPT_LIMIT};
-use network_run::fault::RunFault as NetworkRunFault;
+use mote_text::script::SCRIPT_LIMIT;
+use network_run::fault::RunFault;
 use network_session::fault::NetworkFault;
 use network_setup::fault::SetUpRunFault;
 use options::{PROGRAM, Wish, wish_of};
-use run::{carry_out, write_end};
+use run::carry_out;
 use std::io;
 use std::io::Read;
 use std::process::ExitCode;
@@ -33,26 +31,17 @@ fn read_all<R: AllocGlobal + io::Input>(rt: &R) -> Result<Vec<u8>, Failure<'stat
     }
 }
 
-/// Runs a script.
-fn run_script<R: AllocGlobal + Print>(rt: &R, wish: Wish, script: &[u8]) -> Result<End, RunFault> {
-    let writer = io::writer(rt);
-    if script.len() > SCRIPT_LIMIT as usize {
-        return write_end(writer, End::TooLong);
-    }
-    carry_out(rt.alloc(), script, wish, writer)
-}
-
 /// Reports why a network's run came to no end, and returns the status that the program exits with.
-fn report_run<R: Print + Eprint>(rt: &R, fault: NetworkRunFault) -> u8 {
+fn report_run<R: Print + Eprint>(rt: &R, fault: RunFault) -> u8 {
     match fault {
-        NetworkRunFault::Write => finish(rt, PROGRAM, Err(Failure::Write)),
-        NetworkRunFault::Refused(
+        RunFault::Write => finish(rt, PROGRAM, Err(Failure::Write)),
+        RunFault::Refused(
             NetworkFault::TooLong | NetworkFault::Refused(SessionRefusal::TooManyInputs),
         ) => {
             let _ = eprintln!(rt; "{}: too many inputs or ticks", PROGRAM.name);
             70
         }
-        NetworkRunFault::NoCall | NetworkRunFault::Refused(_) => report_broken(rt),
+        RunFault::NoCall | RunFault::Refused(_) => report_broken(rt),
     }
 }
 
@@ -62,25 +51,20 @@ fn report_broken<R: Eprint>(rt: &R) -> u8 {
     70
 }
 
-/// Reports why a run ended early, and returns the status that the program exits with.
-fn report<R: Print + Eprint>(rt: &R, fault: RunFault) -> u8 {
-    match fault {
-        RunFault::Write => finish(rt, PROGRAM, Err(Failure::Write)),
-        RunFault::SetUp(SetUpRunFault::Memory) => finish(rt, PROGRAM, Err(Failure::OutOfMemory)),
-        RunFault::NoMote(number) => {
-            let _ = eprintln!(rt; "{}: no mote {number}", PROGRAM.name);
-            64
-        }
-        RunFault::SetUp(SetUpRunFault::BadLink) => report_broken(rt),
-        RunFault::SetUp(SetUpRunFault::Run(fault)) => report_run(rt, fault),
-    }
+/// Reports that the mote whose lines are wished for doesn't exist, and returns the status that the program exits with.
+fn report_no_mote<R: Eprint>(rt: &R, wish: Wish) -> u8 {
+    let _ = eprintln!(rt; "{}: no mote {}", PROGRAM.name, wish.only.unwrap_or(0));
+    64
 }
 
 /// Runs a script, and returns the status that the program exits with.
 fn run_to_status<R: AllocGlobal + Print + Eprint>(rt: &R, wish: Wish, script: &[u8]) -> u8 {
-    match run_script(rt, wish, script) {
+    match carry_out(rt.alloc(), script, wish, io::writer(rt)) {
         Ok(end) => finish(rt, PROGRAM, Ok(end)),
-        Err(fault) => report(rt, fault),
+        Err(SetUpRunFault::Memory) => finish(rt, PROGRAM, Err(Failure::OutOfMemory)),
+        Err(SetUpRunFault::NoMote) => report_no_mote(rt, wish),
+        Err(SetUpRunFault::BadLink) => report_broken(rt),
+        Err(SetUpRunFault::Run(fault)) => report_run(rt, fault),
     }
 }
 

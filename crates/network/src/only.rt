@@ -19,7 +19,7 @@ enum Place {
     Hidden,
 }
 
-/// A writer of the lines of one mote, without its number, and of the line of a malformed script.
+/// A writer of the lines of one mote, without its number, and of the line of a script that isn't executed.
 #[derive(Drop)]
 struct Filter<W> {
     writer: W,
@@ -41,8 +41,8 @@ impl Place {
         match (self, byte) {
             (_, b'\n') => Place::Start,
             (Place::Shown, _) => Place::Shown,
-            // No other line that is shown begins so: `bad line N`.
-            (Place::Start, b'b') => Place::Shown,
+            // Only `bad line N` and `too long` begin so.
+            (Place::Start, b'b' | b't') => Place::Shown,
             (Place::Start, b'0'..=b'9') => Place::Number((byte - b'0') as u64),
             (Place::Number(number), b'0'..=b'9') => {
                 Place::Number(number.wrapping_mul(10).wrapping_add((byte - b'0') as u64))
@@ -55,7 +55,7 @@ impl Place {
     /// Whether this byte is shown.
     fn shows(self, byte: u8) -> bool {
         match self {
-            Place::Start => byte == b'b',
+            Place::Start => byte == b'b' || byte == b't',
             Place::Shown => true,
             Place::Number(_) | Place::Hidden => false,
         }

@@ -1,32 +1,63 @@
 -- How a run is closed.
-use Rattle.std.proofs.Common.{◌≡◌, ℕ, Bool, true, false, List, [], ◌++◌, refl, ap, sym, subst, ◌∙◌, length, Result, Ok, Err, Option, None, Some, IfSome, IsErrAnd}
+use Rattle.std.proofs.Common.{◌≡◌, ◌+◌, ℕ, Bool, true, false, List, [], ◌∷◌, ◌++◌, refl, ap, sym, subst, ◌∙◌, length, Result, Ok, Err, Option, None, Some, IfSome, IsErrAnd}
 use Rattle.kernel_core.specs.declared.config.Config.{Config}
 use Rattle.medium_core.specs.declared.link.Link.{Link}
 use Rattle.mote_text.specs.declared.script.End.{End}
 use Rattle.network_session.specs.Happenings.{Happening}
 use Rattle.network_session.specs.Network.{NetworkView}
 use Rattle.network_session.specs.Promise.{IsLogOf, NetworkPromise}
-use Rattle.network_run.specs.Code.Way.{Ends, Faulted, Place, Reading, RunsIf, Stopped, Went, is_write, place}
+use Rattle.network_run.specs.Code.Way.{Ends, Faulted, Place, Reading, RunFaulted, RunStopped, RunsIf, Went, givens, is_write, place}
 use Rattle.network_run.specs.Code.Writing.{WritesOn}
 use Rattle.network_run.specs.NetworkRunText.{CanEnd, Gives, HasRun, IsSpent, NetworkRan, ending_text}
 use Rattle.mote_session.specs.Voices.{Voices}
 use Rattle.network_run.specs.declared.fault.RunFault.{RunFault}
 use Rattle.network_run.proofs.Scripts.{leads_length}
 use Rattle.network_run.proofs.Speaking.{make_the_calls}
-use Rattle.network_run.proofs.Ways.{faulted_after, stopped_after}
+use Rattle.network_run.specs.Outside.{AreInTurn, Outside, all_outside}
+use Rattle.network_run.proofs.Ways.{went_on}
 use Rattle.network_run.proofs.Writing.{nothing_more, then_written}
-use Rattle.network_text.specs.NetworkRuns.{Leads, Move, log_of, moves_text}
+use Rattle.network_text.specs.NetworkRuns.{Leads, Move, inputs_of, log_of, moves_text}
 use Rattle.network_text.specs.NetworkScript.{read_network_lines}
 use Rattle.network_text.specs.NetworkText.{last_line}
 use Rattle.network_text.specs.declared.input.NetworkInput.{NetworkInput}
 
+-- nothing has a front of something
+front_of_nothing : (front back : List Outside) → [] ≡ front ++ back → front ≡ []
+front_of_nothing [] back e = refl
+front_of_nothing (one ∷ front) back e = absurd (cc)
+
+-- the inputs that moves execute are those that came
+inputs_given : (moves : List Move) → inputs_of moves ≡ givens (all_outside moves)
+inputs_given [] = refl
+inputs_given (Move.Step outcome new ∷ moves) = inputs_given moves
+inputs_given (Move.Submit call new ∷ moves) = inputs_given moves
+inputs_given (Move.Tick ticks new ∷ moves) = ap (λ (v : List NetworkInput). NetworkInput.Tick ticks ∷ v) (inputs_given moves)
+inputs_given (Move.Tell m new ∷ moves) = inputs_given moves
+inputs_given (Move.Hand m input new ∷ moves) = ap (λ (v : List NetworkInput). NetworkInput.ForMote (m + 1) input ∷ v) (inputs_given moves)
+inputs_given (Move.Miss m input new ∷ moves) = ap (λ (v : List NetworkInput). NetworkInput.ForMote (m + 1) input ∷ v) (inputs_given moves)
+
 -- before the lines of a script the motes are started
 
 module _ (quiet : Bool) where
+  stopped_later : {inputs left : List NetworkInput} {lost : List ℕ} {from mid to : Place} → Went quiet [] from mid →
+      RunStopped quiet inputs left lost mid to → RunStopped quiet inputs left lost from to
+  stopped_later first stopped = record {
+    outside = stopped.outside;
+    parts = stopped.parts;
+    in_turn = stopped.in_turn;
+    went = went_on quiet first stopped.went;
+  }
+
   pub runs_after : (result : Result End RunFault) (script : Reading) (from mid to : Place) → Went quiet [] from mid → RunsIf result quiet script mid to →
       RunsIf result quiet script from to
-  runs_after (Ok end) script from mid to first ends = record { left = ends.left; can = ends.can; stopped = stopped_after quiet first ends.stopped }
-  runs_after (Err fault) script from mid to first faulted = faulted_after quiet first faulted
+  runs_after (Ok end) script from mid to first ends = record { left = ends.left; can = ends.can; stopped = stopped_later first ends.stopped }
+  runs_after (Err fault) script from mid to first faulted = record {
+    left = faulted.left;
+    lost = faulted.lost;
+    kept = faulted.kept;
+    voices = faulted.voices;
+    stopped = stopped_later first faulted.stopped;
+  }
 
   pub started : (result : Result End RunFault) (n : ℕ) (lines : List (List ℕ)) (from mid to : Place) → Went quiet [] from mid →
       RunsIf result quiet (read_network_lines (length mid.net.motes) n lines) mid to → RunsIf result quiet (read_network_lines (length from.net.motes) n lines) from to
@@ -35,7 +66,24 @@ module _ (quiet : Bool) where
       (subst (λ (motes : ℕ). RunsIf result quiet (read_network_lines motes n lines) mid to) (leads_length first.moves from.net mid.net first.leads) runs)
 
   pub spent_at_start : (script : Reading) (from to : Place) → Went quiet [] from to → IsSpent to.net → Ends quiet script End.Halted from to
-  spent_at_start script from to went spent = record { left = script.0; can = spent; stopped = record { carried = []; parts = refl; went = went } }
+  spent_at_start script from to went spent =
+      record { left = script.0; can = spent; stopped = record { outside = []; parts = refl; in_turn = tt; went = went } }
+
+  -- or there is a fault there
+  pub fault_at_start : (inputs : List NetworkInput) (fault : RunFault) (from to : Place) → Faulted quiet [] fault from to → RunFaulted quiet inputs fault from to
+  fault_at_start inputs fault from to faulted = record {
+    left = inputs;
+    lost = faulted.lost;
+    kept = faulted.kept;
+    voices = faulted.voices;
+    stopped = record {
+      outside = [];
+      parts = refl;
+      in_turn = tt;
+      went = subst (λ (outside : List Outside). Went quiet outside from (record to { voices = faulted.voices; due = faulted.lost })) (front_of_nothing faulted.stopped.carried faulted.left faulted.stopped.parts)
+          faulted.stopped.went;
+    };
+  }
 
 -- the promise, as the law of a network's texts says it
 abbrev pub PromiseLaw : Type 0
@@ -45,7 +93,7 @@ PromiseLaw = (configs : ℕ → Config) (room : ℕ) (links : List (List Link)) 
 module _ (law : PromiseLaw) (quiet : Bool) (script : Reading) (start net : NetworkView) (voices later_voices : Voices) where
   -- what was done, and the text of that
   ran : (said : Voices) (given now due later lost text : List ℕ) (left : List NetworkInput) (ending : Option End) →
-      Stopped quiet script.0 left due (place given [] start voices) (place now due net said) →
+      RunStopped quiet script.0 left due (place given [] start voices) (place now due net said) →
       IfSome ending (λ end. CanEnd net left script.1 end) → WritesOn now due later lost text → text ≡ ending_text ending →
       Gives given later (λ written. NetworkRan quiet start voices script written lost ending)
   ran said given now due later lost text left ending stopped ends writes is =
@@ -58,7 +106,9 @@ module _ (law : PromiseLaw) (quiet : Bool) (script : Reading) (start net : Netwo
           leads = stopped.went.leads;
           left = left;
           calls = make_the_calls stopped.went.moves start net voices said stopped.went.leads stopped.went.calls;
-          inputs = stopped.parts ∙ ap (λ (carried : List NetworkInput). carried ++ left) (sym stopped.went.carried);
+          inputs = stopped.parts ∙ ap (λ (v : List NetworkInput). v ++ left)
+              (ap givens (sym stopped.went.carried) ∙ sym (inputs_given stopped.went.moves));
+          in_turn = subst AreInTurn (sym stopped.went.carried) stopped.in_turn;
           ends = ends;
           is_text = sym all.parted ∙ ap (λ (t : List ℕ). moves_text quiet start stopped.went.moves ++ t) is;
           promise = λ configs room links booted. law configs room links [] stopped.went.moves start net booted stopped.went.leads;
@@ -74,21 +124,21 @@ module _ (law : PromiseLaw) (quiet : Bool) (script : Reading) (start net : Netwo
   cut_off end given now due later lost ends writes =
       let r = ran later_voices given now due later lost (last_line end) ends.left (Some end) ends.stopped ends.can writes refl in (r.0, r.1, (lost, Some end, r.2))
 
-  pub failed_before : (fault : RunFault) (given now due : List ℕ) → is_write fault ≡ true → Faulted quiet script.0 fault (place given [] start voices) (place now due net later_voices) →
+  pub failed_before : (fault : RunFault) (given now due : List ℕ) → is_write fault ≡ true → RunFaulted quiet script.0 fault (place given [] start voices) (place now due net later_voices) →
       Gives given now (λ written. HasRun quiet start voices script written (Err fault))
   failed_before RunFault.Write given now due is faulted =
       let r = ran faulted.voices given now faulted.lost now faulted.lost [] faulted.left None
-      (record { carried = faulted.stopped.carried; parts = faulted.stopped.parts; went = faulted.stopped.went }) tt (nothing_more now faulted.lost) refl in
+      (record { outside = faulted.stopped.outside; parts = faulted.stopped.parts; in_turn = faulted.stopped.in_turn; went = faulted.stopped.went }) tt (nothing_more now faulted.lost) refl in
       (r.0, r.1, (faulted.lost, None, r.2))
   failed_before RunFault.NoCall given now due is faulted = absurd (cc)
   failed_before (RunFault.Refused refusal) given now due is faulted = absurd (cc)
 
-  stopped_whole : (fault : RunFault) (given now due : List ℕ) → is_write fault ≡ false → (faulted : Faulted quiet script.0 fault (place given [] start voices) (place now due net later_voices)) →
-      Stopped quiet script.0 faulted.left due (place given [] start voices) (place now due net faulted.voices)
+  stopped_whole : (fault : RunFault) (given now due : List ℕ) → is_write fault ≡ false → (faulted : RunFaulted quiet script.0 fault (place given [] start voices) (place now due net later_voices)) →
+      RunStopped quiet script.0 faulted.left due (place given [] start voices) (place now due net faulted.voices)
   stopped_whole fault given now due not faulted =
-      subst (λ (lost : List ℕ). Stopped quiet script.0 faulted.left lost (place given [] start voices) (place now due net faulted.voices)) (faulted.kept not) faulted.stopped
+      subst (λ (lost : List ℕ). RunStopped quiet script.0 faulted.left lost (place given [] start voices) (place now due net faulted.voices)) (faulted.kept not) faulted.stopped
 
-  pub failed_now : (fault : RunFault) (given now due later lost : List ℕ) → is_write fault ≡ false → Faulted quiet script.0 fault (place given [] start voices) (place now due net later_voices) →
+  pub failed_now : (fault : RunFault) (given now due later lost : List ℕ) → is_write fault ≡ false → RunFaulted quiet script.0 fault (place given [] start voices) (place now due net later_voices) →
       WritesOn now due later lost [] → Gives given later (λ written. HasRun quiet start voices script written (Err RunFault.Write))
   failed_now fault given now due later lost not faulted writes =
       let r = ran faulted.voices given now due later lost [] faulted.left None (stopped_whole fault given now due not faulted) tt writes refl in (r.0, r.1, (lost, None, r.2))
@@ -98,7 +148,7 @@ module _ (law : PromiseLaw) (quiet : Bool) (script : Reading) (start net : Netwo
   with_fault RunFault.NoCall written not r = r
   with_fault (RunFault.Refused refusal) written not r = r
 
-  pub failed : (fault : RunFault) (given now due later : List ℕ) → is_write fault ≡ false → Faulted quiet script.0 fault (place given [] start voices) (place now due net later_voices) →
+  pub failed : (fault : RunFault) (given now due later : List ℕ) → is_write fault ≡ false → RunFaulted quiet script.0 fault (place given [] start voices) (place now due net later_voices) →
       WritesOn now due later [] [] → Gives given later (λ written. HasRun quiet start voices script written (Err fault))
   failed fault given now due later not faulted writes =
       let r = ran faulted.voices given now due later [] [] faulted.left None (stopped_whole fault given now due not faulted) tt writes refl in

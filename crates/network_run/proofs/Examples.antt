@@ -5,7 +5,9 @@ use Rattle.mote_text.specs.declared.script.End.{End}
 use Rattle.mote_text.specs.EntryText.{line_of}
 use Rattle.mote_text.specs.Script.{read_line}
 use Rattle.network_session.specs.Network.{NetworkView}
+use Rattle.mote_types.specs.declared.entry.Input.{Input}
 use Rattle.network_run.specs.NetworkRunText.{CanEnd, ending_text, script_lines}
+use Rattle.network_run.specs.Outside.{AreInTurn, Outside}
 use Rattle.network_text.specs.NetworkScript.{read_network_lines}
 use Rattle.network_text.specs.declared.input.NetworkInput.{NetworkInput}
 
@@ -30,3 +32,17 @@ module _ (net : NetworkView) where
 
   other_end : CanEnd net [] (End.BadLine 5) End.Finished → ⊥
   other_end can = let e = can.says in absurd (cc)
+
+-- the first mote gets the time before its own input, or at the end of a run; not before one of the second mote, nor of all, nor twice
+module _ (input : Input) where
+  in_turn : AreInTurn (Outside.Time 0 ∷ Outside.Given (NetworkInput.ForMote 1 input) ∷ Outside.Time 1 ∷ [])
+  in_turn = (refl, tt)
+
+  for_another : AreInTurn (Outside.Time 0 ∷ Outside.Given (NetworkInput.ForMote 2 input) ∷ []) → ⊥
+  for_another turn = let e = turn.0 in absurd (cc)
+
+  for_all : AreInTurn (Outside.Time 0 ∷ Outside.Given (NetworkInput.Tick 3) ∷ []) → ⊥
+  for_all turn = turn.0
+
+  twice : AreInTurn (Outside.Time 0 ∷ Outside.Time 0 ∷ []) → ⊥
+  twice turn = turn

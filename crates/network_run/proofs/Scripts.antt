@@ -1,7 +1,8 @@
 -- A script's lines, one after the other.
-use Rattle.std.proofs.Common.{◌≡◌, ◌+◌, ◌-◌, ◌<◌, ◌==◌, ℕ, zero, suc, Bool, true, false, List, [], ◌∷◌, ◌++◌, length, take, drop, set, refl, ap, sym, subst, ◌∙◌, add-one, if◌then◌else◌, append_assoc, append-nil, arith, Result, Option, None, Some, ◌||◌, nat_lt, slice_index}
+use Rattle.std.proofs.Common.{◌≡◌, ◌+◌, ◌-◌, ◌<◌, ◌==◌, ℕ, zero, suc, Bool, true, false, List, [], ◌∷◌, ◌++◌, length, take, drop, set, refl, ap, sym, subst, ◌∙◌, add-one, if◌then◌else◌, append_assoc, append-nil, arith, Result, Option, None, Some, ◌||◌, nat_lt, slice_index, Err, Ok, inl, inr}
 use Rattle.std.proofs.lemmas.Bool.Decides.{nat_tests}
 use Rattle.std.proofs.lemmas.List.{length-set}
+use Rattle.std.proofs.lemmas.List.Elements.{filter_map-append}
 use Rattle.memchr.specs.Find.{Nowhere, Passes, is_byte}
 use Rattle.mote_session.specs.SessionView.{SessionView}
 use Rattle.mote_text.specs.Script.{line_limit}
@@ -10,12 +11,13 @@ use Rattle.mote_types.specs.declared.entry.Input.{Input}
 use Rattle.network_session.specs.Network.{NetworkView}
 use Rattle.network_session.specs.Steps.{Steps}
 use Rattle.network_session.specs.declared.outcome.Outcome.{Outcome}
-use Rattle.network_run.specs.Code.Way.{Ends, Faulted, HasCome, Place, Takes, TakesIf, Went}
+use Rattle.network_run.specs.Code.Way.{Ends, Faulted, HasCome, IsTimeFor, IsWithTime, Place, RunFaulted, RunStopped, Stopped, Takes, TakesIf, TakesInputIf, Went, given_of, givens}
 use Rattle.network_run.specs.NetworkRunText.{IsSpent, script_lines}
 use Rattle.network_run.specs.declared.fault.RunFault.{RunFault}
-use Rattle.network_run.proofs.Ways.{all_carried, faulted_after, faulted_before, stopped_after, stopped_before, went_nowhere, went_on}
+use Rattle.network_run.specs.Outside.{AreInTurn, IsFor, Outside}
+use Rattle.network_run.proofs.Ways.{faulted_before, takes_after, takes_before, went_nowhere, went_on}
 use Rattle.network_text.specs.NetworkRuns.{IsMove, IsResting, Leads, Move, after_move}
-use Rattle.network_text.specs.NetworkScript.{if_for_some, is_for_some, read_network_input, read_network_line, with_network_line}
+use Rattle.network_text.specs.NetworkScript.{if_for_some, is_for_some, read_network_input, read_network_line, read_network_lines, with_network_line}
 use Rattle.network_text.specs.declared.input.NetworkInput.{NetworkInput}
 
 -- ---- lines
@@ -111,6 +113,58 @@ pub read_for_some : (motes : ℕ) (line : List ℕ) (input : NetworkInput) → S
 read_for_some motes line input e =
     read_by motes input (nat_lt line_limit (length line)) (length line == 0 || slice_index line 0 == 35) (read_network_input line) e
 
+-- ---- what comes in turn
+
+-- the front of what comes in turn
+in_front : (front back : List Outside) → AreInTurn (front ++ back) → AreInTurn front
+in_front [] back turn = tt
+in_front (Outside.Given input ∷ front) back turn = in_front front back turn
+in_front (Outside.Time m ∷ []) back turn = tt
+in_front (Outside.Time m ∷ Outside.Time k ∷ front) back turn = absurd turn
+in_front (Outside.Time m ∷ Outside.Given input ∷ front) back turn = (turn.0, in_front front back turn.1)
+
+-- an input with the time before it, and more
+with_more : (input : NetworkInput) (outside more : List Outside) → IsWithTime input outside → AreInTurn more → AreInTurn (outside ++ more)
+with_more input outside more is turn =
+    elim is.2 [
+      | inl none ↦ rw (is.1, none) turn
+      | inr told ↦ rw (is.1, told.1) (told.2, turn)
+    ]
+
+given_with_time : (input : NetworkInput) (outside : List Outside) → IsWithTime input outside → givens outside ≡ input ∷ []
+given_with_time input outside is =
+    elim is.2 [
+      | inl none ↦ rw (is.1, none) refl
+      | inr told ↦ rw (is.1, told.1) refl
+    ]
+
+-- the time alone, before an input that is left
+given_before : (m : ℕ) (times : List Outside) → IsTimeFor m times → givens times ≡ []
+given_before m times (inl none) = rw none refl
+given_before m times (inr told) = rw told refl
+
+pub with_time : (m number : ℕ) (said : NetworkInput) (input : Input) (times : List Outside) → IsTimeFor m times → number ≡ m + 1 →
+    said ≡ NetworkInput.ForMote number input → IsWithTime said (times ++ Outside.Given said ∷ [])
+with_time m number said input times (inl none) e is = (times, refl, inl none)
+with_time m number said input times (inr told) e is =
+    (times, refl, inr (m, told, subst (λ (i : NetworkInput). IsFor m i) (sym is) e))
+
+no_time : (input : NetworkInput) → IsWithTime input (Outside.Given input ∷ [])
+no_time input = ([], refl, inl refl)
+
+-- a tick needs no time before it
+pub tick_taken : (quiet : Bool) (result : Result Bool RunFault) (said : NetworkInput) (ticks : ℕ) (from to : Place) → said ≡ NetworkInput.Tick ticks →
+    TakesIf result quiet (Outside.Given (NetworkInput.Tick ticks) ∷ []) from to → TakesInputIf result quiet said from to
+tick_taken quiet result said ticks from to is takes = (
+  Outside.Given said ∷ [],
+  no_time said,
+  subst (λ (i : NetworkInput). TakesIf result quiet (Outside.Given i ∷ []) from to) (sym is) takes,
+)
+
+-- what was executed, and what is left of it
+parts_of : (carried left : List Outside) (outside : List Outside) → outside ≡ carried ++ left → givens outside ≡ givens carried ++ givens left
+parts_of carried left outside e = ap givens e ∙ filter_map-append given_of carried left
+
 module _ (quiet : Bool) where
   pub line_is : {script : Script} {from here : Place} (n : ℕ) (line : List ℕ) (said : Option (Option NetworkInput)) (later : Script) →
       HasCome quiet script (with_network_line n (read_network_line (length from.net.motes) line) later) from here →
@@ -120,44 +174,129 @@ module _ (quiet : Bool) where
       subst (λ (o : Option (Option NetworkInput)). HasCome quiet script (with_network_line n o later) from here)
       (sym (is ∙ ap (λ (motes : ℕ). read_network_line motes line) same)) come
 
-  pub takes_for : (result : Result Bool RunFault) (said : NetworkInput) (number : ℕ) (input : Input) (motes : ℕ) (from to : Place) →
-      said ≡ NetworkInput.ForMote number input → is_for_some motes said ≡ true → TakesIf result quiet (NetworkInput.ForMote (number - 1 + 1) input ∷ []) from to →
-      TakesIf result quiet (said ∷ []) from to
-  takes_for result said number input motes from to is some takes =
-      let there : is_for_some motes (NetworkInput.ForMote number input) ≡ true = subst (λ (i : NetworkInput). is_for_some motes i ≡ true) is some in
-      let e : NetworkInput.ForMote (number - 1 + 1) input ≡ said = ap (λ (n : ℕ). NetworkInput.ForMote n input) (number_is motes number input there) ∙ sym is in
-      subst (λ (i : NetworkInput). TakesIf result quiet (i ∷ []) from to) e takes
+  -- the input of a line, for a mote that there is
+  pub number_for : (motes : ℕ) (said : NetworkInput) (number : ℕ) (input : Input) → said ≡ NetworkInput.ForMote number input →
+      is_for_some motes said ≡ true → number - 1 + 1 ≡ number
+  number_for motes said number input is some =
+      number_is motes number input (subst (λ (i : NetworkInput). is_for_some motes i ≡ true) is some)
+
+  -- the time for the mote of an input, and then the input
+  pub told_then : (result : Result Bool RunFault) (said : NetworkInput) (number : ℕ) (input : Input) (motes : ℕ) (from mid to : Place)
+      (times : List Outside) → said ≡ NetworkInput.ForMote number input → is_for_some motes said ≡ true → IsTimeFor (number - 1) times →
+      Went quiet times from mid → TakesIf result quiet (Outside.Given (NetworkInput.ForMote (number - 1 + 1) input) ∷ []) mid to →
+      TakesInputIf result quiet said from to
+  told_then result said number input motes from mid to times is some time went takes =
+      let n = number_for motes said number input is some in
+      let e : NetworkInput.ForMote (number - 1 + 1) input ≡ said = ap (λ (k : ℕ). NetworkInput.ForMote k input) n ∙ sym is in
+      let all : TakesIf result quiet (Outside.Given said ∷ []) mid to =
+      subst (λ (i : NetworkInput). TakesIf result quiet (Outside.Given i ∷ []) mid to) e takes in (
+        times ++ Outside.Given said ∷ [],
+        with_time (number - 1) number said input times time (sym n) is,
+        takes_after quiet result times (Outside.Given said ∷ []) from mid to went all,
+      )
+
+  -- no input after the time, since the rounds are used up
+  pub told_only : (said : NetworkInput) (number : ℕ) (input : Input) (motes : ℕ) (from to : Place) (times : List Outside) →
+      said ≡ NetworkInput.ForMote number input → is_for_some motes said ≡ true → IsTimeFor (number - 1) times → {rests : Bool} →
+      Takes quiet times rests from to → TakesInputIf (Ok false) quiet said from to
+  told_only said number input motes from to times is some time takes =
+      let n = number_for motes said number input is some in (
+        times ++ Outside.Given said ∷ [],
+        with_time (number - 1) number said input times time (sym n) is,
+        takes_before quiet (Outside.Given said ∷ []) takes,
+      )
+
+  -- or since there was a fault
+  pub told_fault : (said : NetworkInput) (number : ℕ) (input : Input) (motes : ℕ) (from to : Place) (times : List Outside) (fault : RunFault) →
+      said ≡ NetworkInput.ForMote number input → is_for_some motes said ≡ true → IsTimeFor (number - 1) times →
+      Faulted quiet times fault from to → TakesInputIf (Err fault) quiet said from to
+  told_fault said number input motes from to times fault is some time faulted =
+      let n = number_for motes said number input is some in (
+        times ++ Outside.Given said ∷ [],
+        with_time (number - 1) number said input times time (sym n) is,
+        faulted_before quiet (Outside.Given said ∷ []) faulted,
+      )
 
   pub come_nowhere : (script : Script) (here : Place) → HasCome quiet script script here here
-  come_nowhere script here = record { earlier = []; inputs = refl; ends = refl; went = went_nowhere quiet here }
+  come_nowhere script here =
+      record { earlier = []; inputs = refl; in_turn = λ more turn. turn; ends = refl; went = went_nowhere quiet here }
 
-  pub come_on : {script : Script} {input : NetworkInput} (later : Script) {from here to : Place} → HasCome quiet script (input ∷ later.0, later.1) from here →
-      Went quiet (input ∷ []) here to → HasCome quiet script later from to
-  come_on {input = input} later come went = record {
-    earlier = come.earlier ++ (input ∷ []);
-    inputs = come.inputs ∙ sym (append_assoc come.earlier (input ∷ []) later.0);
+  pub come_on : {script : Script} {input : NetworkInput} (later : Script) {from here to : Place} (outside : List Outside) →
+      HasCome quiet script (input ∷ later.0, later.1) from here → IsWithTime input outside → Went quiet outside here to →
+      HasCome quiet script later from to
+  come_on {input = input} later outside come is went = record {
+    earlier = come.earlier ++ outside;
+    inputs = come.inputs ∙ (ap (λ (v : List NetworkInput). givens come.earlier ++ (v ++ later.0)) (sym (given_with_time input outside is))
+        ∙ (sym (append_assoc (givens come.earlier) (givens outside) later.0)
+        ∙ ap (λ (v : List NetworkInput). v ++ later.0) (sym (filter_map-append given_of come.earlier outside))));
+    in_turn = λ more turn. subst AreInTurn (sym (append_assoc come.earlier outside more))
+        (come.in_turn (outside ++ more) (with_more input outside more is turn));
     ends = come.ends;
     went = went_on quiet come.went went;
   }
 
-  all_went : {script later : Script} {from here : Place} → HasCome quiet script later from here → later.0 ≡ [] → Went quiet script.0 from here
-  all_went {script} {later} {from} {here} come none =
-      subst (λ (inputs : List NetworkInput). Went quiet inputs from here)
-      (sym (come.inputs ∙ (ap (λ (left : List NetworkInput). come.earlier ++ left) none ∙ append-nil come.earlier))) come.went
-
   pub ends_bad : {script : Script} {n : ℕ} {from here : Place} → HasCome quiet script ([], End.BadLine n) from here → IsResting here.net →
       Ends quiet script (End.BadLine n) from here
-  ends_bad {here = here} come rests =
-      record { left = []; can = record { rests = rests; none_left = refl; says = come.ends }; stopped = all_carried quiet here.due (all_went come refl) }
-
-  pub ends_halted : {script : Script} {input : NetworkInput} (later : Script) {rests : Bool} {from here to : Place} →
-      HasCome quiet script (input ∷ later.0, later.1) from here → Takes quiet (input ∷ []) rests here to → IsSpent to.net → Ends quiet script End.Halted from to
-  ends_halted later {from = from} {to = to} come takes spent = record {
-    left = takes.left ++ later.0;
-    can = spent;
-    stopped = rw come.inputs (stopped_after quiet come.went (stopped_before quiet later.0 takes.stopped));
+  ends_bad {here = here} come rests = record {
+    left = [];
+    can = record { rests = rests; none_left = refl; says = come.ends };
+    stopped = record {
+      outside = come.earlier;
+      parts = come.inputs;
+      in_turn = subst AreInTurn (append-nil come.earlier) (come.in_turn [] tt);
+      went = come.went;
+    };
   }
 
-  pub faulted_in : {script : Script} {input : NetworkInput} (later : Script) {fault : RunFault} {from here to : Place} →
-      HasCome quiet script (input ∷ later.0, later.1) from here → Faulted quiet (input ∷ []) fault here to → Faulted quiet script.0 fault from to
-  faulted_in later come faulted = rw come.inputs (faulted_after quiet come.went (faulted_before quiet later.0 faulted))
+  -- no bytes are left
+  pub ends_finished : {script : Script} (motes n : ℕ) (rest : List ℕ) {from here : Place} → rest ≡ [] →
+      HasCome quiet script (read_network_lines motes n (script_lines rest)) from here → IsResting here.net → Ends quiet script End.Finished from here
+  ends_finished {script} motes n rest {from} {here} none came rests =
+      let come : HasCome quiet script ([], End.Finished) from here =
+      subst (λ (bytes : List ℕ). HasCome quiet script (read_network_lines motes n (script_lines bytes)) from here) none came in
+      record {
+        left = [];
+        can = record { rests = rests; none_left = refl; says = come.ends };
+        stopped = record {
+          outside = come.earlier;
+          parts = come.inputs;
+          in_turn = subst AreInTurn (append-nil come.earlier) (come.in_turn [] tt);
+          went = come.went;
+        };
+      }
+
+  -- the run stops amid an input
+  stopped_in : {script : Script} {input : NetworkInput} (later : Script) {from here to : Place} (outside left : List Outside) (lost : List ℕ) →
+      HasCome quiet script (input ∷ later.0, later.1) from here → IsWithTime input outside → Stopped quiet outside left lost here to →
+      RunStopped quiet script.0 (givens left ++ later.0) lost from to
+  stopped_in {input = input} later outside left lost come is stopped = record {
+    outside = come.earlier ++ stopped.carried;
+    parts = come.inputs ∙ (ap (λ (v : List NetworkInput). givens come.earlier ++ (v ++ later.0))
+        (sym (given_with_time input outside is) ∙ parts_of stopped.carried left outside stopped.parts)
+        ∙ (ap (λ (v : List NetworkInput). givens come.earlier ++ v) (append_assoc (givens stopped.carried) (givens left) later.0)
+        ∙ (sym (append_assoc (givens come.earlier) (givens stopped.carried) (givens left ++ later.0))
+        ∙ ap (λ (v : List NetworkInput). v ++ (givens left ++ later.0)) (sym (filter_map-append given_of come.earlier stopped.carried)))));
+    in_turn = come.in_turn stopped.carried
+        (in_front stopped.carried left (subst AreInTurn (append-nil outside ∙ stopped.parts) (with_more input outside [] is tt)));
+    went = went_on quiet come.went stopped.went;
+  }
+
+  pub ends_halted : {script : Script} {input : NetworkInput} (later : Script) {rests : Bool} {from here to : Place} (outside : List Outside) →
+      HasCome quiet script (input ∷ later.0, later.1) from here → IsWithTime input outside → Takes quiet outside rests here to → IsSpent to.net →
+      Ends quiet script End.Halted from to
+  ends_halted later {to = to} outside come is takes spent = record {
+    left = givens takes.left ++ later.0;
+    can = spent;
+    stopped = stopped_in later outside takes.left to.due come is takes.stopped;
+  }
+
+  pub faulted_in : {script : Script} {input : NetworkInput} (later : Script) {fault : RunFault} {from here to : Place} (outside : List Outside) →
+      HasCome quiet script (input ∷ later.0, later.1) from here → IsWithTime input outside → Faulted quiet outside fault here to →
+      RunFaulted quiet script.0 fault from to
+  faulted_in later outside come is faulted = record {
+    left = givens faulted.left ++ later.0;
+    lost = faulted.lost;
+    kept = faulted.kept;
+    voices = faulted.voices;
+    stopped = stopped_in later outside faulted.left faulted.lost come is faulted.stopped;
+  }

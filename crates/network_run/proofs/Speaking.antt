@@ -14,7 +14,7 @@ use Rattle.mote_types.specs.declared.event.Origin.{Origin}
 use Rattle.mote_types.specs.declared.event.Pid.{Pid}
 use Rattle.mote_types.specs.declared.event.Stimulus.{Stimulus}
 use Rattle.network_session.specs.Happenings.{Happening, entry_of}
-use Rattle.network_session.specs.Logs.{happened, heard_by, made, submitted, told_by}
+use Rattle.network_session.specs.Logs.{happened, heard_by, made, told_by}
 use Rattle.network_session.specs.Network.{NetworkView}
 use Rattle.network_session.specs.Steps.{IsNetworkSubmitted, Steps, Worked}
 use Rattle.network_session.specs.declared.outcome.Outcome.{Outcome}

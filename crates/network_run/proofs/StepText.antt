@@ -1,5 +1,5 @@
 -- The text of a step is that of what happened in it.
-use Rattle.std.proofs.Common.{◌≡◌, ℕ, Bool, true, false, not, List, [], ◌∷◌, ◌++◌, refl, ap, sym, ◌∙◌, append-nil, slice_get, is_some, codes, Option, None, Some, IsSomeAnd}
+use Rattle.std.proofs.Common.{◌≡◌, ℕ, Bool, false, not, List, [], ◌∷◌, ◌++◌, refl, ap, sym, ◌∙◌, append-nil, slice_get, is_some, codes, Option, None, Some, IsSomeAnd}
 use Rattle.medium_core.specs.Air.{Air, arrival}
 use Rattle.medium_core.specs.Laws.{all_done}
 use Rattle.medium_core.specs.declared.flight.Flight.{Flight}

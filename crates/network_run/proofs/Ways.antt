@@ -1,16 +1,18 @@
 -- Ways of a run, one after the other.
 use Rattle.std.proofs.Common.{◌≡◌, ℕ, Bool, true, false, List, [], ◌∷◌, ◌++◌, refl, ap, sym, subst, ◌∙◌, append_assoc, append-nil, Result, Ok, Err, IfErr, IsErrAnd, OnOk, MatchResult}
 use Rattle.network_session.specs.Network.{NetworkView}
-use Rattle.network_run.specs.Code.Way.{Faulted, Goes, Place, Stopped, Takes, TakesIf, Went, is_write, place}
+use Rattle.network_run.specs.Code.Way.{Faulted, Goes, Place, Stopped, Takes, TakesIf, TakesInputIf, Went, is_write, place}
+use Rattle.std.proofs.lemmas.List.Elements.{filter_map-append}
 use Rattle.network_run.specs.Code.Writing.{Puts, WritesOn}
 use Rattle.network_run.specs.declared.fault.RunFault.{RunFault}
 use Rattle.network_run.specs.Code.Calls.{Speaks}
 use Rattle.mote_session.specs.Voices.{Voices}
 use Rattle.network_run.proofs.Speaking.{speak_on}
 use Rattle.network_run.proofs.Writing.{nothing_more, then_written}
-use Rattle.network_text.specs.NetworkRuns.{IsMove, Move, after_move, inputs_of, move_lines}
+use Rattle.network_run.specs.Outside.{Outside, all_outside, outside_of}
+use Rattle.network_text.specs.NetworkRuns.{IsMove, Move, after_move, move_lines}
 use Rattle.network_text.specs.declared.input.NetworkInput.{NetworkInput}
-use Rattle.network_text.proofs.Moves.{inputs_on, leads_on, text_on}
+use Rattle.network_text.proofs.Moves.{leads_on, text_on}
 
 only_write : (fault : RunFault) {lost due : List ℕ} → fault ≡ RunFault.Write → is_write fault ≡ false → lost ≡ due
 only_write fault is not = let yes : is_write fault ≡ true = ap is_write is in absurd (cc)
@@ -20,6 +22,12 @@ pub fault_on : {T : Type 0} (result : Result T RunFault) (P : T → Type 0) (Q :
     IsErrAnd result (λ (handed : RunFault). handed ≡ fault) → Q fault → MatchResult result P Q
 fault_on (Ok x) P Q fault is q = absurd is
 fault_on (Err handed) P Q fault is q = subst Q (sym is) q
+
+pub input_fault_on : (quiet : Bool) (result : Result Bool RunFault) (input : NetworkInput) (from to : Place) (fault : RunFault) →
+    IsErrAnd result (λ (handed : RunFault). handed ≡ fault) → TakesInputIf (Err fault) quiet input from to → TakesInputIf result quiet input from to
+input_fault_on quiet (Ok x) input from to fault is takes = absurd is
+input_fault_on quiet (Err handed) input from to fault is takes =
+    subst (λ (one : RunFault). TakesInputIf (Err one) quiet input from to) (sym is) takes
 
 -- what holds anyway holds of an answer
 pub on_ok : {T P Q : Type 0} (result : Result T RunFault) → (P → Q) → OnOk result P → OnOk result Q
@@ -34,26 +42,26 @@ module _ (quiet : Bool) where
   pub went_nowhere : (here : Place) → Went quiet [] here here
   went_nowhere here = record { moves = []; leads = refl; calls = refl; carried = refl; writes = nothing_more here.given here.due }
 
-  pub went_on : {inputs more : List NetworkInput} {from mid to : Place} → Went quiet inputs from mid → Went quiet more mid to → Went quiet (inputs ++ more) from to
-  went_on {inputs} {more} {from} {mid} {to} first second = record {
+  pub went_on : {outside more : List Outside} {from mid to : Place} → Went quiet outside from mid → Went quiet more mid to → Went quiet (outside ++ more) from to
+  went_on {outside} {more} {from} {mid} {to} first second = record {
     moves = first.moves ++ second.moves;
     leads = leads_on first.moves second.moves from.net mid.net to.net first.leads second.leads;
     calls = speak_on first.moves second.moves from.net mid.net from.voices mid.voices to.voices first.leads first.calls second.calls;
-    carried = inputs_on first.moves second.moves ∙ (ap (λ (v : List NetworkInput). v ++ inputs_of second.moves) first.carried ∙ ap (λ (v : List NetworkInput). inputs ++ v) second.carried);
+    carried = filter_map-append outside_of first.moves second.moves ∙ (ap (λ (v : List Outside). v ++ all_outside second.moves) first.carried ∙ ap (λ (v : List Outside). outside ++ v) second.carried);
     writes = subst (λ (text : List ℕ). WritesOn from.given from.due to.given to.due text)
         (sym (text_on quiet first.moves second.moves from.net mid.net first.leads)) (then_written first.writes second.writes);
   }
 
-  -- with no further input
-  pub went_further : {inputs : List NetworkInput} {from mid to : Place} → Went quiet inputs from mid → Went quiet [] mid to → Went quiet inputs from to
-  went_further {inputs} {from} {mid} {to} first second = subst (λ (all : List NetworkInput). Went quiet all from to) (append-nil inputs) (went_on first second)
+  -- with nothing more from outside
+  pub went_further : {outside : List Outside} {from mid to : Place} → Went quiet outside from mid → Went quiet [] mid to → Went quiet outside from to
+  went_further {outside} {from} {mid} {to} first second = subst (λ (all : List Outside). Went quiet all from to) (append-nil outside) (went_on first second)
 
   -- one move
-  pub went_move : (move : Move) (inputs : List NetworkInput) (old new : NetworkView) {given due given_later due_later : List ℕ} {voices later : Voices} →
-      IsMove old move → after_move move ≡ new → Speaks old move voices later → inputs_of (move ∷ []) ≡ inputs →
+  pub went_move : (move : Move) (outside : List Outside) (old new : NetworkView) {given due given_later due_later : List ℕ} {voices later : Voices} →
+      IsMove old move → after_move move ≡ new → Speaks old move voices later → all_outside (move ∷ []) ≡ outside →
       WritesOn given due given_later due_later (move_lines quiet old move) →
-      Went quiet inputs (place given due old voices) (place given_later due_later new later)
-  went_move move inputs old new {given} {due} {given_later} {due_later} {later = later} is after speaks carried writes = record {
+      Went quiet outside (place given due old voices) (place given_later due_later new later)
+  went_move move outside old new {given} {due} {given_later} {due_later} {later = later} is after speaks carried writes = record {
     moves = move ∷ [];
     leads = (is, after);
     calls = (later, speaks, refl);
@@ -62,118 +70,118 @@ module _ (quiet : Bool) where
   }
 
   -- a move with no line
-  pub went_mute : (move : Move) (inputs : List NetworkInput) (old new : NetworkView) (given due : List ℕ) (voices later : Voices) →
-      IsMove old move → after_move move ≡ new → Speaks old move voices later → inputs_of (move ∷ []) ≡ inputs → move_lines quiet old move ≡ [] →
-      Went quiet inputs (place given due old voices) (place given due new later)
-  went_mute move inputs old new given due voices later is after speaks carried none =
-      went_move move inputs old new is after speaks carried (subst (λ (text : List ℕ). WritesOn given due given due text) (sym none) (nothing_more given due))
+  pub went_mute : (move : Move) (outside : List Outside) (old new : NetworkView) (given due : List ℕ) (voices later : Voices) →
+      IsMove old move → after_move move ≡ new → Speaks old move voices later → all_outside (move ∷ []) ≡ outside → move_lines quiet old move ≡ [] →
+      Went quiet outside (place given due old voices) (place given due new later)
+  went_mute move outside old new given due voices later is after speaks carried none =
+      went_move move outside old new is after speaks carried (subst (λ (text : List ℕ). WritesOn given due given due text) (sym none) (nothing_more given due))
 
   -- nothing is left, and nothing is lost but by a write
-  pub all_carried : {inputs : List NetworkInput} {from to : Place} (lost : List ℕ) → Went quiet inputs from (record to { due = lost }) → Stopped quiet inputs [] lost from to
-  all_carried {inputs} lost went = record { carried = inputs; parts = sym (append-nil inputs); went = went }
+  pub all_carried : {outside : List Outside} {from to : Place} (lost : List ℕ) → Went quiet outside from (record to { due = lost }) → Stopped quiet outside [] lost from to
+  all_carried {outside} lost went = record { carried = outside; parts = sym (append-nil outside); went = went }
 
   -- a move whose lines are put
-  pub goes_move : {T : Type 0} (result : Result T RunFault) (move : Move) (inputs : List NetworkInput) (old new : NetworkView) (given due given_later due_later : List ℕ)
-      (voices later : Voices) → IsMove old move → after_move move ≡ new → Speaks old move voices later → inputs_of (move ∷ []) ≡ inputs →
+  pub goes_move : {T : Type 0} (result : Result T RunFault) (move : Move) (outside : List Outside) (old new : NetworkView) (given due given_later due_later : List ℕ)
+      (voices later : Voices) → IsMove old move → after_move move ≡ new → Speaks old move voices later → all_outside (move ∷ []) ≡ outside →
       IfErr result (λ fault. fault ≡ RunFault.Write) → Puts result given due given_later due_later (move_lines quiet old move) →
-      Goes result quiet inputs (place given due old voices) (place given_later due_later new later)
-  goes_move (Ok x) move inputs old new given due given_later due_later voices later is after speaks carried write puts =
-      went_move move inputs old new is after speaks carried puts
-  goes_move (Err fault) move inputs old new given due given_later due_later voices later is after speaks carried write puts = record {
+      Goes result quiet outside (place given due old voices) (place given_later due_later new later)
+  goes_move (Ok x) move outside old new given due given_later due_later voices later is after speaks carried write puts =
+      went_move move outside old new is after speaks carried puts
+  goes_move (Err fault) move outside old new given due given_later due_later voices later is after speaks carried write puts = record {
     left = [];
     lost = puts.0;
     kept = only_write fault write;
     voices = later;
-    stopped = record { carried = inputs; parts = sym (append-nil inputs); went = went_move move inputs old new is after speaks carried puts.1 };
+    stopped = record { carried = outside; parts = sym (append-nil outside); went = went_move move outside old new is after speaks carried puts.1 };
   }
 
   -- and before that, others
 
-  pub stopped_after : {inputs more left : List NetworkInput} {lost : List ℕ} {from mid to : Place} → Went quiet inputs from mid → Stopped quiet more left lost mid to →
-      Stopped quiet (inputs ++ more) left lost from to
-  stopped_after {inputs} {more} {left} first second = record {
-    carried = inputs ++ second.carried;
-    parts = ap (λ (v : List NetworkInput). inputs ++ v) second.parts ∙ sym (append_assoc inputs second.carried left);
+  pub stopped_after : {outside more left : List Outside} {lost : List ℕ} {from mid to : Place} → Went quiet outside from mid → Stopped quiet more left lost mid to →
+      Stopped quiet (outside ++ more) left lost from to
+  stopped_after {outside} {more} {left} first second = record {
+    carried = outside ++ second.carried;
+    parts = ap (λ (v : List Outside). outside ++ v) second.parts ∙ sym (append_assoc outside second.carried left);
     went = went_on first second.went;
   }
 
-  pub faulted_after : {inputs more : List NetworkInput} {fault : RunFault} {from mid to : Place} → Went quiet inputs from mid → Faulted quiet more fault mid to →
-      Faulted quiet (inputs ++ more) fault from to
+  pub faulted_after : {outside more : List Outside} {fault : RunFault} {from mid to : Place} → Went quiet outside from mid → Faulted quiet more fault mid to →
+      Faulted quiet (outside ++ more) fault from to
   faulted_after first second = record { left = second.left; lost = second.lost; kept = second.kept; voices = second.voices; stopped = stopped_after first second.stopped }
 
-  pub goes_after : {T : Type 0} (result : Result T RunFault) (inputs more : List NetworkInput) (from mid to : Place) → Went quiet inputs from mid →
-      Goes result quiet more mid to → Goes result quiet (inputs ++ more) from to
-  goes_after (Ok x) inputs more from mid to first goes = went_on first goes
-  goes_after (Err fault) inputs more from mid to first goes = faulted_after first goes
+  pub goes_after : {T : Type 0} (result : Result T RunFault) (outside more : List Outside) (from mid to : Place) → Went quiet outside from mid →
+      Goes result quiet more mid to → Goes result quiet (outside ++ more) from to
+  goes_after (Ok x) outside more from mid to first goes = went_on first goes
+  goes_after (Err fault) outside more from mid to first goes = faulted_after first goes
 
-  -- before further inputs
+  -- before further things
 
-  pub stopped_before : {inputs left : List NetworkInput} (more : List NetworkInput) {lost : List ℕ} {from to : Place} → Stopped quiet inputs left lost from to →
-      Stopped quiet (inputs ++ more) (left ++ more) lost from to
+  pub stopped_before : {outside left : List Outside} (more : List Outside) {lost : List ℕ} {from to : Place} → Stopped quiet outside left lost from to →
+      Stopped quiet (outside ++ more) (left ++ more) lost from to
   stopped_before {left = left} more first = record {
     carried = first.carried;
-    parts = ap (λ (v : List NetworkInput). v ++ more) first.parts ∙ append_assoc first.carried left more;
+    parts = ap (λ (v : List Outside). v ++ more) first.parts ∙ append_assoc first.carried left more;
     went = first.went;
   }
 
-  pub faulted_before : {inputs : List NetworkInput} (more : List NetworkInput) {fault : RunFault} {from to : Place} → Faulted quiet inputs fault from to →
-      Faulted quiet (inputs ++ more) fault from to
+  pub faulted_before : {outside : List Outside} (more : List Outside) {fault : RunFault} {from to : Place} → Faulted quiet outside fault from to →
+      Faulted quiet (outside ++ more) fault from to
   faulted_before more first = record { left = first.left ++ more; lost = first.lost; kept = first.kept; voices = first.voices; stopped = stopped_before more first.stopped }
 
   -- whatever the application said that has no such turn
-  pub faulted_mute : (inputs : List NetworkInput) (fault : RunFault) (given due : List ℕ) (net : NetworkView) (voices later : Voices) →
-      Faulted quiet inputs fault (place given due net voices) (place given due net later)
-  faulted_mute inputs fault given due net voices later = record {
-    left = inputs;
+  pub faulted_mute : (outside : List Outside) (fault : RunFault) (given due : List ℕ) (net : NetworkView) (voices later : Voices) →
+      Faulted quiet outside fault (place given due net voices) (place given due net later)
+  faulted_mute outside fault given due net voices later = record {
+    left = outside;
     lost = due;
     kept = λ not. refl;
     voices = voices;
     stopped = record { carried = []; parts = refl; went = went_nowhere (place given due net voices) };
   }
 
-  -- an input is carried out, and the network rests after it, or not
-  pub takes_all : (result : Result Bool RunFault) (inputs : List NetworkInput) (from to : Place) → Goes result quiet inputs from to → TakesIf result quiet inputs from to
-  takes_all (Ok rests) inputs from to went = record { left = []; all = λ yes. refl; stopped = all_carried to.due went }
-  takes_all (Err fault) inputs from to faulted = faulted
+  -- something comes, and the network rests after it, or not
+  pub takes_all : (result : Result Bool RunFault) (outside : List Outside) (from to : Place) → Goes result quiet outside from to → TakesIf result quiet outside from to
+  takes_all (Ok rests) outside from to went = record { left = []; all = λ yes. refl; stopped = all_carried to.due went }
+  takes_all (Err fault) outside from to faulted = faulted
 
   -- a network that refuses is as it was
-  pub faulted_same : (inputs : List NetworkInput) (fault : RunFault) (given due : List ℕ) (old new : NetworkView) (voices later : Voices) → new ≡ old →
-      Faulted quiet inputs fault (place given due old voices) (place given due new later)
-  faulted_same inputs fault given due old new voices later same = rw same (faulted_mute inputs fault given due old voices later)
+  pub faulted_same : (outside : List Outside) (fault : RunFault) (given due : List ℕ) (old new : NetworkView) (voices later : Voices) → new ≡ old →
+      Faulted quiet outside fault (place given due old voices) (place given due new later)
+  faulted_same outside fault given due old new voices later same = rw same (faulted_mute outside fault given due old voices later)
 
   -- a move whose lines are lost
-  pub faulted_move : (fault : RunFault) (move : Move) (inputs : List NetworkInput) (old new : NetworkView) (given due given_later due_later lost : List ℕ)
-      (voices later : Voices) → IsMove old move → after_move move ≡ new → Speaks old move voices later → inputs_of (move ∷ []) ≡ inputs → fault ≡ RunFault.Write →
+  pub faulted_move : (fault : RunFault) (move : Move) (outside : List Outside) (old new : NetworkView) (given due given_later due_later lost : List ℕ)
+      (voices later : Voices) → IsMove old move → after_move move ≡ new → Speaks old move voices later → all_outside (move ∷ []) ≡ outside → fault ≡ RunFault.Write →
       WritesOn given due given_later lost (move_lines quiet old move) →
-      Faulted quiet inputs fault (place given due old voices) (place given_later due_later new later)
-  faulted_move fault move inputs old new given due given_later due_later lost voices later is after speaks carried write writes = record {
+      Faulted quiet outside fault (place given due old voices) (place given_later due_later new later)
+  faulted_move fault move outside old new given due given_later due_later lost voices later is after speaks carried write writes = record {
     left = [];
     lost = lost;
     kept = only_write fault write;
     voices = later;
-    stopped = record { carried = inputs; parts = sym (append-nil inputs); went = went_move move inputs old new is after speaks carried writes };
+    stopped = record { carried = outside; parts = sym (append-nil outside); went = went_move move outside old new is after speaks carried writes };
   }
 
-  -- the network rests after the inputs
+  -- the network rests after that
 
-  pub takes_went : {inputs : List NetworkInput} {from to : Place} → Went quiet inputs from to → Takes quiet inputs true from to
+  pub takes_went : {outside : List Outside} {from to : Place} → Went quiet outside from to → Takes quiet outside true from to
   takes_went {to = to} went = record { left = []; all = λ yes. refl; stopped = all_carried to.due went }
 
   pub takes_same : (given due : List ℕ) (old new : NetworkView) (voices : Voices) → new ≡ old →
       Takes quiet [] true (place given due old voices) (place given due new voices)
   takes_same given due old new voices same = rw same (takes_went (went_nowhere (place given due old voices)))
 
-  pub went_of : {inputs : List NetworkInput} {rests : Bool} {from to : Place} → Takes quiet inputs rests from to → rests ≡ true → Went quiet inputs from to
-  went_of {inputs} {from = from} {to = to} takes rests =
-      subst (λ (all : List NetworkInput). Went quiet all from to)
-      (sym (takes.stopped.parts ∙ (ap (λ (left : List NetworkInput). takes.stopped.carried ++ left) (takes.all rests) ∙ append-nil takes.stopped.carried)))
+  pub went_of : {outside : List Outside} {rests : Bool} {from to : Place} → Takes quiet outside rests from to → rests ≡ true → Went quiet outside from to
+  went_of {outside} {from = from} {to = to} takes rests =
+      subst (λ (all : List Outside). Went quiet all from to)
+      (sym (takes.stopped.parts ∙ (ap (λ (left : List Outside). takes.stopped.carried ++ left) (takes.all rests) ∙ append-nil takes.stopped.carried)))
       takes.stopped.went
 
-  pub takes_after : (result : Result Bool RunFault) (inputs more : List NetworkInput) (from mid to : Place) → Went quiet inputs from mid →
-      TakesIf result quiet more mid to → TakesIf result quiet (inputs ++ more) from to
-  takes_after (Ok rests) inputs more from mid to first takes = record { left = takes.left; all = takes.all; stopped = stopped_after first takes.stopped }
-  takes_after (Err fault) inputs more from mid to first faulted = faulted_after first faulted
+  pub takes_after : (result : Result Bool RunFault) (outside more : List Outside) (from mid to : Place) → Went quiet outside from mid →
+      TakesIf result quiet more mid to → TakesIf result quiet (outside ++ more) from to
+  takes_after (Ok rests) outside more from mid to first takes = record { left = takes.left; all = takes.all; stopped = stopped_after first takes.stopped }
+  takes_after (Err fault) outside more from mid to first faulted = faulted_after first faulted
 
-  pub takes_before : {inputs : List NetworkInput} {rests : Bool} {from to : Place} (more : List NetworkInput) → Takes quiet inputs rests from to →
-      Takes quiet (inputs ++ more) false from to
+  pub takes_before : {outside : List Outside} {rests : Bool} {from to : Place} (more : List Outside) → Takes quiet outside rests from to →
+      Takes quiet (outside ++ more) false from to
   takes_before more takes = record { left = takes.left ++ more; all = λ yes. absurd (cc); stopped = stopped_before more takes.stopped }

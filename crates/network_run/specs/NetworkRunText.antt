@@ -9,6 +9,7 @@ use Rattle.network_session.specs.Schedule.{due_step}
 use Rattle.network_session.specs.declared.outcome.Outcome.{Outcome}
 use Rattle.network_run.specs.declared.fault.RunFault.{RunFault}
 use Rattle.mote_session.specs.Voices.{Voices}
+use Rattle.network_run.specs.Outside.{AreInTurn, all_outside}
 use Rattle.network_run.specs.Voices.{MakeTheCalls}
 use Rattle.network_text.specs.NetworkRuns.{IsResting, Leads, Move, inputs_of, log_of, moves_text}
 use Rattle.network_text.specs.NetworkText.{last_line}
@@ -48,7 +49,7 @@ ending_text None = []
 ending_text (Some end) = last_line end
 
 -- Moves of a network from its start on: they carry out the script's inputs, in order, up to those that are left, with the calls of
--- these applications. Their text was written but for the rest
+-- these applications; a mote gets the time only before an input. Their text was written but for the rest
 pub record NetworkRan (quiet : Bool) (start : NetworkView) (voices : Voices) (script : List NetworkInput × End)
     (written rest : List ℕ) (ending : Option End) : Type 0 where
   pub moves : List Move
@@ -56,6 +57,7 @@ pub record NetworkRan (quiet : Bool) (start : NetworkView) (voices : Voices) (sc
   pub leads : Leads start moves net
   pub left : List NetworkInput
   pub inputs : script.0 ≡ inputs_of moves ++ left
+  pub in_turn : AreInTurn (all_outside moves)
   pub calls : MakeTheCalls voices (log_of start moves)
   pub ends : IfSome ending (λ end. CanEnd net left script.1 end)
   pub is_text : written ++ rest ≡ moves_text quiet start moves ++ ending_text ending

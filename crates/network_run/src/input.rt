@@ -2,7 +2,8 @@
 
 ghost use Rattle.std.specs.Prelude.{◌≡◌, ◌<◌, ◌+◌, ◌-◌, ◌^◌, ◌∷◌, [], true, length, slice_get, IfOk, IsSomeAnd};
 ghost use Rattle.mote_session.specs.SessionView.{SessionView};
-ghost use Rattle.network_run.specs.Code.Way.{CountsFaults, RestsIf, TakesIf, place};
+ghost use Rattle.network_run.specs.Code.Way.{CountsFaults, RestsIf, TakesIf, TakesInputIf, TellsIf, place};
+ghost use Rattle.network_run.specs.Outside.{Outside};
 ghost use Rattle.network_text.specs.NetworkRuns.{IsResting};
 ghost use Rattle.network_text.specs.NetworkScript.{is_for_some};
 ghost use Rattle.network_text.specs.declared.input.NetworkInput.{NetworkInput};
@@ -48,7 +49,7 @@ fn pass_time<K: ByteSink, H: Caller>(
 ) -> Result<bool, RunFault>
     requires rests { IsResting network.old }
     requires countable { K.failure_count sink.old < 2 ^ 64 - 1 }
-    ensures takes { K.is_named → TakesIf result quiet (NetworkInput.Tick ticks ∷ [])
+    ensures takes { K.is_named → TakesIf result quiet (Outside.Given (NetworkInput.Tick ticks) ∷ [])
         (place (K.given sink.old) text.old.due.items network.old (H.voices caller.old))
         (place (K.given sink.new) text.new.due.items network.new (H.voices caller.new)) }
     ensures rests { IfOk result (λ rests. RestsIf rests network.new) }
@@ -71,7 +72,7 @@ fn catch_up<K: ByteSink, H: Caller>(
 ) -> Result<bool, RunFault>
     requires rests { IsResting network.old }
     requires countable { K.failure_count sink.old < 2 ^ 64 - 1 }
-    ensures takes { K.is_named → TakesIf result quiet []
+    ensures takes { K.is_named → TellsIf result quiet mote
         (place (K.given sink.old) text.old.due.items network.old (H.voices caller.old))
         (place (K.given sink.new) text.new.due.items network.new (H.voices caller.new)) }
     ensures rests { IfOk result (λ rests. RestsIf rests network.new) }
@@ -107,7 +108,7 @@ fn feed<K: ByteSink, H: Caller>(
 ) -> Result<bool, RunFault>
     requires rests { IsResting network.old }
     requires countable { K.failure_count sink.old < 2 ^ 64 - 1 }
-    ensures takes { K.is_named → TakesIf result quiet (NetworkInput.ForMote (mote + 1) input ∷ [])
+    ensures takes { K.is_named → TakesIf result quiet (Outside.Given (NetworkInput.ForMote (mote + 1) input) ∷ [])
         (place (K.given sink.old) text.old.due.items network.old (H.voices caller.old))
         (place (K.given sink.new) text.new.due.items network.new (H.voices caller.new)) }
     ensures rests { IfOk result (λ rests. RestsIf rests network.new) }
@@ -135,7 +136,7 @@ pub(crate) fn take_input<K: ByteSink, H: Caller>(
     requires rests { IsResting network.old }
     requires for_some { is_for_some (length network.old.motes) input ≡ true }
     requires countable { K.failure_count sink.old < 2 ^ 64 - 1 }
-    ensures takes { K.is_named → TakesIf result quiet (input ∷ [])
+    ensures takes { K.is_named → TakesInputIf result quiet input
         (place (K.given sink.old) text.old.due.items network.old (H.voices caller.old))
         (place (K.given sink.new) text.new.due.items network.new (H.voices caller.new)) }
     ensures rests { IfOk result (λ rests. RestsIf rests network.new) }

@@ -8,4 +8,4 @@ pub mod run;
 pub mod script;
 mod settle;
 mod steps;
-mod write;
+pub mod write;

@@ -1,7 +1,7 @@
 //! The run of a network.
 
 ghost use Rattle.std.specs.Prelude.{◌≡◌, ◌<◌, ◌+◌, ◌-◌, ◌^◌, [], ℕ, Bool, List, None, false, length, IfOk};
-ghost use Rattle.network_run.specs.Code.Way.{CountsFaults, Ends, Faulted, HasCome, LineRuns, Place, Reading, RunsIf, is_write, place};
+ghost use Rattle.network_run.specs.Code.Way.{CountsFaults, Ends, HasCome, LineRuns, Place, Reading, RunFaulted, RunsIf, is_write, place};
 ghost use Rattle.network_run.specs.NetworkRunText.{Gives, HasRun, script_lines};
 ghost use Rattle.mote_session.specs.Voices.{Voices};
 ghost use Rattle.network_session.specs.Network.{NetworkView};
@@ -138,7 +138,7 @@ fn fail<K: ByteSink>(sink: &mut K, text: &mut PendingText, fault: RunFault) -> R
     requires countable { is_write fault ≡ false → K.failure_count sink.old < 2 ^ 64 - 1 }
     ensures ran { K.is_named →
         (quiet : Bool) (script : Reading) (start net : NetworkView) (voices later : Voices) (given : List ℕ) →
-        Faulted quiet script.0 fault (place given [] start voices) (place (K.given sink.old) text.old.due.items net later) →
+        RunFaulted quiet script.0 fault (place given [] start voices) (place (K.given sink.old) text.old.due.items net later) →
         Gives given (K.given sink.new) (λ written. HasRun quiet start voices script written result) }
 {
     texts_go_on();
@@ -153,8 +153,9 @@ fn fail<K: ByteSink>(sink: &mut K, text: &mut PendingText, fault: RunFault) -> R
 /// `quiet` is true, only the lines of a quiet transcript. First the motes are started. Then each line's input is executed, at rest,
 /// until the network rests again, or the input has used up its rounds: that ends the run. A malformed line ends it, too.
 ///
-/// What is written is the text of the moves that the network made, with the calls of the caller's applications, and the last line. A
-/// network that has just booted keeps its promise.
+/// What is written is the text of the moves that the network made, with the calls of the caller's applications, and the last line. A mote
+/// gets the time only where a timer is due, a frame arrives, or right before an input of its own. A network that has just booted keeps its
+/// promise.
 ///
 /// # Errors
 ///

@@ -9,7 +9,7 @@ use mote_types::device::ByteSink;
 /// Writes all bytes. Where a write fails, a prefix of them was written.
 // Out of the way of lines, many of which are written at once.
 #[inline(never)]
-pub(crate) fn write_all<K: ByteSink>(sink: &mut K, bytes: &[u8]) -> Result<(), RunFault>
+pub fn write_all<K: ByteSink>(sink: &mut K, bytes: &[u8]) -> Result<(), RunFault>
     requires countable { K.failure_count sink.old < 2 ^ 64 - 1 }
     ensures given { OnOk result (K.is_named → K.given sink.new ≡ K.given sink.old ++ bytes.now) }
     ensures prefix { OnErr result (K.is_named → (n : ℕ) × (K.given sink.new ≡ K.given sink.old ++ take n bytes.now)) }

@@ -1,11 +1,15 @@
 -- Where a text is cut.
-use Rattle.std.proofs.Common.{◌≡◌, ℕ, zero, suc, ◌<◌, ◌≤◌, Bool, true, false, List, [], ◌∷◌, ◌++◌, length, take, drop, Option, Some, None, Result, Ok, Err, IfOk, codes, bytes_eq, refl, ap, sym, ◌∙◌, arith}
+use Rattle.std.proofs.Common.{◌≡◌, ℕ, zero, suc, ◌<◌, ◌≤◌, Bool, true, false, List, [], ◌∷◌, ◌++◌, length, take, drop, Option, Some, None, Result, Ok, Err, IfOk, codes, bytes_eq, lit<, refl, ap, sym, ◌∙◌, arith}
 use Rattle.std.proofs.lemmas.List.{drop_at, length-append, length-drop, take-append-drop, take_at}
 use Rattle.std.proofs.lemmas.Slice.Eq.{bytes_eq-Decides}
 use Rattle.std.specs.Str.Pattern.{LacksTextAt}
 use Rattle.mote_text.specs.Script.{argument_of}
-use Rattle.network_setup.specs.Lines.{cut_at, span_said, words_of}
+use Rattle.network_setup.specs.FirstLines.{DoesSaid, SaysNothing}
+use Rattle.network_setup.specs.Lines.{cut_at, line_said, span_said, words_of}
 use Rattle.network_setup.specs.MoteLines.{list_said, with_calls}
+use Rattle.network_setup.specs.Setting.{Does, IfMalformed}
+use Rattle.network_setup.specs.SetupView.{SetupView}
+use Rattle.network_setup.specs.declared.fault.LineFault.{LineFault}
 use Rattle.network_setup.specs.declared.words.Span.{Span}
 
 is_not : (b : Bool) → (b ≡ true → ⊥) → b ≡ false
@@ -44,27 +48,23 @@ module _ (mark : List ℕ) (some : 0 < length mark) where
       let later = cut_first text i rest (λ k h. none (suc k) (omega arith)) here in
       rw (apart, later) refl
 
--- a line that begins with this text has an argument
-pub has_argument : (mark line rest : List ℕ) → 0 < length mark → line ≡ mark ++ rest → argument_of mark line ≡ None → ⊥
-has_argument mark line rest some here none =
-    let yes = begins mark some line rest here in
-    let not_none : Some (drop (length mark) line) ≡ None = rw yes at none in
-    absurd (cc)
-
 pub argument_none : (mark line : List ℕ) → 0 < length mark → LacksTextAt mark line 0 → argument_of mark line ≡ None
 argument_none mark line some none = rw (begins_not mark some line none) refl
-
-pub none_is_some : {A : Type 0} {a : A} (o : Option A) → o ≡ None → o ≡ Some a → ⊥
-none_is_some o none some = let same = sym none ∙ some in absurd (cc)
 
 -- the list after the word `calls` and a space
 pub list_after : (text rest calls : List ℕ) → text ≡ codes " " ++ rest → calls ≡ rest → 0 < length calls → list_said text ≡ Some calls
 list_after text [] calls e same some = absurd (omega (arith, some, ap (length {A = ℕ}) same))
 list_after text (byte ∷ rest) calls e same some = rw (e, same) refl
 
-pub if_ok : {A E : Type 0} {P : A → Type 0} (r : Result A E) → ((a : A) → P a) → IfOk r P
-if_ok (Ok a) all = all a
-if_ok (Err e) all = tt
+-- no list: without the space, or with nothing after it
+pub no_list_lacking : (text : List ℕ) → 0 < length text → LacksTextAt (codes " ") text 0 → list_said text ≡ None
+no_list_lacking [] some none = absurd (omega (arith, some))
+no_list_lacking (byte ∷ []) some none = refl
+no_list_lacking (byte ∷ next ∷ text) some none = argument_none (codes " ") (byte ∷ next ∷ text) (lit< tt) none
+
+pub no_list_empty : (text rest calls : List ℕ) → text ≡ codes " " ++ rest → calls ≡ rest → length calls ≡ 0 → list_said text ≡ None
+no_list_empty text [] calls e same none = rw e refl
+no_list_empty text (byte ∷ rest) calls e same none = absurd (omega (arith, none, ap (length {A = ℕ}) same))
 
 pub nothing : (xs : List ℕ) → length xs ≡ 0 → xs ≡ []
 nothing [] none = refl
@@ -78,3 +78,31 @@ words_after text front rest calls span cut is = rw (cut, is) refl
 pub no_words : (text : List ℕ) (calls : Option (List ℕ)) (span : Span) → cut_at (codes " ") text ≡ None → span_said text ≡ Some span →
     with_calls text calls ≡ Some (record { span = span; words = []; calls = calls })
 no_words text calls span cut is = rw (cut, is) refl
+
+-- and with no motes
+pub words_without : (text front rest : List ℕ) (calls : Option (List ℕ)) → cut_at (codes " ") text ≡ Some (front, rest) →
+    span_said front ≡ None → with_calls text calls ≡ None
+words_without text front rest calls cut is = rw (cut, is) refl
+
+pub nothing_without : (text : List ℕ) (calls : Option (List ℕ)) → cut_at (codes " ") text ≡ None → span_said text ≡ None →
+    with_calls text calls ≡ None
+nothing_without text calls cut is = rw (cut, is) refl
+
+pub argument_some : (mark line rest : List ℕ) → 0 < length mark → line ≡ mark ++ rest → argument_of mark line ≡ Some rest
+argument_some mark line rest some here =
+    let yes = begins mark some line rest here in
+    let after : drop (length mark) line ≡ rest = ap (drop (length mark)) here ∙ drop_at mark rest (length mark) refl in
+    rw (yes, after) refl
+
+-- a line that doesn't say motes
+module _ (line : List ℕ) (old new : SetupView) (none : argument_of (codes "mote ") line ≡ None) where
+  pub other_done : (result : Result (Unit {0}) LineFault) → Does result (line_said (words_of line) old) new →
+      IfOk result (λ _. DoesSaid (argument_of (codes "mote ") line) line old new)
+  other_done (Ok x) does = rw none does
+  other_done (Err fault) does = tt
+
+  pub other_malformed : (result : Result (Unit {0}) LineFault) → Does result (line_said (words_of line) old) new →
+      IfMalformed result (SaysNothing (argument_of (codes "mote ") line) line old)
+  other_malformed (Ok x) does = tt
+  other_malformed (Err LineFault.Malformed) does = rw none does
+  other_malformed (Err LineFault.Memory) does = tt

@@ -1,12 +1,18 @@
 -- Worked examples: the links and the motes that a line adds, and which lines are malformed.
-use Rattle.std.proofs.Common.{◌≡◌, ℕ, ◌-◌, ◌^◌, List, [], ◌∷◌, Option, Some, None, true, false, codes, refl}
+use Rattle.std.specs.Fmt.{digits}
+use Rattle.std.proofs.Common.{◌≡◌, ℕ, ◌-◌, ◌^◌, List, [], ◌∷◌, Option, Some, None, Ok, true, false, codes, inl, inr, refl, replicate}
 use Rattle.medium_core.specs.declared.link.Fate.{Fate}
 use Rattle.medium_core.specs.declared.link.Link.{Link}
 use Rattle.medium_core.specs.declared.link.Loss.{Loss}
+use Rattle.mote_text.specs.EntryText.{line_of}
+use Rattle.mote_text.specs.Script.{read_line}
+use Rattle.mote_text.specs.declared.script.End.{End}
+use Rattle.network_setup.specs.FirstLines.{BeginWithInput, IsMalformed}
 use Rattle.network_setup.specs.Lines.{links_said, words_of}
-use Rattle.network_setup.specs.MoteLines.{mote_line, names_said, sizes_said}
+use Rattle.network_setup.specs.MoteLines.{OneIsUnknown, config_said, mote_line, names_said, sizes_said}
+use Rattle.network_setup.specs.ScriptRuns.{EndsAtOnce, is_there}
 use Rattle.network_setup.specs.Setting.{is_fit, next_loss}
-use Rattle.network_setup.specs.SetupView.{default_config}
+use Rattle.network_setup.specs.SetupView.{default_config, empty_setup}
 use Rattle.network_setup.specs.Shapes.{grid_links, is_shape, line_links, linked, mesh_links, ring_links, with_shape}
 use Rattle.network_setup.specs.declared.carriage.Carriage.{Carriage}
 use Rattle.network_setup.specs.declared.shape.Shape.{Shape}
@@ -142,3 +148,34 @@ no_sizes = (refl, refl, refl)
 
 names : names_said None (words_of (codes "blink --mmem 64 echo")) ≡ codes "blink" ∷ codes "echo" ∷ []
 names = refl
+
+-- the list of calls is one more application
+a_config : config_said (words_of (codes "blink --mmem 64 echo")) (Some (codes "wait")) ≡ Some (record default_config { mmem = 64; apps = 3 })
+a_config = refl
+
+-- sizes that no mote has, and a seventeenth application
+no_config : (config_said (words_of (codes "--mmem 63")) None ≡ None) × (config_said (words_of (codes "--quota 0")) None ≡ None)
+    × (config_said (replicate 17 (codes "hello")) None ≡ None) × (config_said (replicate 16 (codes "hello")) (Some (codes "wait")) ≡ None)
+no_config = (refl, refl, refl, refl)
+
+-- one name is enough
+unknown : OneIsUnknown (codes "hello" ∷ codes "walk" ∷ [])
+unknown = inr (inl (refl, λ same. absurd (cc)))
+
+-- a line of the second mote where there is no first one, of no words, and of a link to no mote
+malformed_lines : IsMalformed (codes "mote 2 hello") empty_setup × IsMalformed (codes "walk") empty_setup
+    × IsMalformed (codes "link 1 2 delay 3") empty_setup
+unfolding read_line
+malformed_lines = (inr (refl, refl, inl (λ same. absurd (cc))), inr (refl, refl, refl), inr (refl, refl, refl))
+
+an_input : BeginWithInput (codes "tick 1" ∷ codes "walk" ∷ [])
+unfolding read_line
+an_input = refl
+
+-- a mote that is asked for, and no mote
+there : (is_there (Some 3) 3 ≡ true) × (is_there (Some 4) 3 ≡ false) × (is_there None 0 ≡ true)
+there = (refl, refl, refl)
+
+at_once : EndsAtOnce (End.BadLine 7) (codes "bad line 7\n") (Ok (End.BadLine 7))
+unfolding line_of digits
+at_once = (refl, refl)

@@ -4,5 +4,6 @@ pub mod Cutting
 pub mod Examples
 pub mod Linking
 pub mod MoteWords
+pub mod Malformed
 pub mod SettingUp
 pub mod ShortLines

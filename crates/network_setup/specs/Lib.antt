@@ -6,5 +6,6 @@ pub mod Lines
 pub mod MoteLines
 pub mod FirstLines
 pub mod SetUpRuns
+pub mod ScriptRuns
 -- The code's invariants.
 pub mod Code

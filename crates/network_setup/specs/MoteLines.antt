@@ -1,7 +1,10 @@
--- What a line that says motes sets up: `N` or `N..M`, names of applications and sizes, and after `calls` a list of calls.
-use Rattle.std.specs.Prelude.{◌≡◌, ◌≤◌, ◌+◌, ◌-◌, ℕ, zero, suc, List, [], ◌∷◌, ◌++◌, length, codes, Option, Some, None, option_and_then, option_map, bytes_eq, if◌then◌else◌}
+-- What a line that says motes sets up, and when it is malformed: `N` or `N..M`, names of applications and sizes, and after `calls` a list
+-- of calls.
+use Rattle.std.specs.Prelude.{◌≡◌, ◌≢◌, ◌⊎◌, ◌+◌, ◌-◌, ℕ, zero, suc, List, [], ◌∷◌, ◌++◌, length, codes, Option, Some, None, IfSome, is_some, option_and_then, option_map, bytes_eq, if◌then◌else◌}
 use Rattle.std.specs.Global.{Vec}
 use Rattle.call_lists.specs.Applications.{IsListed, IsNamed}
+use Rattle.call_lists.specs.Faults.{IsNoList, IsNoName}
+use Rattle.kernel_core.specs.Machine.{is_bootable}
 use Rattle.kernel_core.specs.declared.config.Config.{Config}
 use Rattle.mote_apps.specs.Bundled.{named}
 use Rattle.mote_session.specs.SessionView.{SessionView}
@@ -64,15 +67,34 @@ abbrev pub IsListLast : Option (List ℕ) → List MoteApp → List MoteApp → 
 IsListLast None named all = all ≡ named
 IsListLast (Some text) named all = (last : MoteApp) × HasCalls text last × (all ≡ named ++ last ∷ [])
 
--- a mote's configuration and applications, by its words and its list of calls
-pub record IsMoteSaid (words : List (List ℕ)) (calls : Option (List ℕ)) (config : Config) (own : List MoteApp) : Type 0 where
-  pub sizes : Config
-  pub said : sizes_said None words default_config ≡ Some sizes
-  pub is : config ≡ record sizes { apps = length own }
+-- the number of applications that are said
+abbrev pub count_said : List (List ℕ) → Option (List ℕ) → ℕ
+count_said words calls = length (names_said None words) + (if is_some calls then 1 else 0)
+
+abbrev pub if_bootable : Config → Option Config
+if_bootable config = if is_bootable config then Some config else None
+
+-- the configuration that is said. None, where no mote boots with it
+abbrev pub config_said : List (List ℕ) → Option (List ℕ) → Option Config
+config_said words calls =
+    option_and_then (λ sizes. if_bootable (record sizes { apps = count_said words calls })) (sizes_said None words default_config)
+
+-- a mote's applications, by its words and its list of calls
+pub record AreSaid (words : List (List ℕ)) (calls : Option (List ℕ)) (own : List MoteApp) : Type 0 where
   pub named : List MoteApp
   pub names : AreNamed (names_said None words) [] named
   pub list : IsListLast calls named own
-  pub few : length own ≤ 16
+
+-- one of these names is no application's
+abbrev pub OneIsUnknown : List (List ℕ) → Type 0
+OneIsUnknown [] = ⊥
+OneIsUnknown (name ∷ names) = IsNoName name ⊎ OneIsUnknown names
+
+-- why a line's words and its list of calls say no mote
+pub data SaysNoMote (words : List (List ℕ)) (calls : Option (List ℕ)) : Type 0 where
+  no_configuration : config_said words calls ≡ None → SaysNoMote words calls
+  no_application : OneIsUnknown (names_said None words) → SaysNoMote words calls
+  no_list : (text : List ℕ) → calls ≡ Some text → IsNoList text → SaysNoMote words calls
 
 -- one more mote, which has just booted with this configuration
 pub record IsAdded (config : Config) (old new : List SessionView) : Type 0 where
@@ -92,7 +114,8 @@ pub record HasOneMore (config : Config) (own : Vec MoteApp) (old new : SetupView
 pub record HasMote (words : List (List ℕ)) (calls : Option (List ℕ)) (old new : SetupView) : Type 0 where
   pub config : Config
   pub own : Vec MoteApp
-  pub said : IsMoteSaid words calls config own.items
+  pub sizes : config_said words calls ≡ Some config
+  pub applications : AreSaid words calls own.items
   pub added : HasOneMore config own old new
 
 -- n more
@@ -137,3 +160,8 @@ pub record AddsMotes (text : List ℕ) (old new : SetupView) : Type 0 where
   pub said : mote_line text ≡ Some line
   pub next : line.span.first ≡ length old.motes + 1
   pub added : HaveMotes (line.span.last + 1 - line.span.first) line.words line.calls old new
+
+-- why the line adds no motes: its words aren't those of such a line, or its first number isn't the next one, or they say no mote
+abbrev pub SaysNoMotes : List ℕ → SetupView → Type 0
+SaysNoMotes text setup =
+    IfSome (mote_line text) (λ line. (line.span.first ≢ length setup.motes + 1) ⊎ SaysNoMote line.words line.calls)

@@ -34,4 +34,5 @@ abbrev pub HasRunSetUp : Bool → NetworkView → Voices → List NetworkInput �
 HasRunSetUp quiet start voices script written (Ok end) = HasRun quiet start voices script written (Ok end)
 HasRunSetUp quiet start voices script written (Err (SetUpRunFault.Run fault)) = HasRun quiet start voices script written (Err fault)
 HasRunSetUp quiet start voices script written (Err SetUpRunFault.Memory) = written ≡ []
+HasRunSetUp quiet start voices script written (Err SetUpRunFault.NoMote) = ⊥
 HasRunSetUp quiet start voices script written (Err SetUpRunFault.BadLink) = written ≡ []

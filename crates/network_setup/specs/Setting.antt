@@ -27,3 +27,9 @@ abbrev pub Does : {A : Type 0} → Result (Unit {0}) LineFault → Option A → 
 Does (Ok _) said new = said ≡ Some new
 Does (Err LineFault.Malformed) said new = said ≡ None
 Does (Err LineFault.Memory) said new = Unit {0}
+
+-- where something is malformed, this is so
+abbrev pub IfMalformed : {A : Type 0} → Result A LineFault → Type 0 → Type 0
+IfMalformed (Ok _) Why = Unit {0}
+IfMalformed (Err LineFault.Malformed) Why = Why
+IfMalformed (Err LineFault.Memory) Why = Unit {0}

@@ -13,6 +13,8 @@ pub enum LineFault {
 pub enum SetUpRunFault {
     /// Memory was refused: nothing was written.
     Memory,
+    /// The mote that is asked for doesn't exist: nothing was written.
+    NoMote,
     /// A rule of this crate is broken: a link that passed its checks isn't sound.
     BadLink,
     /// The run of the network does not end.

@@ -1,9 +1,11 @@
 //! The applications of a network's motes.
 
 ghost use Rattle.std.specs.Prelude.{IfOk};
+ghost use Rattle.call_lists.specs.Faults.{IsNoList, IsNoName};
 ghost use Rattle.network_setup.specs.Code.Words.{IsBoxed};
 ghost use Rattle.network_setup.specs.MoteApps.{mote_app_says};
 ghost use Rattle.network_setup.specs.MoteLines.{HasCalls, HasName};
+ghost use Rattle.network_setup.specs.Setting.{IfMalformed};
 
 use crate::fault::LineFault;
 use call_lists::Application;
@@ -23,7 +25,8 @@ pub enum MoteApp {
 
 /// An application in a box.
 fn boxed(alloc: Global, application: Application) -> Result<MoteApp, LineFault>
-    ensures { IfOk result (IsBoxed application) }
+    ensures boxed { IfOk result (IsBoxed application) }
+    ensures memory { IfMalformed result ⊥ }
 {
     match Box::new(alloc, application) {
         Ok(application) => Ok(MoteApp::Boxed(application)),
@@ -34,7 +37,8 @@ fn boxed(alloc: Global, application: Application) -> Result<MoteApp, LineFault>
 impl MoteApp {
     /// The application of this name.
     pub(crate) fn named(alloc: Global, name: &str) -> Result<Self, LineFault>
-        ensures { IfOk result (HasName name.now) }
+        ensures named { IfOk result (HasName name.now) }
+        ensures malformed { IfMalformed result (IsNoName name.now) }
     {
         if let Some(application) = Bundled::named(name) {
             return Ok(MoteApp::Bundled(application));
@@ -47,7 +51,8 @@ impl MoteApp {
 
     /// The application that makes the calls of this text.
     pub(crate) fn listed(alloc: Global, text: &str) -> Result<Self, LineFault>
-        ensures { IfOk result (HasCalls text.now) }
+        ensures listed { IfOk result (HasCalls text.now) }
+        ensures malformed { IfMalformed result (IsNoList text.now) }
     {
         match Application::listed(text) {
             Ok(application) => boxed(alloc, application),

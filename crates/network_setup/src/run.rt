@@ -1,10 +1,13 @@
 //! Sets networks up, and runs them.
 
-ghost use Rattle.std.specs.Prelude.{◌≡◌, ◌≤◌, ◌<◌, ◌+◌, ◌-◌, ◌^◌, length, IfOk};
+ghost use Rattle.std.specs.Prelude.{◌≡◌, ◌≤◌, ◌<◌, ◌+◌, ◌-◌, ◌^◌, codes, false, length, IfErr, IfOk};
+ghost use Rattle.mote_text.specs.Script.{argument_of};
 ghost use Rattle.network_run.specs.NetworkRunText.{Gives, script_lines};
-ghost use Rattle.network_setup.specs.FirstLines.{AreCarriedOut, DoesLine, is_blank};
+ghost use Rattle.network_setup.specs.FirstLines.{AreCarriedOut, DoesLine, IsBadLine, SaysNothing, is_blank};
 ghost use Rattle.network_setup.specs.MoteApps.{voices_of};
 ghost use Rattle.network_setup.specs.SetUpRuns.{HasBooted, HasRunSetUp, start_of};
+ghost use Rattle.network_setup.specs.Setting.{IfMalformed};
+ghost use Rattle.network_setup.specs.declared.fault.LineFault.{LineFault};
 ghost use Rattle.network_text.specs.NetworkScript.{read_network_lines};
 
 use crate::applications::Applications;
@@ -29,7 +32,9 @@ fn is_blank(text: &str) -> bool
 
 /// Takes one of the first lines.
 fn take_setup_line(alloc: Global, text: &str, setup: &mut Setup) -> Result<(), LineFault>
-    ensures { IfOk result (λ _. DoesLine text.now setup.old setup.new) }
+    ensures done { IfOk result (λ _. DoesLine text.now setup.old setup.new) }
+    ensures malformed { IfMalformed result ((is_blank text.now ≡ false)
+        × SaysNothing (argument_of (codes "mote ") text.now) text.now setup.old) }
 {
     if is_blank(text) {
         return Ok(());
@@ -38,6 +43,10 @@ fn take_setup_line(alloc: Global, text: &str, setup: &mut Setup) -> Result<(), L
 }
 
 /// Takes the first lines, up to the first input. What is left begins with that.
+///
+/// # Errors
+///
+/// `Malformed` with the number of the first malformed line, and `Memory` where memory is refused.
 pub fn read_setup<'a>(
     alloc: Global,
     script: &'a [u8],
@@ -47,6 +56,7 @@ pub fn read_setup<'a>(
     ensures within { IfOk result (λ inputs. inputs.first + length inputs.script.now ≤ 2 ^ 24 + 1) }
     ensures first { IfOk result (λ inputs. inputs.first + length (script_lines inputs.script.now) ≡ 1 + length (script_lines script.now)) }
     ensures set_up { IfOk result (λ inputs. AreCarriedOut (script_lines script.now) (script_lines inputs.script.now) setup.old setup.new) }
+    ensures bad_line { IfErr result (λ fault. fault.1 ≡ LineFault.Malformed → IsBadLine fault.0 (script_lines script.now) setup.old) }
 {
     let mut lines = Lines::new(script);
     while let Some(line) = lines.next_line() {

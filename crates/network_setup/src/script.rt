@@ -1,8 +1,9 @@
 //! The lines of a script, with their numbers.
 
-ghost use Rattle.std.specs.Prelude.{◌≡◌, ◌<◌, ◌≤◌, ◌+◌, ◌^◌, [], length, IfNone, IfSome};
+ghost use Rattle.std.specs.Prelude.{◌≡◌, ◌<◌, ◌≤◌, ◌+◌, ◌^◌, [], length, IfNone, IfSome, MatchOption};
 ghost use Rattle.network_run.specs.NetworkRunText.{script_lines};
 ghost use Rattle.network_setup.specs.Code.Words.{IsNextLine};
+ghost use Rattle.network_setup.specs.FirstLines.{IsText};
 
 use mote_text::script::LINE_LIMIT;
 use network_run::script::first_line;
@@ -38,7 +39,7 @@ pub(crate) struct Lines<'a> {
 
 /// The text of a line, if it is one.
 fn text_of(line: &[u8]) -> Option<&str>
-    ensures { IfSome result (λ text. (text.now ≡ line.now) × (length text.now ≤ 1024)) }
+    ensures { MatchOption result (¬ IsText line.now) (λ text. (text.now ≡ line.now) × IsText line.now) }
 {
     if line.len() > LINE_LIMIT {
         return None;
@@ -78,6 +79,7 @@ impl<'a> Lines<'a> {
         ensures fewer { IfSome result (λ _. length self.new.rest.now < length self.old.rest.now) }
         ensures within { self.new.number + length self.new.rest.now ≤ 2 ^ 24 }
         ensures number { IfSome result (λ _. self.new.number ≡ self.old.number + 1) }
+        ensures numbered { IfSome result (λ line. line.number ≡ self.old.number + 1) }
         ensures first { IfSome result (λ line. line.inputs.first ≡ self.old.number + 1) }
         ensures script { IfSome result (λ line. line.inputs.script.now ≡ self.old.rest.now) }
         ensures line { IfSome result (λ line. IsNextLine line.text (script_lines self.old.rest.now) (script_lines self.new.rest.now)) }

@@ -1,13 +1,15 @@
 //! The motes and links of a network, as the first lines of its script say them.
 
-ghost use Rattle.std.specs.Prelude.{◌≡◌, ◌≤◌, ◌∷◌, ◌++◌, ℕ, List, [], IfOk, None, Some, OnErr, codes, map, option_map};
+ghost use Rattle.std.specs.Prelude.{◌≡◌, ◌≤◌, ◌∷◌, ◌++◌, [], IfOk, None, Some, OnErr, codes, false, map, option_map, true};
+ghost use Rattle.kernel_core.specs.Machine.{is_bootable};
 ghost use Rattle.mote_text.specs.Script.{argument_of};
-ghost use Rattle.network_setup.specs.Code.Words.{TakesWord, TakesWords, words_in};
+ghost use Rattle.network_setup.specs.Code.Words.{AreBadWords, IsBadList, IsBadWord, IsMoteSaid, TakesWord, TakesWords, words_in};
+ghost use Rattle.network_setup.specs.FirstLines.{DoesSaid, SaysNothing};
 ghost use Rattle.network_setup.specs.Lines.{line_said, with_links_said, with_room, with_rounds, words_of, words_said};
-ghost use Rattle.network_setup.specs.MoteLines.{AddsMotes, HasOneMore, IsAdded, IsListLast, IsMoteSaid, mote_line, with_calls, with_option};
+ghost use Rattle.network_setup.specs.MoteLines.{AddsMotes, HasOneMore, IsAdded, IsListLast, SaysNoMote, SaysNoMotes, mote_line, with_calls, with_option};
 ghost use Rattle.network_setup.specs.SetUpRuns.{HasBooted};
 ghost use Rattle.network_setup.specs.SetupView.{HasJustBooted, empty_setup};
-ghost use Rattle.network_setup.specs.Setting.{Does};
+ghost use Rattle.network_setup.specs.Setting.{Does, IfMalformed};
 
 use crate::carriage::Carriage;
 use crate::fault::LineFault;
@@ -71,7 +73,8 @@ impl Model for Setup {
 
 /// Sets the size of this name.
 fn set_size(config: &mut Config, name: &str, number: &str) -> Result<(), LineFault>
-    ensures { IfOk result (λ _. with_option name.now number.now config.old ≡ Some config.new) }
+    ensures size { IfOk result (λ _. with_option name.now number.now config.old ≡ Some config.new) }
+    ensures malformed { IfMalformed result (with_option name.now number.now config.old ≡ None) }
 {
     let Some(size) = read_number(number.as_bytes()) else {
         return Err(LineFault::Malformed);
@@ -88,7 +91,8 @@ fn set_size(config: &mut Config, name: &str, number: &str) -> Result<(), LineFau
 
 /// Adds an application to a mote's.
 fn push_application(applications: &mut Vec<MoteApp>, application: MoteApp) -> Result<(), LineFault>
-    ensures { IfOk result (λ _. applications.new.items ≡ applications.old.items ++ application ∷ []) }
+    ensures pushed { IfOk result (λ _. applications.new.items ≡ applications.old.items ++ application ∷ []) }
+    ensures memory { IfMalformed result ⊥ }
 {
     match applications.push(application) {
         Ok(()) => Ok(()),
@@ -105,8 +109,9 @@ fn take_word<'a>(
     config: &mut Config,
     applications: &mut Vec<MoteApp>,
 ) -> Result<Option<&'a str>, LineFault>
-    ensures { IfOk result (λ next. TakesWord (option_map (λ name. name.now) option.entry) (option_map (λ name. name.now) next) word.now
+    ensures taken { IfOk result (λ next. TakesWord (option_map (λ name. name.now) option.entry) (option_map (λ name. name.now) next) word.now
         config.old config.new applications.old.items applications.new.items) }
+    ensures malformed { IfMalformed result (IsBadWord (option_map (λ name. name.now) option.entry) word.now config.old) }
 {
     if let Some(name) = option {
         set_size(config, name, word)?;
@@ -126,8 +131,9 @@ fn take_words(
     config: &mut Config,
     applications: &mut Vec<MoteApp>,
 ) -> Result<(), LineFault>
-    ensures { IfOk result (λ _. TakesWords (map (λ word. word.now) words.now) [] None config.old config.new
+    ensures taken { IfOk result (λ _. TakesWords (map (λ word. word.now) words.now) [] None config.old config.new
         applications.old.items applications.new.items) }
+    ensures malformed { IfMalformed result (AreBadWords None (map (λ word. word.now) words.now) config.old) }
 {
     let mut option = None;
     for word in words {
@@ -141,7 +147,8 @@ fn take_words(
 
 /// The words before `calls` and the list after it, where a text has one.
 fn cut_at_calls(text: &str) -> Result<(&str, Option<&str>), LineFault>
-    ensures { IfOk result (λ parts. mote_line text.now ≡ with_calls parts.0.now (option_map (λ calls. calls.now) parts.1)) }
+    ensures cut { IfOk result (λ parts. mote_line text.now ≡ with_calls parts.0.now (option_map (λ calls. calls.now) parts.1)) }
+    ensures malformed { IfMalformed result (mote_line text.now ≡ None) }
 {
     let Some((words, rest)) = text.split_once(" calls") else {
         return Ok((text, None));
@@ -163,6 +170,7 @@ fn cut_mote_line(text: &str) -> Result<(Span, Option<&str>, Option<&str>), LineF
       calls = option_map (λ calls. calls.now) line.2;
     })) }
     ensures order { IfOk result (λ line. (1 ≤ line.0.first) × (line.0.first ≤ line.0.last)) }
+    ensures malformed { IfMalformed result (mote_line text.now ≡ None) }
 {
     let (text, calls) = cut_at_calls(text)?;
     let (span, words) = match text.split_once(" ") {
@@ -177,7 +185,8 @@ fn cut_mote_line(text: &str) -> Result<(Span, Option<&str>, Option<&str>), LineF
 
 /// The words of a text, if there is one.
 fn words_in<'a>(alloc: Global, text: Option<&'a str>) -> Result<Vec<&'a str>, LineFault>
-    ensures { IfOk result (λ words. map (λ word. word.now) words.items ≡ words_in (option_map (λ text. text.now) text.entry)) }
+    ensures words { IfOk result (λ words. map (λ word. word.now) words.items ≡ words_in (option_map (λ text. text.now) text.entry)) }
+    ensures memory { IfMalformed result ⊥ }
 {
     match text {
         Some(text) => split_words(alloc, text),
@@ -191,7 +200,8 @@ fn add_listed(
     calls: Option<&str>,
     applications: &mut Vec<MoteApp>,
 ) -> Result<(), LineFault>
-    ensures { IfOk result (λ _. IsListLast (option_map (λ calls. calls.now) calls.entry) applications.old.items applications.new.items) }
+    ensures added { IfOk result (λ _. IsListLast (option_map (λ calls. calls.now) calls.entry) applications.old.items applications.new.items) }
+    ensures malformed { IfMalformed result (IsBadList (option_map (λ calls. calls.now) calls.entry)) }
 {
     match calls {
         Some(calls) => push_application(applications, MoteApp::listed(alloc, calls)?),
@@ -205,7 +215,8 @@ fn read_mote(
     words: &[&str],
     calls: Option<&str>,
 ) -> Result<(Config, Vec<MoteApp>), LineFault>
-    ensures { IfOk result (λ mote. IsMoteSaid (map (λ word. word.now) words.now) (option_map (λ calls. calls.now) calls.entry) mote.0 mote.1.items) }
+    ensures said { IfOk result (λ mote. IsMoteSaid (map (λ word. word.now) words.now) (option_map (λ calls. calls.now) calls.entry) mote.0 mote.1.items) }
+    ensures malformed { IfMalformed result (SaysNoMote (map (λ word. word.now) words.now) (option_map (λ calls. calls.now) calls.entry)) }
 {
     let mut config = DEFAULT;
     let mut applications = Vec::new(alloc);
@@ -221,6 +232,8 @@ fn read_mote(
 /// A mote that has just booted.
 fn boot(alloc: Global, config: Config) -> Result<Session, LineFault>
     ensures booted { IfOk result (λ mote. HasJustBooted config mote) }
+    ensures bootable { IfOk result (λ _. is_bootable config ≡ true) }
+    ensures malformed { IfMalformed result (is_bootable config ≡ false) }
 {
     match Session::boot(alloc, config) {
         Ok(mote) => Ok(mote),
@@ -232,6 +245,8 @@ fn boot(alloc: Global, config: Config) -> Result<Session, LineFault>
 /// Boots one more mote.
 fn boot_mote(alloc: Global, motes: &mut Vec<Session>, config: Config) -> Result<(), LineFault>
     ensures added { IfOk result (λ _. IsAdded config motes.old.items motes.new.items) }
+    ensures bootable { IfOk result (λ _. is_bootable config ≡ true) }
+    ensures malformed { IfMalformed result (is_bootable config ≡ false) }
     ensures err { OnErr result (motes.new.items ≡ motes.old.items) }
 {
     let mote = match boot(alloc, config) {
@@ -262,23 +277,30 @@ impl Setup {
     ///
     /// # Errors
     ///
-    /// `Malformed` exactly where a line that doesn't say motes says nothing that can be set up, and `Memory` where memory is refused.
+    /// `Malformed` exactly where the line says nothing that can be set up, and `Memory` where memory is refused.
     pub fn take_line(&mut self, alloc: Global, line: &str) -> Result<(), LineFault>
-        ensures motes { IfOk result (λ _. (text : List ℕ) → argument_of (codes "mote ") line.now ≡ Some text → AddsMotes text self.old self.new) }
-        ensures others { argument_of (codes "mote ") line.now ≡ None → Does result (line_said (words_of line.now) self.old) self.new }
+        ensures done { IfOk result (λ _. DoesSaid (argument_of (codes "mote ") line.now) line.now self.old self.new) }
+        ensures malformed { IfMalformed result (SaysNothing (argument_of (codes "mote ") line.now) line.now self.old) }
     {
-        if let Some(text) = line.strip_prefix("mote ") {
-            return self.add_motes(alloc, text);
+        match line.strip_prefix("mote ") {
+            Some(text) => self.add_motes(alloc, text),
+            None => self.take_other_line(alloc, line),
         }
+    }
+
+    /// Does what a line says that doesn't say motes.
+    fn take_other_line(&mut self, alloc: Global, line: &str) -> Result<(), LineFault>
+        ensures { Does result (line_said (words_of line.now) self.old) self.new }
+    {
         let words = split_words(alloc, line)?;
         match words.as_slice() {
-            [word, rest @ ..] => self.take_other_line(word, rest),
+            [word, rest @ ..] => self.take_said(word, rest),
             [] => Err(LineFault::Malformed),
         }
     }
 
     /// Does what the words of a line say of links, of the room, or of rounds.
-    fn take_other_line(&mut self, word: &str, rest: &[&str]) -> Result<(), LineFault>
+    fn take_said(&mut self, word: &str, rest: &[&str]) -> Result<(), LineFault>
         ensures { Does result (words_said word.now (map (λ word. word.now) rest.now) self.old) self.new }
     {
         match word {
@@ -300,7 +322,8 @@ impl Setup {
 
     /// `N WORD..` or `N..M WORD..`: the first number is the next one.
     fn add_motes(&mut self, alloc: Global, text: &str) -> Result<(), LineFault>
-        ensures { IfOk result (λ _. AddsMotes text.now self.old self.new) }
+        ensures added { IfOk result (λ _. AddsMotes text.now self.old self.new) }
+        ensures malformed { IfMalformed result (SaysNoMotes text.now self.old) }
     {
         let (span, words, calls) = cut_mote_line(text)?;
         if span.first as usize != self.motes.len().saturating_add(1) {
@@ -322,7 +345,9 @@ impl Setup {
         config: Config,
         applications: Vec<MoteApp>,
     ) -> Result<(), LineFault>
-        ensures { IfOk result (λ _. HasOneMore config applications self.old self.new) }
+        ensures added { IfOk result (λ _. HasOneMore config applications self.old self.new) }
+        ensures bootable { IfOk result (λ _. is_bootable config ≡ true) }
+        ensures malformed { IfMalformed result (is_bootable config ≡ false) }
     {
         boot_mote(alloc, &mut self.motes, config)?;
         if self.applications.push(applications).is_err()

@@ -1,5 +1,5 @@
 -- When nothing is left to do.
-use Rattle.process_core.proofs.Common.{◌≡◌, ℕ, zero, suc, ◌<◌, true, false, List, [], ◌∷◌, ◌++◌, refl, arith, Option, Some, None, map, flat_map, list_any, items_of, base_items, agenda_of, receiver_items, list_any-append, Event, Item, Job, Scheduler, after_front, after_items, ComesTo, Continuation, Base, Front, SchedulerFields, after_front_of, wants_round, is_shown, ◌≤◌, length, drop, slice_get, IfNone, from_marked, Process, ◌+◌, add-one, range_with_len, at_first, state_of, is_one_of, IsInOrder, State}
+use Rattle.process_core.proofs.Common.{◌≡◌, ℕ, zero, suc, ◌<◌, true, false, List, [], ◌∷◌, ◌++◌, refl, arith, Option, Some, None, map, flat_map, list_any, items_of, base_items, agenda_of, receiver_items, list_any-append, Event, Item, Job, Scheduler, after_front, after_items, ComesTo, Continuation, Base, Front, SchedulerFields, wants_round, is_shown, ◌≤◌, length, drop, slice_get, IfNone, from_marked, Process, ◌+◌, add-one, range_with_len, at_first, state_of, is_one_of, IsInOrder, State}
 
 module _ {X : Type 0} where
   pub record IsIdle (s : Scheduler X) : Type 0 where

@@ -1,5 +1,5 @@
 -- Work done in parts.
-use Rattle.process_core.proofs.Common.{◌≡◌, ℕ, zero, suc, Bool, true, false, List, [], ◌∷◌, ◌++◌, refl, sym, ◌∙◌, ap, arith, Option, Some, None, is_some, drop, map, slice_get, ◌≤◌, Stimulus, Pid, scheduler_behind, queued_of, from_marked, Event, Origin, POLL, plain_event, numbers, is_any_marked, is_marked, with_mark, Item, Job, Scheduler, after_front, job, after_items, in_front, state_in, FindsJob, Yields, SchedulerFields, State, is_empty, poll_items, Base, IsBare, job_of, option_map}
+use Rattle.process_core.proofs.Common.{◌≡◌, ℕ, zero, suc, Bool, true, false, List, [], ◌∷◌, ◌++◌, refl, sym, ◌∙◌, ap, arith, Option, Some, None, is_some, drop, map, slice_get, ◌≤◌, Stimulus, Pid, scheduler_behind, from_marked, Event, Origin, POLL, plain_event, numbers, is_any_marked, is_marked, with_mark, Item, Job, Scheduler, after_front, job, after_items, in_front, state_in, FindsJob, Yields, SchedulerFields, State, is_empty, poll_items, Base, IsBare, job_of, option_map}
 use Rattle.process_core.proofs.Rest.{none_first}
 use Rattle.circular_buffer.specs.Buffer.{Buffer}
 use Rattle.process_core.specs.declared.queued.Queued as code

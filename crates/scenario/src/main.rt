@@ -1,5 +1,5 @@
 //! Executes the runs in files, and compares them with the transcripts there. Its contracts promise that it is safe and
-//! that it ends; what a run writes is promised by the contracts of `mote_run`'s `run` and `network_setup`'s `run_setup`.
+//! that it ends; what a run writes is promised by the contracts of `mote_run`'s `run` and `network_setup`'s `run_script`.
 #![tactic(auto)]
 
 mod alignment;

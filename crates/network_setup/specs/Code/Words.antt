@@ -1,10 +1,13 @@
 -- Words of a mote's line, and lines, that are taken.
 use denote.Ref.{Bor}
-use Rattle.std.specs.Prelude.{◌≡◌, ℕ, List, [], ◌∷◌, Option, None, Some, IfSome}
+use Rattle.std.specs.Prelude.{◌≡◌, ◌⊎◌, ℕ, List, [], ◌∷◌, Option, None, Some, MatchOption}
+use Rattle.call_lists.specs.Faults.{IsNoList}
 use Rattle.call_lists.specs.declared.applications.Application.{Application}
 use Rattle.kernel_core.specs.declared.config.Config.{Config}
+use Rattle.network_setup.specs.FirstLines.{IsText}
 use Rattle.network_setup.specs.Lines.{words_of}
-use Rattle.network_setup.specs.MoteLines.{AreNamed, names_said, sizes_said}
+use Rattle.network_setup.specs.MoteLines.{AreNamed, AreSaid, OneIsUnknown, count_said, names_said, sizes_said}
+use Rattle.network_setup.specs.SetupView.{default_config}
 use Rattle.network_setup.specs.declared.mote_app.MoteApp.{MoteApp}
 
 -- the word was taken after this option, and the next option is left for the words after it
@@ -12,11 +15,32 @@ pub record TakesWord (option next : Option (List ℕ)) (word : List ℕ) (before
   pub sizes : (words : List (List ℕ)) → sizes_said option (word ∷ words) before ≡ sizes_said next words after
   pub names : (words : List (List ℕ)) (all : List MoteApp) → AreNamed (names_said next words) new all →
       AreNamed (names_said option (word ∷ words)) old all
+  pub unknown : (words : List (List ℕ)) → OneIsUnknown (names_said next words) → OneIsUnknown (names_said option (word ∷ words))
 
 -- so it is of some words
 pub record TakesWords (taken words : List (List ℕ)) (option : Option (List ℕ)) (before after : Config) (old new : List MoteApp) : Type 0 where
   pub sizes : sizes_said None taken before ≡ sizes_said option words after
   pub names : (all : List MoteApp) → AreNamed (names_said option words) new all → AreNamed (names_said None taken) old all
+  pub unknown : OneIsUnknown (names_said option words) → OneIsUnknown (names_said None taken)
+
+-- these words after an option say no sizes, or name what there isn't
+abbrev pub AreBadWords : Option (List ℕ) → List (List ℕ) → Config → Type 0
+AreBadWords option words before = (sizes_said option words before ≡ None) ⊎ OneIsUnknown (names_said option words)
+
+-- the word is bad, whatever comes after it
+abbrev pub IsBadWord : Option (List ℕ) → List ℕ → Config → Type 0
+IsBadWord option word before = (words : List (List ℕ)) → AreBadWords option (word ∷ words) before
+
+-- a mote's configuration, as yet not booted, and its applications
+pub record IsMoteSaid (words : List (List ℕ)) (calls : Option (List ℕ)) (config : Config) (own : List MoteApp) : Type 0 where
+  pub sizes : Config
+  pub said : sizes_said None words default_config ≡ Some sizes
+  pub is : config ≡ record sizes { apps = count_said words calls }
+  pub applications : AreSaid words calls own
+
+-- if there is a list of calls, it isn't one
+abbrev pub IsBadList : Option (List ℕ) → Type 0
+IsBadList calls = (text : List ℕ) × (calls ≡ Some text) × IsNoList text
 
 -- the application in a box
 abbrev pub IsBoxed : Application → MoteApp → Type 0
@@ -32,4 +56,4 @@ words_in (Some text) = words_of text
 pub record IsNextLine (text : Option (Bor (List ℕ))) (lines rest : List (List ℕ)) : Type 0 where
   pub line : List ℕ
   pub first : lines ≡ line ∷ rest
-  pub told : IfSome text (λ told. told.now ≡ line)
+  pub told : MatchOption text (¬ IsText line) (λ told. (told.now ≡ line) × IsText line)

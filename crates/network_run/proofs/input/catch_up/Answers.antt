@@ -1,25 +1,30 @@
-use Rattle.std.proofs.Common.{[], refl}
+use Rattle.std.proofs.Common.{[], ◌∷◌, inl, inr, refl}
+use Rattle.network_run.specs.Outside.{Outside}
 use Rattle.network_run.proofs.Ways.{faulted_same, goes_after, takes_all, takes_same, went_mute}
 use Rattle.network_text.specs.NetworkRuns.{Move}
 use Rattle.network_run.proofs.input.catch_up.Goals as goal
 
 pub returns-then-is_halted-clause-takes : goal.returns-then-is_halted-clause-takes
-returns-then-is_halted-clause-takes g c = λ named. takes_same c.args.quiet _ _ _ _ _ refl
+returns-then-is_halted-clause-takes g c = λ named. ([], inl refl, takes_same c.args.quiet _ _ _ _ _ refl)
 
 pub returns-then-not-is_behind-clause-takes : goal.returns-then-not-is_behind-clause-takes
-returns-then-not-is_behind-clause-takes g c = λ named. takes_same c.args.quiet _ _ _ _ _ refl
+returns-then-not-is_behind-clause-takes g c = λ named. ([], inl refl, takes_same c.args.quiet _ _ _ _ _ refl)
 
 pub returns-then-is_told-clause-takes : goal.returns-then-is_told-clause-takes
 returns-then-is_told-clause-takes g c = λ named.
     let quiet = c.args.quiet in
-    takes_all quiet c.run_to_rest.result [] _ _
-    (goes_after quiet c.run_to_rest.result [] [] _ _ _
-    (went_mute quiet (Move.Tell c.args.mote c.catch_up.new.self) [] c.args.network.now c.catch_up.new.self _ _ _ _
-    (record { rested = c.requires.rests; behind = c.if-not-is_behind.ensures refl; told = c.in-Ok.ensures.told c.if-is_told.true }) refl refl refl refl)
-    (c.run_to_rest.ensures.goes named))
+    let times = Outside.Time c.args.mote ∷ [] in (
+      times,
+      inr refl,
+      takes_all quiet c.run_to_rest.result times _ _
+          (goes_after quiet c.run_to_rest.result times [] _ _ _
+          (went_mute quiet (Move.Tell c.args.mote c.catch_up.new.self) times c.args.network.now c.catch_up.new.self _ _ _ _
+          (record { rested = c.requires.rests; behind = c.if-not-is_behind.ensures refl; told = c.in-Ok.ensures.told c.if-is_told.true }) refl refl refl refl)
+          (c.run_to_rest.ensures.goes named)),
+    )
 
 pub returns-else-is_told-clause-takes : goal.returns-else-is_told-clause-takes
-returns-else-is_told-clause-takes g c = λ named. takes_same c.args.quiet _ _ _ _ _ (c.in-Ok.ensures.untold c.if-is_told.false)
+returns-else-is_told-clause-takes g c = λ named. ([], inl refl, takes_same c.args.quiet _ _ _ _ _ (c.in-Ok.ensures.untold c.if-is_told.false))
 
 pub returns-in-Err-clause-takes : goal.returns-in-Err-clause-takes
-returns-in-Err-clause-takes g c = λ named. faulted_same c.args.quiet _ _ _ _ _ _ _ _ c.in-Err.ensures.refused.1
+returns-in-Err-clause-takes g c = λ named. ([], inl refl, faulted_same c.args.quiet _ _ _ _ _ _ _ _ c.in-Err.ensures.refused.1)

@@ -1,4 +1,5 @@
 use Rattle.std.proofs.Common.{◌+◌, [], ◌∷◌, refl}
+use Rattle.network_run.specs.Outside.{Outside}
 use Rattle.network_run.proofs.Ways.{fault_on, faulted_move, faulted_same, goes_after, takes_all, takes_went, went_move, went_mute}
 use Rattle.network_text.specs.NetworkRuns.{Move}
 use Rattle.network_text.specs.declared.input.NetworkInput.{NetworkInput}
@@ -7,27 +8,27 @@ use Rattle.network_run.proofs.input.feed.Goals as goal
 pub returns-in_err-put_unheard-clause-takes : goal.returns-in_err-put_unheard-clause-takes
 returns-in_err-put_unheard-clause-takes g c = λ named.
     let net = c.args.network.now in
-    let inputs = NetworkInput.ForMote (c.args.mote + 1) c.args.input ∷ [] in
+    let outside = Outside.Given (NetworkInput.ForMote (c.args.mote + 1) c.args.input) ∷ [] in
     let cut = c.in_err-put_unheard.ensures.puts named in
     fault_on c.from_residual.result _ _ _ c.from_residual.ensures.1
-    (faulted_move c.args.quiet _ (Move.Miss c.args.mote c.args.input net) inputs net net _ _ _ _ cut.0 _ _
+    (faulted_move c.args.quiet _ (Move.Miss c.args.mote c.args.input net) outside net net _ _ _ _ cut.0 _ _
     (record { rested = c.requires.rests; halted = c.if-is_halted.ensures refl; result = refl }) refl refl refl c.in_err-put_unheard.ensures.failures.2 cut.1)
 
 pub returns-then-is_halted-clause-takes : goal.returns-then-is_halted-clause-takes
 returns-then-is_halted-clause-takes g c = λ named.
     let net = c.args.network.now in
-    let inputs = NetworkInput.ForMote (c.args.mote + 1) c.args.input ∷ [] in
+    let outside = Outside.Given (NetworkInput.ForMote (c.args.mote + 1) c.args.input) ∷ [] in
     takes_went c.args.quiet
-    (went_move c.args.quiet (Move.Miss c.args.mote c.args.input net) inputs net net
+    (went_move c.args.quiet (Move.Miss c.args.mote c.args.input net) outside net net
     (record { rested = c.requires.rests; halted = c.if-is_halted.ensures refl; result = refl }) refl refl refl (c.in_ok-put_unheard.ensures.puts named))
 
 pub returns-in-Ok-clause-takes : goal.returns-in-Ok-clause-takes
 returns-in-Ok-clause-takes g c = λ named.
     let quiet = c.args.quiet in
-    let inputs = NetworkInput.ForMote (c.args.mote + 1) c.args.input ∷ [] in
-    takes_all quiet c.run_to_rest.result inputs _ _
-    (goes_after quiet c.run_to_rest.result inputs [] _ _ _
-    (went_mute quiet (Move.Hand c.args.mote c.args.input c.feed.new.self) inputs c.args.network.now c.feed.new.self _ _ _ _
+    let outside = Outside.Given (NetworkInput.ForMote (c.args.mote + 1) c.args.input) ∷ [] in
+    takes_all quiet c.run_to_rest.result outside _ _
+    (goes_after quiet c.run_to_rest.result outside [] _ _ _
+    (went_mute quiet (Move.Hand c.args.mote c.args.input c.feed.new.self) outside c.args.network.now c.feed.new.self _ _ _ _
     (record { rested = c.requires.rests; fed = c.in-Ok.ensures.fed }) refl refl refl refl)
     (c.run_to_rest.ensures.goes named))
 

@@ -1,4 +1,5 @@
 use Rattle.std.proofs.Common.{[], ◌∷◌, refl}
+use Rattle.network_run.specs.Outside.{Outside}
 use Rattle.network_run.proofs.Ways.{faulted_same, goes_after, takes_all, went_mute}
 use Rattle.network_text.specs.NetworkRuns.{Move}
 use Rattle.network_text.specs.declared.input.NetworkInput.{NetworkInput}
@@ -7,10 +8,10 @@ use Rattle.network_run.proofs.input.pass_time.Goals as goal
 pub returns-in-Ok-clause-takes : goal.returns-in-Ok-clause-takes
 returns-in-Ok-clause-takes g c = λ named.
     let quiet = c.args.quiet in
-    let inputs = NetworkInput.Tick c.args.ticks ∷ [] in
-    takes_all quiet c.run_to_rest.result inputs _ _
-    (goes_after quiet c.run_to_rest.result inputs [] _ _ _
-    (went_mute quiet (Move.Tick c.args.ticks c.pass_time.new.self) inputs c.args.network.now c.pass_time.new.self _ _ _ _
+    let outside = Outside.Given (NetworkInput.Tick c.args.ticks) ∷ [] in
+    takes_all quiet c.run_to_rest.result outside _ _
+    (goes_after quiet c.run_to_rest.result outside [] _ _ _
+    (went_mute quiet (Move.Tick c.args.ticks c.pass_time.new.self) outside c.args.network.now c.pass_time.new.self _ _ _ _
     (record { rested = c.requires.rests; result = c.in-Ok.ensures.passes.1 }) refl refl refl refl)
     (c.run_to_rest.ensures.goes named))
 

@@ -1,12 +1,12 @@
 use Rattle.network_run.specs.Code.Way.{place}
 use Rattle.network_run.specs.NetworkRunText.{script_lines}
-use Rattle.network_run.proofs.Closing.{spent_at_start, started}
-use Rattle.network_run.proofs.Ways.{fault_on, faulted_before}
+use Rattle.network_run.proofs.Closing.{fault_at_start, spent_at_start, started}
+use Rattle.network_run.proofs.Ways.{fault_on}
 use Rattle.network_run.proofs.run.carry_out.Goals as goal
 
 pub returns-in_err-run_to_rest-clause-runs : goal.returns-in_err-run_to_rest-clause-runs
 returns-in_err-run_to_rest-clause-runs g c = λ named.
-    fault_on c.from_residual.result _ _ _ c.from_residual.ensures.1 (faulted_before c.args.quiet _ (c.in_err-run_to_rest.ensures.goes named))
+    fault_on c.from_residual.result _ _ _ c.from_residual.ensures.1 (fault_at_start c.args.quiet _ _ _ _ (c.in_err-run_to_rest.ensures.goes named))
 
 pub returns-then-branch-clause-runs : goal.returns-then-branch-clause-runs
 returns-then-branch-clause-runs g c = λ named.

@@ -16,16 +16,19 @@ take_input-requires-clause-for_some g c = read_for_some _ c.args.line.now c.in-I
 
 pub returns-in_err-take_input-in-Input-clause-runs : goal.returns-in_err-take_input-in-Input-clause-runs
 returns-in_err-take_input-in-Input-clause-runs g c = λ named script later from come.
+    let took = c.in_err-take_input-in-Input.ensures.takes named in
     fault_on c.from_residual.result _ _ _ c.from_residual.ensures.1
-    (faulted_in c.args.quiet later (line_is c.args.quiet c.args.number c.args.line.now (Some (Some c.in-Input.input)) later come c.in-Input.ensures)
-    (c.in_err-take_input-in-Input.ensures.takes named))
+    (faulted_in c.args.quiet later took.0 (line_is c.args.quiet c.args.number c.args.line.now (Some (Some c.in-Input.input)) later come c.in-Input.ensures)
+    took.1 took.2)
 
 pub returns-then-branch-clause-runs : goal.returns-then-branch-clause-runs
 returns-then-branch-clause-runs g c = λ named script later from come.
-    come_on c.args.quiet later (line_is c.args.quiet c.args.number c.args.line.now (Some (Some c.in-Input.input)) later come c.in-Input.ensures)
-    (went_of c.args.quiet (c.in_ok-take_input-in-Input.ensures.takes named) c.if-branch.true)
+    let took = c.in_ok-take_input-in-Input.ensures.takes named in
+    come_on c.args.quiet later took.0 (line_is c.args.quiet c.args.number c.args.line.now (Some (Some c.in-Input.input)) later come c.in-Input.ensures)
+    took.1 (went_of c.args.quiet took.2 c.if-branch.true)
 
 pub returns-else-branch-clause-runs : goal.returns-else-branch-clause-runs
 returns-else-branch-clause-runs g c = λ named script later from come.
-    ends_halted c.args.quiet later (line_is c.args.quiet c.args.number c.args.line.now (Some (Some c.in-Input.input)) later come c.in-Input.ensures)
-    (c.in_ok-take_input-in-Input.ensures.takes named) (rw c.if-branch.false at c.in_ok-take_input-in-Input.ensures.rests)
+    let took = c.in_ok-take_input-in-Input.ensures.takes named in
+    ends_halted c.args.quiet later took.0 (line_is c.args.quiet c.args.number c.args.line.now (Some (Some c.in-Input.input)) later come c.in-Input.ensures)
+    took.1 took.2 (rw c.if-branch.false at c.in_ok-take_input-in-Input.ensures.rests)

@@ -11,7 +11,6 @@ use Rattle.network_run.proofs.Speaking.{there_submitted, there_worked}
 use Rattle.network_run.proofs.StepText.{other_is, submitted_is}
 use Rattle.network_run.proofs.Ways.{faulted_after, faulted_mute, goes_after, goes_move, on_any, went_mute}
 use Rattle.network_run.proofs.Writing.{puts_as}
-use Rattle.network_run.specs.Code.Way.{place}
 use Rattle.network_run.specs.declared.fault.RunFault.{RunFault}
 use Rattle.network_text.specs.NetworkRuns.{Move}
 use Rattle.network_run.proofs.settle.put_work.Goals as goal

@@ -1,4 +1,4 @@
-use Rattle.memb_core.proofs.Lemmas.{◌≡◌, false, take, ap, ◌∙◌, arith, take-replicate, pool_of, all_unused}
+use Rattle.memb_core.proofs.Lemmas.{false, take, ap, ◌∙◌, arith, take-replicate, pool_of, all_unused}
 use Rattle.memb_core.proofs.pool.Pool.new.Goals as goal
 
 pub returns-clause-unused : goal.returns-clause-unused

@@ -1,0 +1,76 @@
+//! The run of a whole script.
+
+ghost use Rattle.std.specs.Prelude.{◌≡◌, ◌<◌, ◌+◌, ◌-◌, ◌^◌, [], length};
+ghost use Rattle.network_run.specs.NetworkRunText.{Gives, script_lines};
+ghost use Rattle.network_setup.specs.MoteApps.{voices_of};
+ghost use Rattle.network_setup.specs.ScriptRuns.{EndsAtOnce, HasRunScript, is_there};
+ghost use Rattle.network_setup.specs.SetUpRuns.{HasRunSetUp, start_of};
+ghost use Rattle.network_setup.specs.SetupView.{SetupView};
+ghost use Rattle.network_text.specs.NetworkScript.{read_network_lines};
+
+use crate::fault::{LineFault, SetUpRunFault};
+use crate::run::{read_setup, run_setup};
+use crate::setup::Setup;
+use mote_text::output_buffer::OutputBuffer;
+use mote_text::script::{End, SCRIPT_LIMIT};
+use mote_types::device::ByteSink;
+use network_run::fault::RunFault;
+use network_run::write::write_all;
+use network_text::lines::last_text;
+use std::alloc::Global;
+
+/// Writes the last line of a run that ends before anything has happened.
+fn end_at_once<K: ByteSink>(sink: &mut K, end: End) -> Result<End, SetUpRunFault>
+    requires countable { K.failure_count sink.old < 2 ^ 64 - 1 }
+    ensures ended { K.is_named → Gives (K.given sink.old) (K.given sink.new) (λ written. EndsAtOnce end written result) }
+{
+    let mut text = OutputBuffer::new();
+    last_text(end, &mut text);
+    match write_all(sink, text.as_slice()) {
+        Ok(()) => Ok(end),
+        Err(_) => Err(SetUpRunFault::Run(RunFault::Write)),
+    }
+}
+
+/// Whether there is the mote that is asked for, if one is.
+fn is_there(only: Option<u32>, motes: usize) -> bool
+    ensures { result ≡ is_there only motes }
+{
+    match only {
+        Some(number) => number as usize <= motes,
+        None => true,
+    }
+}
+
+/// Runs the script of a network: its first lines set the network up, and the lines from the first input on are its inputs. Writes the
+/// transcript; if `quiet` is true, only the lines of a quiet one. If `only` is a mote's number, the network must have this mote.
+///
+/// A script of more than 16,777,216 bytes isn't executed; nor is one with a malformed line before its first input.
+///
+/// # Errors
+///
+/// `Memory` and `NoMote`: nothing was written. `Run` where writing fails, and where the run of the network does not end.
+pub fn run_script<K: ByteSink>(
+    alloc: Global,
+    script: &[u8],
+    sink: &mut K,
+    quiet: bool,
+    only: Option<u32>,
+) -> Result<End, SetUpRunFault>
+    requires countable { K.failure_count sink.old < 2 ^ 64 - 1 }
+    ensures ran { K.is_named → Gives (K.given sink.old) (K.given sink.new) (λ written. HasRunScript quiet only script.now written result) }
+{
+    if script.len() > SCRIPT_LIMIT as usize {
+        return end_at_once(sink, End::TooLong);
+    }
+    let mut setup = Setup::new(alloc);
+    let inputs = match read_setup(alloc, script, &mut setup) {
+        Ok(inputs) => inputs,
+        Err((_, LineFault::Memory)) => return Err(SetUpRunFault::Memory),
+        Err((number, LineFault::Malformed)) => return end_at_once(sink, End::BadLine(number)),
+    };
+    if !is_there(only, setup.motes.len()) {
+        return Err(SetUpRunFault::NoMote);
+    }
+    run_setup(alloc, setup, inputs, sink, quiet)
+}
