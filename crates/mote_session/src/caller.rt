@@ -1,6 +1,5 @@
 //! Who makes the calls of applications.
 
-ghost use Rattle.std.specs.Prelude.{◌≡◌, true};
 ghost use Rattle.mote_session.specs.Voices.{IsCall, Voices};
 
 use crate::session::OpenTurn;
@@ -12,8 +11,7 @@ pub trait Caller {
     ghost voices: { Self → Voices };
 
     /// Puts the call of the application whose turn it is into `call`, where the last call may still be. `mote` is the number by which
-    /// the caller knows the mote. Returns whether there is such an application.
-    fn call_into(&mut self, mote: usize, turn: OpenTurn<'_>, call: &mut Call) -> bool
-        ensures call { result ≡ true → IsCall mote turn.entry.process.0 turn.entry.stimulus.now call.new
-            (voices self.old) (voices self.new) };
+    /// the caller knows the mote. Where it has no such application, that one waits.
+    fn call_into(&mut self, mote: usize, turn: OpenTurn<'_>, call: &mut Call)
+        ensures call { IsCall mote turn.entry.process.0 turn.entry.stimulus.now call.new (voices self.old) (voices self.new) };
 }

@@ -17,7 +17,7 @@ ghost use Rattle.mote_session.specs.Sent.{sent_in};
 ghost use Rattle.mote_session.specs.Code.Places.{AreInPlace, session_view, turn_in};
 ghost use Rattle.mote_session.specs.Code.Speaking.{SpeaksBy};
 ghost use Rattle.mote_session.specs.Voices.{IsCall, SpokeLast};
-ghost use Rattle.mote_session.specs.Code.Working.{MakesCall, TurnTaken, WorksBy};
+ghost use Rattle.mote_session.specs.Code.Working.{MakesCall, WorksBy};
 ghost use Rattle.mote_session.specs.History.{History, at_boot, with_call, with_input, with_said};
 ghost use Rattle.mote_session.specs.Refusals.{input_refusal, is_input, line_refusal, unfit, unrest};
 ghost use Rattle.mote_session.specs.SessionRuns.{IsHistoryOf, KeepsPromise};
@@ -70,8 +70,6 @@ pub enum Worked {
     Turn,
     /// Another entry was made: of an input, a note, or that the mote was halted.
     Entry,
-    /// The caller has no application that must take a turn, and its call is awaited.
-    NoCall,
     /// Nothing is left to be done without an input.
     Rest,
     /// The mote was halted before: nothing follows.
@@ -154,23 +152,22 @@ fn submit_in(kernel: &mut AwaitingKernel, turn: &mut Turn, pid: Pid, call: Call)
     kernel.submit(pid, &turn.call);
 }
 
-/// Has the caller put a call into the turn that awaits it, and executes it. Returns whether there was one.
+/// Has the caller put a call into the turn that awaits it, and executes it.
 fn call_in<H: Caller>(
     kernel: &mut AwaitingKernel,
     turn: &mut Turn,
     pid: Pid,
     mote: usize,
     caller: &mut H,
-) -> bool
+)
     requires { kernel.old.turn ≡ Some pid }
     ensures turn { turn.new ≡ record turn.old { call = turn.new.call } }
-    ensures machine { result ≡ true → kernel.new.mote.machine ≡ after_call turn.new.call pid.0 kernel.old.mote.machine }
-    ensures call { result ≡ true → IsCall mote pid.0 turn.old.stimulus turn.new.call (H.voices caller.old) (H.voices caller.new) }
-    ensures closed { result ≡ true → kernel.new.turn ≡ None }
+    ensures machine { kernel.new.mote.machine ≡ after_call turn.new.call pid.0 kernel.old.mote.machine }
+    ensures call { IsCall mote pid.0 turn.old.stimulus turn.new.call (H.voices caller.old) (H.voices caller.new) }
+    ensures closed { kernel.new.turn ≡ None }
     ensures clock { kernel.new.mote.machine.clock ≡ kernel.old.mote.machine.clock }
     ensures inputs { kernel.new.mote.inputs ≡ kernel.old.mote.inputs }
     ensures left { kernel.new.mote.entries_left ≤ kernel.old.mote.entries_left + 1 }
-    ensures none { result ≡ false → kernel.new ≡ kernel.old }
 {
     let Turn {
         pid: _,
@@ -183,14 +180,11 @@ fn call_in<H: Caller>(
         origin: *origin,
         stimulus,
     };
-    if !caller.call_into(mote, open, call) {
-        return false;
-    }
+    caller.call_into(mote, open, call);
     kernel.submit(pid, call);
-    true
 }
 
-/// The same, and notes that the turn was the last entry, if there was a call.
+/// The same, and notes that the turn was the last entry.
 fn take_in<H: Caller>(
     kernel: &mut AwaitingKernel,
     turn: &mut Turn,
@@ -198,23 +192,18 @@ fn take_in<H: Caller>(
     pid: Pid,
     mote: usize,
     caller: &mut H,
-) -> bool
+)
     requires open { kernel.old.turn ≡ Some pid }
     requires place { turn.old.pid ≡ pid }
-    ensures submitted { result ≡ true → (taken working : Taken) (other : Made) →
+    ensures submitted { (taken working : Taken) (other : Made) →
         MakesCall (session_view kernel.old turn.old taken other last.old) (session_view kernel.new working turn.new other last.new) }
-    ensures speaks { result ≡ true → (working : Taken) (other : Made) → SpokeLast mote
+    ensures speaks { (working : Taken) (other : Made) → SpokeLast mote
         ((session_view kernel.new working turn.new other last.new).last) (H.voices caller.old) (H.voices caller.new) }
-    ensures closed { result ≡ true → kernel.new.turn ≡ None }
-    ensures none { result ≡ false → (kernel.new ≡ kernel.old) × (last.new ≡ last.old) }
+    ensures closed { kernel.new.turn ≡ None }
     ensures turn { turn.new ≡ record turn.old { call = turn.new.call } }
 {
-    let is_made = call_in(kernel, turn, pid, mote, caller);
-    if is_made {
-        *last = LastEntry::Turn;
-        return true;
-    }
-    false
+    call_in(kernel, turn, pid, mote, caller);
+    *last = LastEntry::Turn;
 }
 
 /// The one buffer or the other.
@@ -399,58 +388,53 @@ impl Session {
         ensures speaks { SpeaksBy result mote self.new (H.voices caller.old) (H.voices caller.new) }
     {
         match self.advance() {
-            Next::Turn => self.take_turn(mote, caller),
+            Next::Turn => {
+                self.take_turn(mote, caller);
+                Worked::Turn
+            }
             Next::Entry => Worked::Entry,
             Next::Rest => Worked::Rest,
             Next::Halted => Worked::Halted,
         }
     }
 
-    /// Has the caller make the call of the turn that awaits it, if there is one.
-    fn take_turn<H: Caller>(&mut self, mote: usize, caller: &mut H) -> Worked
+    /// Has the caller make the call of the turn that awaits it, and executes it.
+    fn take_turn<H: Caller>(&mut self, mote: usize, caller: &mut H)
         requires { self.old.turn ≢ None }
-        ensures taken { TurnTaken result self.old self.new }
-        ensures speaks { SpeaksBy result mote self.new (H.voices caller.old) (H.voices caller.new) }
+        ensures submitted { MakesCall self.old self.new }
+        ensures speaks { SpokeLast mote self.new.last (H.voices caller.old) (H.voices caller.new) }
     {
-        match self.kernel.turn() {
-            Some(pid) if self.end_turn_by(pid, mote, caller) => Worked::Turn,
-            _ => Worked::NoCall,
+        if let Some(pid) = self.kernel.turn() {
+            self.end_turn_by(pid, mote, caller);
         }
     }
 
     /// Has the caller make the call of the application whose turn it is, and executes it.
-    fn end_turn_by<H: Caller>(&mut self, pid: Pid, mote: usize, caller: &mut H) -> bool
+    fn end_turn_by<H: Caller>(&mut self, pid: Pid, mote: usize, caller: &mut H)
         requires { IsSomeAnd self.old.turn (λ turn. turn.process ≡ pid) }
-        ensures submitted { result ≡ true → MakesCall self.old self.new }
-        ensures speaks { result ≡ true → SpokeLast mote self.new.last (H.voices caller.old) (H.voices caller.new) }
-        ensures none { result ≡ false → self.new ≡ self.old }
+        ensures submitted { MakesCall self.old self.new }
+        ensures speaks { SpokeLast mote self.new.last (H.voices caller.old) (H.voices caller.new) }
     {
         if self.works_in_odd {
-            if !take_in(
+            take_in(
                 &mut self.kernel,
                 &mut self.odd,
                 &mut self.last,
                 pid,
                 mote,
                 caller,
-            ) {
-                return false;
-            }
+            );
             self.works_in_odd = false;
-            true
         } else {
-            if !take_in(
+            take_in(
                 &mut self.kernel,
                 &mut self.even,
                 &mut self.last,
                 pid,
                 mote,
                 caller,
-            ) {
-                return false;
-            }
+            );
             self.works_in_odd = true;
-            true
         }
     }
 

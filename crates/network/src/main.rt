@@ -41,7 +41,7 @@ fn report_run<R: Print + Eprint>(rt: &R, fault: RunFault) -> u8 {
             let _ = eprintln!(rt; "{}: too many inputs or ticks", PROGRAM.name);
             70
         }
-        RunFault::NoCall | RunFault::Refused(_) => report_broken(rt),
+        RunFault::Refused(_) => report_broken(rt),
     }
 }
 

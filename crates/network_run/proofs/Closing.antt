@@ -6,25 +6,22 @@ use Rattle.mote_text.specs.declared.script.End.{End}
 use Rattle.network_session.specs.Happenings.{Happening}
 use Rattle.network_session.specs.Network.{NetworkView}
 use Rattle.network_session.specs.Promise.{IsLogOf, NetworkPromise}
-use Rattle.network_run.specs.Code.Way.{Ends, Faulted, Place, Reading, RunFaulted, RunStopped, RunsIf, Went, givens, is_write, place}
+use Rattle.network_session.specs.declared.fault.NetworkFault.{NetworkFault}
+use Rattle.std.proofs.lemmas.List.Elements.{filter_map-append}
+use Rattle.network_run.specs.Code.Way.{ComesWith, Ends, Faulted, Place, Reading, RunFaulted, RunsIf, Stopped, Went, is_write, place}
 use Rattle.network_run.specs.Code.Writing.{WritesOn}
-use Rattle.network_run.specs.NetworkRunText.{CanEnd, Gives, HasRun, IsSpent, NetworkRan, ending_text}
+use Rattle.network_run.specs.NetworkRunText.{CanStop, Gives, HasRun, IsSpent, NetworkRan, ending_text}
 use Rattle.mote_session.specs.Voices.{Voices}
 use Rattle.network_run.specs.declared.fault.RunFault.{RunFault}
-use Rattle.network_run.proofs.Scripts.{leads_length}
+use Rattle.network_run.proofs.Scripts.{all_given, given_all, given_in_turn, leads_length}
 use Rattle.network_run.proofs.Speaking.{make_the_calls}
-use Rattle.network_run.specs.Outside.{AreInTurn, Outside, all_outside}
-use Rattle.network_run.proofs.Ways.{went_on}
+use Rattle.network_run.specs.Outside.{AreInTurn, Outside, all_outside, given_of, givens}
+use Rattle.network_run.proofs.Ways.{faulted_after, faulted_before, stopped_after}
 use Rattle.network_run.proofs.Writing.{nothing_more, then_written}
 use Rattle.network_text.specs.NetworkRuns.{Leads, Move, inputs_of, log_of, moves_text}
 use Rattle.network_text.specs.NetworkScript.{read_network_lines}
 use Rattle.network_text.specs.NetworkText.{last_line}
 use Rattle.network_text.specs.declared.input.NetworkInput.{NetworkInput}
-
--- nothing has a front of something
-front_of_nothing : (front back : List Outside) → [] ≡ front ++ back → front ≡ []
-front_of_nothing [] back e = refl
-front_of_nothing (one ∷ front) back e = absurd (cc)
 
 -- the inputs that moves execute are those that came
 inputs_given : (moves : List Move) → inputs_of moves ≡ givens (all_outside moves)
@@ -37,27 +34,18 @@ inputs_given (Move.Hand m input new ∷ moves) = ap (λ (v : List NetworkInput).
 inputs_given (Move.Miss m input new ∷ moves) = ap (λ (v : List NetworkInput). NetworkInput.ForMote (m + 1) input ∷ v) (inputs_given moves)
 
 -- before the lines of a script the motes are started
-
 module _ (quiet : Bool) where
-  stopped_later : {inputs left : List NetworkInput} {lost : List ℕ} {from mid to : Place} → Went quiet [] from mid →
-      RunStopped quiet inputs left lost mid to → RunStopped quiet inputs left lost from to
-  stopped_later first stopped = record {
-    outside = stopped.outside;
-    parts = stopped.parts;
-    in_turn = stopped.in_turn;
-    went = went_on quiet first stopped.went;
-  }
-
   pub runs_after : (result : Result End RunFault) (script : Reading) (from mid to : Place) → Went quiet [] from mid → RunsIf result quiet script mid to →
       RunsIf result quiet script from to
-  runs_after (Ok end) script from mid to first ends = record { left = ends.left; can = ends.can; stopped = stopped_later first ends.stopped }
-  runs_after (Err fault) script from mid to first faulted = record {
-    left = faulted.left;
-    lost = faulted.lost;
-    kept = faulted.kept;
-    voices = faulted.voices;
-    stopped = stopped_later first faulted.stopped;
+  runs_after (Ok end) script from mid to first ends = record {
+    outside = ends.outside;
+    comes = ends.comes;
+    left = ends.left;
+    can = ends.can;
+    stopped = stopped_after quiet first ends.stopped;
   }
+  runs_after (Err fault) script from mid to first run =
+      record { outside = run.outside; comes = run.comes; faulted = faulted_after quiet first run.faulted }
 
   pub started : (result : Result End RunFault) (n : ℕ) (lines : List (List ℕ)) (from mid to : Place) → Went quiet [] from mid →
       RunsIf result quiet (read_network_lines (length mid.net.motes) n lines) mid to → RunsIf result quiet (read_network_lines (length from.net.motes) n lines) from to
@@ -65,25 +53,22 @@ module _ (quiet : Bool) where
       runs_after result (read_network_lines (length from.net.motes) n lines) from mid to first
       (subst (λ (motes : ℕ). RunsIf result quiet (read_network_lines motes n lines) mid to) (leads_length first.moves from.net mid.net first.leads) runs)
 
+  all_to_come : (inputs : List NetworkInput) → ComesWith inputs (all_given inputs)
+  all_to_come inputs = record { given = sym (given_all inputs); in_turn = given_in_turn inputs }
+
   pub spent_at_start : (script : Reading) (from to : Place) → Went quiet [] from to → IsSpent to.net → Ends quiet script End.Halted from to
-  spent_at_start script from to went spent =
-      record { left = script.0; can = spent; stopped = record { outside = []; parts = refl; in_turn = tt; went = went } }
+  spent_at_start script from to went spent = record {
+    outside = all_given script.0;
+    comes = all_to_come script.0;
+    left = all_given script.0;
+    can = spent;
+    stopped = record { carried = []; parts = refl; went = went };
+  }
 
   -- or there is a fault there
   pub fault_at_start : (inputs : List NetworkInput) (fault : RunFault) (from to : Place) → Faulted quiet [] fault from to → RunFaulted quiet inputs fault from to
-  fault_at_start inputs fault from to faulted = record {
-    left = inputs;
-    lost = faulted.lost;
-    kept = faulted.kept;
-    voices = faulted.voices;
-    stopped = record {
-      outside = [];
-      parts = refl;
-      in_turn = tt;
-      went = subst (λ (outside : List Outside). Went quiet outside from (record to { voices = faulted.voices; due = faulted.lost })) (front_of_nothing faulted.stopped.carried faulted.left faulted.stopped.parts)
-          faulted.stopped.went;
-    };
-  }
+  fault_at_start inputs fault from to faulted =
+      record { outside = all_given inputs; comes = all_to_come inputs; faulted = faulted_before quiet (all_given inputs) faulted }
 
 -- the promise, as the law of a network's texts says it
 abbrev pub PromiseLaw : Type 0
@@ -92,11 +77,11 @@ PromiseLaw = (configs : ℕ → Config) (room : ℕ) (links : List (List Link)) 
 
 module _ (law : PromiseLaw) (quiet : Bool) (script : Reading) (start net : NetworkView) (voices later_voices : Voices) where
   -- what was done, and the text of that
-  ran : (said : Voices) (given now due later lost text : List ℕ) (left : List NetworkInput) (ending : Option End) →
-      RunStopped quiet script.0 left due (place given [] start voices) (place now due net said) →
-      IfSome ending (λ end. CanEnd net left script.1 end) → WritesOn now due later lost text → text ≡ ending_text ending →
+  ran : (said : Voices) (given now due later lost text : List ℕ) (outside left : List Outside) (ending : Option (Result End NetworkFault)) →
+      ComesWith script.0 outside → Stopped quiet outside left due (place given [] start voices) (place now due net said) →
+      IfSome ending (CanStop net left script.1) → WritesOn now due later lost text → text ≡ ending_text ending →
       Gives given later (λ written. NetworkRan quiet start voices script written lost ending)
-  ran said given now due later lost text left ending stopped ends writes is =
+  ran said given now due later lost text outside left ending comes stopped ends writes is =
       let all = then_written stopped.went.writes writes in (
         all.out,
         all.given,
@@ -106,53 +91,59 @@ module _ (law : PromiseLaw) (quiet : Bool) (script : Reading) (start net : Netwo
           leads = stopped.went.leads;
           left = left;
           calls = make_the_calls stopped.went.moves start net voices said stopped.went.leads stopped.went.calls;
-          inputs = stopped.parts ∙ ap (λ (v : List NetworkInput). v ++ left)
-              (ap givens (sym stopped.went.carried) ∙ sym (inputs_given stopped.went.moves));
-          in_turn = subst AreInTurn (sym stopped.went.carried) stopped.in_turn;
+          inputs = comes.given ∙ (ap givens stopped.parts ∙ (filter_map-append given_of stopped.carried left
+              ∙ ap (λ v. v ++ givens left) (ap givens (sym stopped.went.carried) ∙ sym (inputs_given stopped.went.moves))));
+          in_turn = subst AreInTurn (stopped.parts ∙ ap (λ v. v ++ left) (sym stopped.went.carried)) comes.in_turn;
           ends = ends;
           is_text = sym all.parted ∙ ap (λ (t : List ℕ). moves_text quiet start stopped.went.moves ++ t) is;
           promise = λ configs room links booted. law configs room links [] stopped.went.moves start net booted stopped.went.leads;
         },
       )
 
-  pub closed : (end : End) (given now due later : List ℕ) → Ends quiet script end (place given [] start voices) (place now due net later_voices) → WritesOn now due later [] (last_line end) →
-      Gives given later (λ written. HasRun quiet start voices script written (Ok end))
-  closed end given now due later ends writes = ran later_voices given now due later [] (last_line end) ends.left (Some end) ends.stopped ends.can writes refl
+  pub closed : (end : End) (given now due later : List ℕ) → Ends quiet script end (place given [] start voices) (place now due net later_voices) →
+      WritesOn now due later [] (last_line end) → Gives given later (λ written. HasRun quiet start voices script written (Ok end))
+  closed end given now due later ends writes =
+      ran later_voices given now due later [] (last_line end) ends.outside ends.left (Some (Ok end)) ends.comes ends.stopped ends.can writes refl
 
   pub cut_off : (end : End) (given now due later lost : List ℕ) → Ends quiet script end (place given [] start voices) (place now due net later_voices) →
       WritesOn now due later lost (last_line end) → Gives given later (λ written. HasRun quiet start voices script written (Err RunFault.Write))
   cut_off end given now due later lost ends writes =
-      let r = ran later_voices given now due later lost (last_line end) ends.left (Some end) ends.stopped ends.can writes refl in (r.0, r.1, (lost, Some end, r.2))
+      let r = ran later_voices given now due later lost (last_line end) ends.outside ends.left (Some (Ok end)) ends.comes ends.stopped ends.can writes refl in
+      (r.0, r.1, (lost, Some (Ok end), r.2))
 
-  pub failed_before : (fault : RunFault) (given now due : List ℕ) → is_write fault ≡ true → RunFaulted quiet script.0 fault (place given [] start voices) (place now due net later_voices) →
+  pub failed_before : (fault : RunFault) (given now due : List ℕ) → is_write fault ≡ true →
+      RunFaulted quiet script.0 fault (place given [] start voices) (place now due net later_voices) →
       Gives given now (λ written. HasRun quiet start voices script written (Err fault))
-  failed_before RunFault.Write given now due is faulted =
-      let r = ran faulted.voices given now faulted.lost now faulted.lost [] faulted.left None
-      (record { outside = faulted.stopped.outside; parts = faulted.stopped.parts; in_turn = faulted.stopped.in_turn; went = faulted.stopped.went }) tt (nothing_more now faulted.lost) refl in
+  failed_before RunFault.Write given now due is run =
+      let faulted = run.faulted in
+      let r = ran faulted.voices given now faulted.lost now faulted.lost [] run.outside faulted.left None run.comes
+      (record { carried = faulted.stopped.carried; parts = faulted.stopped.parts; went = faulted.stopped.went }) tt (nothing_more now faulted.lost) refl in
       (r.0, r.1, (faulted.lost, None, r.2))
-  failed_before RunFault.NoCall given now due is faulted = absurd (cc)
-  failed_before (RunFault.Refused refusal) given now due is faulted = absurd (cc)
+  failed_before (RunFault.Refused refusal) given now due is run = absurd (cc)
 
-  stopped_whole : (fault : RunFault) (given now due : List ℕ) → is_write fault ≡ false → (faulted : RunFaulted quiet script.0 fault (place given [] start voices) (place now due net later_voices)) →
-      RunStopped quiet script.0 faulted.left due (place given [] start voices) (place now due net faulted.voices)
-  stopped_whole fault given now due not faulted =
-      subst (λ (lost : List ℕ). RunStopped quiet script.0 faulted.left lost (place given [] start voices) (place now due net faulted.voices)) (faulted.kept not) faulted.stopped
+  stopped_whole : (fault : RunFault) (outside : List Outside) (given now due : List ℕ) → is_write fault ≡ false →
+      (faulted : Faulted quiet outside fault (place given [] start voices) (place now due net later_voices)) →
+      Stopped quiet outside faulted.left due (place given [] start voices) (place now due net faulted.voices)
+  stopped_whole fault outside given now due not faulted =
+      subst (λ (lost : List ℕ). Stopped quiet outside faulted.left lost (place given [] start voices) (place now due net faulted.voices)) (faulted.kept not) faulted.stopped
 
-  pub failed_now : (fault : RunFault) (given now due later lost : List ℕ) → is_write fault ≡ false → RunFaulted quiet script.0 fault (place given [] start voices) (place now due net later_voices) →
+  pub failed_now : (fault : RunFault) (given now due later lost : List ℕ) → is_write fault ≡ false →
+      RunFaulted quiet script.0 fault (place given [] start voices) (place now due net later_voices) →
       WritesOn now due later lost [] → Gives given later (λ written. HasRun quiet start voices script written (Err RunFault.Write))
-  failed_now fault given now due later lost not faulted writes =
-      let r = ran faulted.voices given now due later lost [] faulted.left None (stopped_whole fault given now due not faulted) tt writes refl in (r.0, r.1, (lost, None, r.2))
+  failed_now fault given now due later lost not run writes =
+      let faulted = run.faulted in
+      let r = ran faulted.voices given now due later lost [] run.outside faulted.left None run.comes (stopped_whole fault run.outside given now due not faulted) tt
+      writes refl in
+      (r.0, r.1, (lost, None, r.2))
 
-  with_fault : (fault : RunFault) (written : List ℕ) → is_write fault ≡ false → NetworkRan quiet start voices script written [] None → HasRun quiet start voices script written (Err fault)
-  with_fault RunFault.Write written not r = absurd (cc)
-  with_fault RunFault.NoCall written not r = r
-  with_fault (RunFault.Refused refusal) written not r = r
-
-  pub failed : (fault : RunFault) (given now due later : List ℕ) → is_write fault ≡ false → RunFaulted quiet script.0 fault (place given [] start voices) (place now due net later_voices) →
+  pub failed : (fault : RunFault) (given now due later : List ℕ) → is_write fault ≡ false →
+      RunFaulted quiet script.0 fault (place given [] start voices) (place now due net later_voices) →
       WritesOn now due later [] [] → Gives given later (λ written. HasRun quiet start voices script written (Err fault))
-  failed fault given now due later not faulted writes =
-      let r = ran faulted.voices given now due later [] [] faulted.left None (stopped_whole fault given now due not faulted) tt writes refl in
-      (r.0, r.1, with_fault fault r.0 not r.2)
+  failed RunFault.Write given now due later not run writes = absurd (cc)
+  failed (RunFault.Refused refusal) given now due later not run writes =
+      let faulted = run.faulted in
+      ran faulted.voices given now due later [] [] run.outside faulted.left (Some (Err refusal)) run.comes
+      (stopped_whole (RunFault.Refused refusal) run.outside given now due not faulted) faulted.why writes refl
 
 -- the fault that is handed on is that of a write
 pub at_write : (quiet : Bool) (script : Reading) (start : NetworkView) (voices : Voices) (given later : List ℕ) (result : Result End RunFault) (fault : RunFault) →

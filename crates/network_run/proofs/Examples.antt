@@ -1,13 +1,14 @@
 -- Worked examples: the lines of a script, and how a run can end.
 use Rattle.std.specs.Fmt.{digits}
-use Rattle.std.proofs.Common.{◌≡◌, [], ◌∷◌, codes, refl, None, Some}
+use Rattle.std.proofs.Common.{◌≡◌, ◌^◌, [], ◌∷◌, codes, refl, Err, None, Ok, Some}
 use Rattle.mote_text.specs.declared.script.End.{End}
 use Rattle.mote_text.specs.EntryText.{line_of}
 use Rattle.mote_text.specs.Script.{read_line}
 use Rattle.network_session.specs.Network.{NetworkView}
+use Rattle.network_session.specs.declared.fault.NetworkFault.{NetworkFault}
 use Rattle.mote_types.specs.declared.entry.Input.{Input}
 use Rattle.network_run.specs.NetworkRunText.{CanEnd, ending_text, script_lines}
-use Rattle.network_run.specs.Outside.{AreInTurn, Outside}
+use Rattle.network_run.specs.Outside.{AreInTurn, Outside, next_refusal}
 use Rattle.network_text.specs.NetworkScript.{read_network_lines}
 use Rattle.network_text.specs.declared.input.NetworkInput.{NetworkInput}
 
@@ -21,21 +22,22 @@ said : read_network_lines 1 4 (script_lines (codes "tick 3\ntock\ntick 4\n")) �
 unfolding read_line
 said = refl
 
-endings : (ending_text None ≡ []) × (ending_text (Some (End.BadLine 5)) ≡ codes "bad line 5\n")
+endings : (ending_text None ≡ []) × (ending_text (Some (Ok (End.BadLine 5))) ≡ codes "bad line 5\n")
+    × (ending_text (Some (Err NetworkFault.TooLong)) ≡ [])
 unfolding line_of digits
-endings = (refl, refl)
+endings = (refl, refl, refl)
 
 module _ (net : NetworkView) where
-  -- a run doesn't finish while an input is left, and no run on lines ends as another one
-  left_over : (n : NetworkInput) → CanEnd net (n ∷ []) End.Finished End.Finished → ⊥
-  left_over n can = let e = can.none_left in absurd (cc)
+  -- a run doesn't finish while anything is left, and no run on lines ends as another one
+  left_over : (next : Outside) → CanEnd net (next ∷ []) End.Finished End.Finished → ⊥
+  left_over next can = let e = can.none_left in absurd (cc)
 
   other_end : CanEnd net [] (End.BadLine 5) End.Finished → ⊥
   other_end can = let e = can.says in absurd (cc)
 
--- the first mote gets the time before its own input, or at the end of a run; not before one of the second mote, nor of all, nor twice
+-- the first mote gets the time before its own input; not before one of the second mote, nor of all, nor twice, nor at the end
 module _ (input : Input) where
-  in_turn : AreInTurn (Outside.Time 0 ∷ Outside.Given (NetworkInput.ForMote 1 input) ∷ Outside.Time 1 ∷ [])
+  in_turn : AreInTurn (Outside.Time 0 ∷ Outside.Given (NetworkInput.ForMote 1 input) ∷ [])
   in_turn = (refl, tt)
 
   for_another : AreInTurn (Outside.Time 0 ∷ Outside.Given (NetworkInput.ForMote 2 input) ∷ []) → ⊥
@@ -46,3 +48,17 @@ module _ (input : Input) where
 
   twice : AreInTurn (Outside.Time 0 ∷ Outside.Time 0 ∷ []) → ⊥
   twice turn = turn
+
+  at_the_end : AreInTurn (Outside.Given (NetworkInput.ForMote 1 input) ∷ Outside.Time 0 ∷ []) → ⊥
+  at_the_end turn = turn
+
+-- the clock goes to 2^62, and not further; nothing is refused where nothing is left
+module _ (net : NetworkView) (idle : net.active ≡ None) where
+  too_long : net.target ≡ 2 ^ 62 → next_refusal (Outside.Given (NetworkInput.Tick 1) ∷ []) net ≡ Some NetworkFault.TooLong
+  too_long most = rw (idle, most) refl
+
+  last_moment : net.target ≡ 0 → next_refusal (Outside.Given (NetworkInput.Tick 9) ∷ []) net ≡ None
+  last_moment most = rw (idle, most) refl
+
+  nothing_left : next_refusal [] net ≡ None
+  nothing_left = refl

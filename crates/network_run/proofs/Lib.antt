@@ -5,5 +5,6 @@ pub mod StepText
 pub mod Doing
 pub mod Speaking
 pub mod Ways
+mod Refusals
 pub mod Scripts
 pub mod Closing

@@ -1,5 +1,5 @@
 -- A script's lines, one after the other.
-use Rattle.std.proofs.Common.{◌≡◌, ◌+◌, ◌-◌, ◌<◌, ◌==◌, ℕ, zero, suc, Bool, true, false, List, [], ◌∷◌, ◌++◌, length, take, drop, set, refl, ap, sym, subst, ◌∙◌, add-one, if◌then◌else◌, append_assoc, append-nil, arith, Result, Option, None, Some, ◌||◌, nat_lt, slice_index, Err, Ok, inl, inr}
+use Rattle.std.proofs.Common.{map, ◌≡◌, ◌+◌, ◌-◌, ◌<◌, ◌==◌, ℕ, zero, suc, Bool, true, false, List, [], ◌∷◌, ◌++◌, length, take, drop, set, refl, ap, sym, subst, ◌∙◌, add-one, if◌then◌else◌, append_assoc, append-nil, arith, Result, Option, None, Some, ◌||◌, nat_lt, slice_index, Err, Ok, inl, inr}
 use Rattle.std.proofs.lemmas.Bool.Decides.{nat_tests}
 use Rattle.std.proofs.lemmas.List.{length-set}
 use Rattle.std.proofs.lemmas.List.Elements.{filter_map-append}
@@ -11,11 +11,11 @@ use Rattle.mote_types.specs.declared.entry.Input.{Input}
 use Rattle.network_session.specs.Network.{NetworkView}
 use Rattle.network_session.specs.Steps.{Steps}
 use Rattle.network_session.specs.declared.outcome.Outcome.{Outcome}
-use Rattle.network_run.specs.Code.Way.{Ends, Faulted, HasCome, IsTimeFor, IsWithTime, Place, RunFaulted, RunStopped, Stopped, Takes, TakesIf, TakesInputIf, Went, given_of, givens}
-use Rattle.network_run.specs.NetworkRunText.{IsSpent, script_lines}
+use Rattle.network_run.specs.Code.Way.{ComesWith, Ends, Faulted, HasCome, IsTimeFor, IsWithTime, Place, RunFaulted, Takes, TakesIf, TakesInputIf, Went}
+use Rattle.network_run.specs.NetworkRunText.{CanEnd, IsSpent, script_lines}
 use Rattle.network_run.specs.declared.fault.RunFault.{RunFault}
-use Rattle.network_run.specs.Outside.{AreInTurn, IsFor, Outside}
-use Rattle.network_run.proofs.Ways.{faulted_before, takes_after, takes_before, went_nowhere, went_on}
+use Rattle.network_run.specs.Outside.{AreInTurn, IsFor, Outside, given_of, givens}
+use Rattle.network_run.proofs.Ways.{all_carried, faulted_after, faulted_before, stopped_after, stopped_before, takes_after, takes_before, went_nowhere, went_on}
 use Rattle.network_text.specs.NetworkRuns.{IsMove, IsResting, Leads, Move, after_move}
 use Rattle.network_text.specs.NetworkScript.{if_for_some, is_for_some, read_network_input, read_network_line, read_network_lines, with_network_line}
 use Rattle.network_text.specs.declared.input.NetworkInput.{NetworkInput}
@@ -115,13 +115,17 @@ read_for_some motes line input e =
 
 -- ---- what comes in turn
 
--- the front of what comes in turn
-in_front : (front back : List Outside) → AreInTurn (front ++ back) → AreInTurn front
-in_front [] back turn = tt
-in_front (Outside.Given input ∷ front) back turn = in_front front back turn
-in_front (Outside.Time m ∷ []) back turn = tt
-in_front (Outside.Time m ∷ Outside.Time k ∷ front) back turn = absurd turn
-in_front (Outside.Time m ∷ Outside.Given input ∷ front) back turn = (turn.0, in_front front back turn.1)
+-- inputs with no time before them
+abbrev pub all_given : List NetworkInput → List Outside
+all_given inputs = map Outside.Given inputs
+
+pub given_all : (inputs : List NetworkInput) → givens (all_given inputs) ≡ inputs
+given_all [] = refl
+given_all (input ∷ inputs) = ap (λ (later : List NetworkInput). input ∷ later) (given_all inputs)
+
+pub given_in_turn : (inputs : List NetworkInput) → AreInTurn (all_given inputs)
+given_in_turn [] = tt
+given_in_turn (input ∷ inputs) = given_in_turn inputs
 
 -- an input with the time before it, and more
 with_more : (input : NetworkInput) (outside more : List Outside) → IsWithTime input outside → AreInTurn more → AreInTurn (outside ++ more)
@@ -138,12 +142,7 @@ given_with_time input outside is =
       | inr told ↦ rw (is.1, told.1) refl
     ]
 
--- the time alone, before an input that is left
-given_before : (m : ℕ) (times : List Outside) → IsTimeFor m times → givens times ≡ []
-given_before m times (inl none) = rw none refl
-given_before m times (inr told) = rw told refl
-
-pub with_time : (m number : ℕ) (said : NetworkInput) (input : Input) (times : List Outside) → IsTimeFor m times → number ≡ m + 1 →
+with_time : (m number : ℕ) (said : NetworkInput) (input : Input) (times : List Outside) → IsTimeFor m times → number ≡ m + 1 →
     said ≡ NetworkInput.ForMote number input → IsWithTime said (times ++ Outside.Given said ∷ [])
 with_time m number said input times (inl none) e is = (times, refl, inl none)
 with_time m number said input times (inr told) e is =
@@ -161,10 +160,6 @@ tick_taken quiet result said ticks from to is takes = (
   subst (λ (i : NetworkInput). TakesIf result quiet (Outside.Given i ∷ []) from to) (sym is) takes,
 )
 
--- what was executed, and what is left of it
-parts_of : (carried left : List Outside) (outside : List Outside) → outside ≡ carried ++ left → givens outside ≡ givens carried ++ givens left
-parts_of carried left outside e = ap givens e ∙ filter_map-append given_of carried left
-
 module _ (quiet : Bool) where
   pub line_is : {script : Script} {from here : Place} (n : ℕ) (line : List ℕ) (said : Option (Option NetworkInput)) (later : Script) →
       HasCome quiet script (with_network_line n (read_network_line (length from.net.motes) line) later) from here →
@@ -175,7 +170,7 @@ module _ (quiet : Bool) where
       (sym (is ∙ ap (λ (motes : ℕ). read_network_line motes line) same)) come
 
   -- the input of a line, for a mote that there is
-  pub number_for : (motes : ℕ) (said : NetworkInput) (number : ℕ) (input : Input) → said ≡ NetworkInput.ForMote number input →
+  number_for : (motes : ℕ) (said : NetworkInput) (number : ℕ) (input : Input) → said ≡ NetworkInput.ForMote number input →
       is_for_some motes said ≡ true → number - 1 + 1 ≡ number
   number_for motes said number input is some =
       number_is motes number input (subst (λ (i : NetworkInput). is_for_some motes i ≡ true) is some)
@@ -235,18 +230,23 @@ module _ (quiet : Bool) where
     went = went_on quiet come.went went;
   }
 
+  -- no input is left
+  pub ends_as : {script : Script} {said : End} (end : End) {from here : Place} → HasCome quiet script ([], said) from here →
+      CanEnd here.net [] script.1 end → Ends quiet script end from here
+  ends_as end {here = here} come can = record {
+    outside = come.earlier;
+    comes = record {
+      given = come.inputs ∙ append-nil (givens come.earlier);
+      in_turn = subst AreInTurn (append-nil come.earlier) (come.in_turn [] tt);
+    };
+    left = [];
+    can = can;
+    stopped = all_carried quiet here.due come.went;
+  }
+
   pub ends_bad : {script : Script} {n : ℕ} {from here : Place} → HasCome quiet script ([], End.BadLine n) from here → IsResting here.net →
       Ends quiet script (End.BadLine n) from here
-  ends_bad {here = here} come rests = record {
-    left = [];
-    can = record { rests = rests; none_left = refl; says = come.ends };
-    stopped = record {
-      outside = come.earlier;
-      parts = come.inputs;
-      in_turn = subst AreInTurn (append-nil come.earlier) (come.in_turn [] tt);
-      went = come.went;
-    };
-  }
+  ends_bad {n = n} come rests = ends_as (End.BadLine n) come (record { rests = rests; none_left = refl; says = come.ends })
 
   -- no bytes are left
   pub ends_finished : {script : Script} (motes n : ℕ) (rest : List ℕ) {from here : Place} → rest ≡ [] →
@@ -254,49 +254,37 @@ module _ (quiet : Bool) where
   ends_finished {script} motes n rest {from} {here} none came rests =
       let come : HasCome quiet script ([], End.Finished) from here =
       subst (λ (bytes : List ℕ). HasCome quiet script (read_network_lines motes n (script_lines bytes)) from here) none came in
-      record {
-        left = [];
-        can = record { rests = rests; none_left = refl; says = come.ends };
-        stopped = record {
-          outside = come.earlier;
-          parts = come.inputs;
-          in_turn = subst AreInTurn (append-nil come.earlier) (come.in_turn [] tt);
-          went = come.went;
-        };
-      }
+      ends_as End.Finished come (record { rests = rests; none_left = refl; says = come.ends })
 
-  -- the run stops amid an input
-  stopped_in : {script : Script} {input : NetworkInput} (later : Script) {from here to : Place} (outside left : List Outside) (lost : List ℕ) →
-      HasCome quiet script (input ∷ later.0, later.1) from here → IsWithTime input outside → Stopped quiet outside left lost here to →
-      RunStopped quiet script.0 (givens left ++ later.0) lost from to
-  stopped_in {input = input} later outside left lost come is stopped = record {
-    outside = come.earlier ++ stopped.carried;
-    parts = come.inputs ∙ (ap (λ (v : List NetworkInput). givens come.earlier ++ (v ++ later.0))
-        (sym (given_with_time input outside is) ∙ parts_of stopped.carried left outside stopped.parts)
-        ∙ (ap (λ (v : List NetworkInput). givens come.earlier ++ v) (append_assoc (givens stopped.carried) (givens left) later.0)
-        ∙ (sym (append_assoc (givens come.earlier) (givens stopped.carried) (givens left ++ later.0))
-        ∙ ap (λ (v : List NetworkInput). v ++ (givens left ++ later.0)) (sym (filter_map-append given_of come.earlier stopped.carried)))));
-    in_turn = come.in_turn stopped.carried
-        (in_front stopped.carried left (subst AreInTurn (append-nil outside ∙ stopped.parts) (with_more input outside [] is tt)));
-    went = went_on quiet come.went stopped.went;
+  -- what comes with the inputs of a run that stops amid one
+  amid : {script : Script} {input : NetworkInput} (later : Script) {from here : Place} (outside : List Outside) →
+      (come : HasCome quiet script (input ∷ later.0, later.1) from here) → IsWithTime input outside →
+      ComesWith script.0 (come.earlier ++ (outside ++ all_given later.0))
+  amid {input = input} later outside come is = record {
+    given = come.inputs
+        ∙ (ap (λ (v : List NetworkInput). givens come.earlier ++ v)
+        (ap (λ (v : List NetworkInput). v ++ later.0) (sym (given_with_time input outside is))
+        ∙ (ap (λ (v : List NetworkInput). givens outside ++ v) (sym (given_all later.0)) ∙ sym (filter_map-append given_of outside (all_given later.0))))
+        ∙ sym (filter_map-append given_of come.earlier (outside ++ all_given later.0)));
+    in_turn = come.in_turn (outside ++ all_given later.0) (with_more input outside (all_given later.0) is (given_in_turn later.0));
   }
 
   pub ends_halted : {script : Script} {input : NetworkInput} (later : Script) {rests : Bool} {from here to : Place} (outside : List Outside) →
       HasCome quiet script (input ∷ later.0, later.1) from here → IsWithTime input outside → Takes quiet outside rests here to → IsSpent to.net →
       Ends quiet script End.Halted from to
-  ends_halted later {to = to} outside come is takes spent = record {
-    left = givens takes.left ++ later.0;
+  ends_halted later outside come is takes spent = record {
+    outside = come.earlier ++ (outside ++ all_given later.0);
+    comes = amid later outside come is;
+    left = takes.left ++ all_given later.0;
     can = spent;
-    stopped = stopped_in later outside takes.left to.due come is takes.stopped;
+    stopped = stopped_after quiet come.went (stopped_before quiet (all_given later.0) takes.stopped);
   }
 
   pub faulted_in : {script : Script} {input : NetworkInput} (later : Script) {fault : RunFault} {from here to : Place} (outside : List Outside) →
       HasCome quiet script (input ∷ later.0, later.1) from here → IsWithTime input outside → Faulted quiet outside fault here to →
       RunFaulted quiet script.0 fault from to
   faulted_in later outside come is faulted = record {
-    left = givens faulted.left ++ later.0;
-    lost = faulted.lost;
-    kept = faulted.kept;
-    voices = faulted.voices;
-    stopped = stopped_in later outside faulted.left faulted.lost come is faulted.stopped;
+    outside = come.earlier ++ (outside ++ all_given later.0);
+    comes = amid later outside come is;
+    faulted = faulted_after quiet come.went (faulted_before quiet (all_given later.0) faulted);
   }

@@ -1,7 +1,7 @@
 -- Ways of a run, one after the other.
-use Rattle.std.proofs.Common.{◌≡◌, ℕ, Bool, true, false, List, [], ◌∷◌, ◌++◌, refl, ap, sym, subst, ◌∙◌, append_assoc, append-nil, Result, Ok, Err, IfErr, IsErrAnd, OnOk, MatchResult}
+use Rattle.std.proofs.Common.{inl, inr, ◌≡◌, ℕ, Bool, true, false, List, [], ◌∷◌, ◌++◌, refl, ap, sym, subst, ◌∙◌, append_assoc, append-nil, Result, Ok, Err, IfErr, IsErrAnd, OnOk, MatchResult}
 use Rattle.network_session.specs.Network.{NetworkView}
-use Rattle.network_run.specs.Code.Way.{Faulted, Goes, Place, Stopped, Takes, TakesIf, TakesInputIf, Went, is_write, place}
+use Rattle.network_run.specs.Code.Way.{Faulted, Goes, IsReason, Place, Stopped, Takes, TakesIf, TakesInputIf, Went, is_write, place}
 use Rattle.std.proofs.lemmas.List.Elements.{filter_map-append}
 use Rattle.network_run.specs.Code.Writing.{Puts, WritesOn}
 use Rattle.network_run.specs.declared.fault.RunFault.{RunFault}
@@ -16,6 +16,16 @@ use Rattle.network_text.proofs.Moves.{leads_on, text_on}
 
 only_write : (fault : RunFault) {lost due : List ℕ} → fault ≡ RunFault.Write → is_write fault ≡ false → lost ≡ due
 only_write fault is not = let yes : is_write fault ≡ true = ap is_write is in absurd (cc)
+
+needs_no_reason : (fault : RunFault) (net : NetworkView) (left : List Outside) → fault ≡ RunFault.Write → IsReason fault net left
+needs_no_reason fault net left is = subst (λ (one : RunFault). IsReason one net left) (sym is) tt
+
+-- the reason stays the same if more is to come
+reason_before : (fault : RunFault) (net : NetworkView) (left more : List Outside) → IsReason fault net left → IsReason fault net (left ++ more)
+reason_before RunFault.Write net left more why = tt
+reason_before (RunFault.Refused fault) net [] more (inl step) = inl step
+reason_before (RunFault.Refused fault) net [] more (inr none) = let e = none.1 in absurd (cc)
+reason_before (RunFault.Refused fault) net (next ∷ left) more why = why
 
 -- a fault that is handed on
 pub fault_on : {T : Type 0} (result : Result T RunFault) (P : T → Type 0) (Q : RunFault → Type 0) (fault : RunFault) →
@@ -47,7 +57,8 @@ module _ (quiet : Bool) where
     moves = first.moves ++ second.moves;
     leads = leads_on first.moves second.moves from.net mid.net to.net first.leads second.leads;
     calls = speak_on first.moves second.moves from.net mid.net from.voices mid.voices to.voices first.leads first.calls second.calls;
-    carried = filter_map-append outside_of first.moves second.moves ∙ (ap (λ (v : List Outside). v ++ all_outside second.moves) first.carried ∙ ap (λ (v : List Outside). outside ++ v) second.carried);
+    carried = filter_map-append outside_of first.moves second.moves
+        ∙ (ap (λ (v : List Outside). v ++ all_outside second.moves) first.carried ∙ ap (λ (v : List Outside). outside ++ v) second.carried);
     writes = subst (λ (text : List ℕ). WritesOn from.given from.due to.given to.due text)
         (sym (text_on quiet first.moves second.moves from.net mid.net first.leads)) (then_written first.writes second.writes);
   }
@@ -89,6 +100,7 @@ module _ (quiet : Bool) where
       went_move move outside old new is after speaks carried puts
   goes_move (Err fault) move outside old new given due given_later due_later voices later is after speaks carried write puts = record {
     left = [];
+    why = needs_no_reason fault new [] write;
     lost = puts.0;
     kept = only_write fault write;
     voices = later;
@@ -107,7 +119,14 @@ module _ (quiet : Bool) where
 
   pub faulted_after : {outside more : List Outside} {fault : RunFault} {from mid to : Place} → Went quiet outside from mid → Faulted quiet more fault mid to →
       Faulted quiet (outside ++ more) fault from to
-  faulted_after first second = record { left = second.left; lost = second.lost; kept = second.kept; voices = second.voices; stopped = stopped_after first second.stopped }
+  faulted_after first second = record {
+    left = second.left;
+    why = second.why;
+    lost = second.lost;
+    kept = second.kept;
+    voices = second.voices;
+    stopped = stopped_after first second.stopped;
+  }
 
   pub goes_after : {T : Type 0} (result : Result T RunFault) (outside more : List Outside) (from mid to : Place) → Went quiet outside from mid →
       Goes result quiet more mid to → Goes result quiet (outside ++ more) from to
@@ -126,17 +145,13 @@ module _ (quiet : Bool) where
 
   pub faulted_before : {outside : List Outside} (more : List Outside) {fault : RunFault} {from to : Place} → Faulted quiet outside fault from to →
       Faulted quiet (outside ++ more) fault from to
-  faulted_before more first = record { left = first.left ++ more; lost = first.lost; kept = first.kept; voices = first.voices; stopped = stopped_before more first.stopped }
-
-  -- whatever the application said that has no such turn
-  pub faulted_mute : (outside : List Outside) (fault : RunFault) (given due : List ℕ) (net : NetworkView) (voices later : Voices) →
-      Faulted quiet outside fault (place given due net voices) (place given due net later)
-  faulted_mute outside fault given due net voices later = record {
-    left = outside;
-    lost = due;
-    kept = λ not. refl;
-    voices = voices;
-    stopped = record { carried = []; parts = refl; went = went_nowhere (place given due net voices) };
+  faulted_before more {fault = fault} {to = to} first = record {
+    left = first.left ++ more;
+    why = reason_before fault to.net first.left more first.why;
+    lost = first.lost;
+    kept = first.kept;
+    voices = first.voices;
+    stopped = stopped_before more first.stopped;
   }
 
   -- something comes, and the network rests after it, or not
@@ -144,10 +159,17 @@ module _ (quiet : Bool) where
   takes_all (Ok rests) outside from to went = record { left = []; all = λ yes. refl; stopped = all_carried to.due went }
   takes_all (Err fault) outside from to faulted = faulted
 
-  -- a network that refuses is as it was
+  -- a network that refuses is as it was, whatever the application said that has no such turn
   pub faulted_same : (outside : List Outside) (fault : RunFault) (given due : List ℕ) (old new : NetworkView) (voices later : Voices) → new ≡ old →
-      Faulted quiet outside fault (place given due old voices) (place given due new later)
-  faulted_same outside fault given due old new voices later same = rw same (faulted_mute outside fault given due old voices later)
+      IsReason fault old outside → Faulted quiet outside fault (place given due old voices) (place given due new later)
+  faulted_same outside fault given due old new voices later same why = record {
+    left = outside;
+    why = rw same why;
+    lost = due;
+    kept = λ not. refl;
+    voices = voices;
+    stopped = record { carried = []; parts = refl; went = rw same (went_nowhere (place given due old voices)) };
+  }
 
   -- a move whose lines are lost
   pub faulted_move : (fault : RunFault) (move : Move) (outside : List Outside) (old new : NetworkView) (given due given_later due_later lost : List ℕ)
@@ -156,6 +178,7 @@ module _ (quiet : Bool) where
       Faulted quiet outside fault (place given due old voices) (place given_later due_later new later)
   faulted_move fault move outside old new given due given_later due_later lost voices later is after speaks carried write writes = record {
     left = [];
+    why = needs_no_reason fault new [] write;
     lost = lost;
     kept = only_write fault write;
     voices = later;

@@ -1,15 +1,17 @@
 -- What a network's run writes.
-use Rattle.std.specs.Prelude.{◌≡◌, ℕ, ◌==◌, Bool, List, [], ◌∷◌, ◌++◌, Option, None, Some, IfSome, Result, Ok, Err, if◌then◌else◌}
+use Rattle.std.specs.Prelude.{◌≡◌, ◌⊎◌, ℕ, ◌==◌, Bool, List, [], ◌∷◌, ◌++◌, Option, None, Some, IfSome, Result, Ok, Err, if◌then◌else◌}
 use Rattle.kernel_core.specs.declared.config.Config.{Config}
 use Rattle.medium_core.specs.declared.link.Link.{Link}
 use Rattle.mote_text.specs.declared.script.End.{End}
 use Rattle.network_session.specs.Network.{NetworkView}
 use Rattle.network_session.specs.Promise.{IsLogOf, NetworkPromise}
+use Rattle.network_session.specs.Refusals.{step_refusal}
 use Rattle.network_session.specs.Schedule.{due_step}
+use Rattle.network_session.specs.declared.fault.NetworkFault.{NetworkFault}
 use Rattle.network_session.specs.declared.outcome.Outcome.{Outcome}
 use Rattle.network_run.specs.declared.fault.RunFault.{RunFault}
 use Rattle.mote_session.specs.Voices.{Voices}
-use Rattle.network_run.specs.Outside.{AreInTurn, all_outside}
+use Rattle.network_run.specs.Outside.{AreInTurn, Outside, all_outside, givens, next_refusal}
 use Rattle.network_run.specs.Voices.{MakeTheCalls}
 use Rattle.network_text.specs.NetworkRuns.{IsResting, Leads, Move, inputs_of, log_of, moves_text}
 use Rattle.network_text.specs.NetworkText.{last_line}
@@ -31,35 +33,45 @@ pub record IsSpent (net : NetworkView) : Type 0 where
   pub due : due_step net ≡ Outcome.Exhausted
 
 -- nothing is left to do, and no input; the script ends so
-pub record IsDone (net : NetworkView) (left : List NetworkInput) (said end : End) : Type 0 where
+pub record IsDone (net : NetworkView) (left : List Outside) (said end : End) : Type 0 where
   pub rests : IsResting net
   pub none_left : left ≡ []
   pub says : said ≡ end
 
--- A run can end so in this network, where these inputs are left, and the script ends as is said
-abbrev pub CanEnd : NetworkView → List NetworkInput → End → End → Type 0
+-- A run can end so in this network, where this is left, and the script ends as is said
+abbrev pub CanEnd : NetworkView → List Outside → End → End → Type 0
 CanEnd net left said End.Halted = IsSpent net
 CanEnd net left said End.Finished = IsDone net left said End.Finished
 CanEnd net left said (End.BadLine n) = IsDone net left said (End.BadLine n)
 CanEnd net left said End.TooLong = IsDone net left said End.TooLong
 
--- the last line, once the run has ended
-abbrev pub ending_text : Option End → List ℕ
-ending_text None = []
-ending_text (Some end) = last_line end
+-- the network refuses its next step; or it rests, and refuses what comes next from outside
+abbrev pub Refuses : NetworkView → List Outside → NetworkFault → Type 0
+Refuses net left fault = (step_refusal net ≡ Some fault) ⊎ (IsResting net × (next_refusal left net ≡ Some fault))
 
--- Moves of a network from its start on: they carry out the script's inputs, in order, up to those that are left, with the calls of
--- these applications; a mote gets the time only before an input. Their text was written but for the rest
+-- how a run comes to an end, or to a refusal
+abbrev pub CanStop : NetworkView → List Outside → End → Result End NetworkFault → Type 0
+CanStop net left said (Ok end) = CanEnd net left said end
+CanStop net left said (Err fault) = Refuses net left fault
+
+-- the last line, once the run has ended
+abbrev pub ending_text : Option (Result End NetworkFault) → List ℕ
+ending_text None = []
+ending_text (Some (Ok end)) = last_line end
+ending_text (Some (Err fault)) = []
+
+-- Moves of a network from its start on, with the calls of these applications. What comes in them, and what is left, are the script's
+-- inputs, in order; a mote gets the time only before an input. The text of the moves was written but for the rest
 pub record NetworkRan (quiet : Bool) (start : NetworkView) (voices : Voices) (script : List NetworkInput × End)
-    (written rest : List ℕ) (ending : Option End) : Type 0 where
+    (written rest : List ℕ) (ending : Option (Result End NetworkFault)) : Type 0 where
   pub moves : List Move
   pub net : NetworkView
   pub leads : Leads start moves net
-  pub left : List NetworkInput
-  pub inputs : script.0 ≡ inputs_of moves ++ left
-  pub in_turn : AreInTurn (all_outside moves)
+  pub left : List Outside
+  pub inputs : script.0 ≡ inputs_of moves ++ givens left
+  pub in_turn : AreInTurn (all_outside moves ++ left)
   pub calls : MakeTheCalls voices (log_of start moves)
-  pub ends : IfSome ending (λ end. CanEnd net left script.1 end)
+  pub ends : IfSome ending (CanStop net left script.1)
   pub is_text : written ++ rest ≡ moves_text quiet start moves ++ ending_text ending
   -- of a network that has just booted, what happened keeps the promise
   pub promise : (configs : ℕ → Config) (room : ℕ) (links : List (List Link)) → IsLogOf configs room links [] start →
@@ -67,11 +79,11 @@ pub record NetworkRan (quiet : Bool) (start : NetworkView) (voices : Voices) (sc
 
 -- how it ended: all was written, unless writing failed
 abbrev pub HasRun : Bool → NetworkView → Voices → List NetworkInput × End → List ℕ → Result End RunFault → Type 0
-HasRun quiet start voices script written (Ok end) = NetworkRan quiet start voices script written [] (Some end)
+HasRun quiet start voices script written (Ok end) = NetworkRan quiet start voices script written [] (Some (Ok end))
 HasRun quiet start voices script written (Err RunFault.Write) =
-    (rest : List ℕ) × (ending : Option End) × NetworkRan quiet start voices script written rest ending
-HasRun quiet start voices script written (Err RunFault.NoCall) = NetworkRan quiet start voices script written [] None
-HasRun quiet start voices script written (Err (RunFault.Refused fault)) = NetworkRan quiet start voices script written [] None
+    (rest : List ℕ) × (ending : Option (Result End NetworkFault)) × NetworkRan quiet start voices script written rest ending
+HasRun quiet start voices script written (Err (RunFault.Refused fault)) =
+    NetworkRan quiet start voices script written [] (Some (Err fault))
 
 -- what was given since then is this
 abbrev pub Gives : List ℕ → List ℕ → (List ℕ → Type 0) → Type 0

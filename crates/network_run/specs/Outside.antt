@@ -1,5 +1,9 @@
 -- What comes to a network from outside: inputs, and the time before them.
-use Rattle.std.specs.Prelude.{◌≡◌, ⊤, ℕ, ◌+◌, List, [], ◌∷◌, Option, None, Some, filter_map}
+use Rattle.std.specs.Prelude.{◌≡◌, ⊤, ℕ, ◌+◌, ◌-◌, Bool, false, List, [], ◌∷◌, Option, None, Some, filter_map, if◌then◌else◌, slice_get}
+use Rattle.mote_session.specs.SessionView.{SessionView}
+use Rattle.network_session.specs.Network.{NetworkView}
+use Rattle.network_session.specs.Refusals.{catch_up_refusal, feed_refusal, pass_refusal}
+use Rattle.network_session.specs.declared.fault.NetworkFault.{NetworkFault}
 use Rattle.network_text.specs.NetworkRuns.{Move}
 use Rattle.network_text.specs.declared.input.NetworkInput.{NetworkInput}
 
@@ -21,14 +25,39 @@ outside_of (Move.Submit call new) = None
 abbrev pub all_outside : List Move → List Outside
 all_outside moves = filter_map outside_of moves
 
+abbrev pub given_of : Outside → Option NetworkInput
+given_of (Outside.Time m) = None
+given_of (Outside.Given input) = Some input
+
+-- the inputs among what comes
+abbrev pub givens : List Outside → List NetworkInput
+givens outside = filter_map given_of outside
+
 abbrev pub IsFor : ℕ → NetworkInput → Type 0
 IsFor m (NetworkInput.Tick ticks) = ⊥
 IsFor m (NetworkInput.ForMote number input) = number ≡ m + 1
 
--- a mote gets the time only right before an input of its own, or the run ends there
+-- a mote gets the time only right before an input of its own
 abbrev pub AreInTurn : List Outside → Type 0
 AreInTurn [] = ⊤
 AreInTurn (Outside.Given input ∷ later) = AreInTurn later
-AreInTurn (Outside.Time m ∷ []) = ⊤
+AreInTurn (Outside.Time m ∷ []) = ⊥
 AreInTurn (Outside.Time m ∷ Outside.Time k ∷ later) = ⊥
 AreInTurn (Outside.Time m ∷ Outside.Given input ∷ later) = IsFor m input × AreInTurn later
+
+-- whether there is this mote, and it was halted
+abbrev pub was_halted : Option SessionView → Bool
+was_halted None = false
+was_halted (Some mote) = mote.machine.is_halted
+
+-- why this is refused. A halted mote misses it
+abbrev pub refusal_of : Outside → NetworkView → Option NetworkFault
+refusal_of (Outside.Time m) net = if was_halted (slice_get net.motes m) then None else catch_up_refusal m net
+refusal_of (Outside.Given (NetworkInput.Tick ticks)) net = pass_refusal ticks net
+refusal_of (Outside.Given (NetworkInput.ForMote number input)) net =
+    if was_halted (slice_get net.motes (number - 1)) then None else feed_refusal (number - 1) input net
+
+-- why the first of these is refused
+abbrev pub next_refusal : List Outside → NetworkView → Option NetworkFault
+next_refusal [] net = None
+next_refusal (next ∷ later) net = refusal_of next net

@@ -7,8 +7,6 @@ use network_session::fault::NetworkFault;
 pub enum RunFault {
     /// The sink failed.
     Write,
-    /// The caller has no application whose turn it is.
-    NoCall,
     /// The network refused a step or an input: a mote was handed 2^40 inputs, or the clock would exceed 2^62.
     Refused(NetworkFault),
 }

@@ -3,7 +3,7 @@
 ghost use Rattle.std.specs.Prelude.{◌≡◌, ◌<◌, ◌+◌, ◌-◌, ◌^◌, ◌∷◌, [], true, length, slice_get, IfOk, IsSomeAnd};
 ghost use Rattle.mote_session.specs.SessionView.{SessionView};
 ghost use Rattle.network_run.specs.Code.Way.{CountsFaults, RestsIf, TakesIf, TakesInputIf, TellsIf, place};
-ghost use Rattle.network_run.specs.Outside.{Outside};
+ghost use Rattle.network_run.specs.Outside.{Outside, was_halted};
 ghost use Rattle.network_text.specs.NetworkRuns.{IsResting};
 ghost use Rattle.network_text.specs.NetworkScript.{is_for_some};
 ghost use Rattle.network_text.specs.declared.input.NetworkInput.{NetworkInput};
@@ -19,7 +19,7 @@ use network_text::input::NetworkInput;
 
 /// Whether there is this mote, and it was halted.
 fn is_halted(network: &Network, mote: usize) -> bool
-    ensures { result ≡ true → IsSomeAnd (slice_get network.now.motes mote) (λ (one : SessionView). one.machine.is_halted ≡ true) }
+    ensures { result ≡ was_halted (slice_get network.now.motes mote) }
 {
     match network.mote(mote) {
         Some(session) => session.halted(),

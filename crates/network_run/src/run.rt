@@ -128,7 +128,6 @@ fn is_write(fault: RunFault) -> bool
 {
     match fault {
         RunFault::Write => true,
-        RunFault::NoCall => false,
         RunFault::Refused(_) => false,
     }
 }
@@ -159,8 +158,8 @@ fn fail<K: ByteSink>(sink: &mut K, text: &mut PendingText, fault: RunFault) -> R
 ///
 /// # Errors
 ///
-/// `Write` where the sink failed: a prefix of the text was written. `NoCall` where the caller has no such application, and
-/// `Refused` where the network refuses: all text of the moves before was written.
+/// `Write` where the sink failed: a prefix of the text was written. `Refused` where the network refuses its next step or, at rest, what
+/// comes next: all text of the moves before was written.
 pub fn run_network<K: ByteSink, H: Caller>(
     network: Network,
     caller: &mut H,

@@ -38,7 +38,6 @@ fn put_work<K: ByteSink>(
     match worked {
         Worked::Turn => put_entry(sink, text, network, mote, quiet),
         Worked::Entry => put_entry(sink, text, network, mote, quiet),
-        Worked::NoCall => Err(RunFault::NoCall),
         Worked::Rest => Ok(()),
         Worked::Halted => Ok(()),
     }

@@ -3,11 +3,11 @@ use Rattle.std.proofs.Common.{◌≡◌, ℕ, true, false, List, [], ◌∷◌, 
 use Rattle.medium_core.specs.declared.flight.Flight.{Flight}
 use Rattle.kernel_core.specs.declared.config.Config.{Config}
 use Rattle.kernel_core.specs.Machine.{booted}
-use Rattle.mote_session.specs.SessionView.{SessionView}
+use Rattle.mote_session.specs.SessionView.{AwaitedCall, SessionView}
 use Rattle.network_session.specs.Network.{NetworkView}
 use Rattle.mote_session.specs.declared.refusal.SessionRefusal.{SessionRefusal}
 use Rattle.mote_types.specs.declared.entry.Input.{Input}
-use Rattle.network_session.specs.Refusals.{submit_refusal, catch_up_refusal, feed_refusal, pass_refusal}
+use Rattle.network_session.specs.Refusals.{catch_up_refusal, feed_refusal, pass_refusal, step_refusal, submit_refusal}
 use Rattle.network_session.specs.Schedule.{due_step, is_unheard}
 use Rattle.network_session.specs.Waking.{due_ticks, never, wake}
 use Rattle.network_session.specs.declared.fault.NetworkFault.{NetworkFault}
@@ -100,3 +100,22 @@ passed = (refl, refl, refl)
 unasked : (submit_refusal (net (told 3) [] 3 9) ≡ Some NetworkFault.NoTurn)
     × (submit_refusal (record (net (told 3) [] 3 9) { active = Some 0 }) ≡ Some (NetworkFault.Refused SessionRefusal.NoTurn))
 unasked = (refl, refl)
+
+-- a mote that was handed 2^40 inputs
+abbrev full : ℕ → SessionView
+full clock = record (told clock) { inputs = 1099511627776 }
+
+-- a step is refused by the mote that gets the time or a frame in it; what needs no mote isn't
+stepped : (step_refusal (net (told 2) (flight 3 1 (7 ∷ []) ∷ []) 9 9) ≡ None) × (step_refusal (net (told 3) (flight 3 1 (7 ∷ []) ∷ []) 9 9) ≡ None)
+    × (step_refusal (net (full 2) (flight 3 1 (7 ∷ []) ∷ []) 9 9) ≡ Some (NetworkFault.Refused SessionRefusal.TooManyInputs))
+    × (step_refusal (net (full 3) (flight 3 1 (7 ∷ []) ∷ []) 9 9) ≡ Some (NetworkFault.Refused SessionRefusal.TooManyInputs))
+    × (step_refusal (net (full 3) (flight 3 5 (7 ∷ []) ∷ []) 9 9) ≡ None) × (step_refusal (net (full 3) [] 3 9) ≡ None)
+stepped = (refl, refl, refl, refl, refl, refl)
+
+-- the mote at work awaits the call of its turn, or works on
+awaits : (turn : AwaitedCall) → step_refusal (record (net (record (told 3) { turn = Some turn }) [] 3 9) { active = Some 1 })
+    ≡ Some (NetworkFault.Refused SessionRefusal.AwaitsCall)
+awaits turn = refl
+
+works_on : step_refusal (record (net (told 3) [] 3 9) { active = Some 1 }) ≡ None
+works_on = refl

@@ -8,4 +8,5 @@ pub mod Logging
 pub mod Timely
 pub mod Heard
 pub mod Refusing
+mod StepRefusals
 pub mod Nearer

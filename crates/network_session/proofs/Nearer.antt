@@ -1,5 +1,5 @@
 -- Each step brings a network nearer to rest.
-use Rattle.std.proofs.Common.{◌≡◌, ℕ, suc, ◌+◌, ◌-◌, ◌<◌, ◌≤◌, ◌==◌, List, length, set, slice_get, refl, ap, sym, subst, ◌∙◌, arith, Bool, true, false, Option, Some, None, nat_lt, if◌then◌else◌}
+use Rattle.std.proofs.Common.{◌≡◌, ℕ, suc, ◌+◌, ◌-◌, ◌<◌, ◌≤◌, ◌==◌, List, length, set, slice_get, refl, ap, subst, ◌∙◌, arith, Bool, true, false, Option, Some, None, nat_lt, if◌then◌else◌}
 use Rattle.std.proofs.lemmas.List.{length-set}
 use Rattle.std.proofs.lemmas.Bool.Decides.{nat_tests}
 use Rattle.alarm_core.specs.Alarms.{first_come}

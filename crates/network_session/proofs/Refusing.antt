@@ -1,5 +1,5 @@
 -- Which refusal an input has, once what comes first is ruled out.
-use Rattle.std.proofs.Common.{◌≡◌, ◌∙◌, sym, ℕ, ◌≤◌, ◌<◌, arith, Bool, false, true, not, refl, slice_get, Option, None, Some, Result, Ok, Err, IfOk, IfErr, nat_lt}
+use Rattle.std.proofs.Common.{◌≡◌, ◌∙◌, sym, ℕ, ◌≤◌, arith, Bool, false, true, not, refl, slice_get, Option, None, Some, Result, Ok, Err, IfOk, IfErr, nat_lt}
 use Rattle.std.proofs.lemmas.Bool.Decides.{nat_tests}
 use Rattle.kernel_core.specs.Code.Conditions.{ticks_of}
 use Rattle.mote_types.specs.declared.entry.Input.{Input}

@@ -1,5 +1,5 @@
 -- One mote works, and its caller makes the call of a turn.
-use Rattle.std.proofs.Common.{◌≡◌, ℕ, zero, suc, List, [], ◌∷◌, set, slice_get, refl, ap, ◌∙◌, None, Some}
+use Rattle.std.proofs.Common.{◌≡◌, ℕ, zero, suc, List, [], ◌∷◌, set, slice_get, refl, ap, None, Some}
 use Rattle.mote_session.specs.Code.Working.{WorksBy}
 use Rattle.mote_session.specs.SessionView.{SessionView}
 use Rattle.mote_session.specs.declared.session.Worked.{Worked as Done}
@@ -36,7 +36,6 @@ module _ (m : ℕ) (old new : List SessionView) (before after : SessionView) (th
       others = rw (set_set old m works.mid after) others;
     };
   }
-  works_in Done.NoCall works = record { before = before; after = after; mote = there; closed = closed; advances = works.advances; same = works.same; others = others }
   works_in Done.Entry works = record { before = before; after = after; mote = there; closed = closed; advances = works.advances; same = works.same; others = others }
   works_in Done.Rest works = record { before = before; after = after; mote = there; closed = closed; advances = works.advances; same = works.same; others = others }
   works_in Done.Halted works = record { before = before; after = after; mote = there; closed = closed; advances = works.advances; same = works.same; others = others }

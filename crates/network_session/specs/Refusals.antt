@@ -1,13 +1,17 @@
 -- What a network refuses, and why. What comes first counts.
 use Rattle.std.specs.Prelude.{ℕ, ◌+◌, ◌^◌, Bool, true, false, is_some, nat_lt, slice_get, Option, None, Some, if◌then◌else◌}
 use Rattle.std.specs.Option.{option_map}
+use Rattle.medium_core.specs.Air.{arrival}
+use Rattle.medium_core.specs.declared.flight.Flight.{Flight}
 use Rattle.mote_types.specs.declared.entry.Input.{Input}
 use Rattle.mote_session.specs.Refusals.{input_refusal}
 use Rattle.mote_session.specs.SessionView.{SessionView}
 use Rattle.mote_session.specs.declared.refusal.SessionRefusal.{SessionRefusal}
 use Rattle.network_session.specs.Network.{NetworkView}
+use Rattle.network_session.specs.Schedule.{due_step}
 use Rattle.network_session.specs.Waking.{due_ticks}
 use Rattle.network_session.specs.declared.fault.NetworkFault.{NetworkFault}
+use Rattle.network_session.specs.declared.outcome.Outcome.{Outcome}
 
 abbrev pub is_tick : Input → Bool
 is_tick (Input.Tick n) = true
@@ -63,3 +67,28 @@ mote_at_work net (Some m) = slice_get net.motes m
 -- why no call is awaited
 abbrev pub submit_refusal : NetworkView → Option NetworkFault
 submit_refusal net = call_refusal (mote_at_work net net.active)
+
+-- why a mote doesn't get what a step passes to it
+abbrev pub passed_refusal : (SessionView → Input) → Option SessionView → Option NetworkFault
+passed_refusal input None = None
+passed_refusal input (Some mote) = mote_refusal (input mote) mote
+
+abbrev pub frame_refusal : Option Flight → Option SessionView → Option NetworkFault
+frame_refusal None mote = None
+frame_refusal (Some flight) mote = passed_refusal (λ one. Input.Frame flight.bytes) mote
+
+-- why a step can't be made that passes the time to a mote, or the frame that arrives
+abbrev pub outcome_refusal : Outcome → NetworkView → Option NetworkFault
+outcome_refusal (Outcome.Woken m) net =
+    passed_refusal (λ mote. Input.Tick (due_ticks net.air.clock mote.machine.clock)) (slice_get net.motes m)
+outcome_refusal (Outcome.Heard m) net = frame_refusal (arrival net.air) (slice_get net.motes m)
+outcome_refusal _ net = None
+
+-- why the mote at work can't work on
+abbrev pub work_refusal : Option SessionView → Option NetworkFault
+work_refusal None = None
+work_refusal (Some mote) = if is_some mote.turn then Some (NetworkFault.Refused SessionRefusal.AwaitsCall) else None
+
+-- why the next step can't be made
+abbrev pub step_refusal : NetworkView → Option NetworkFault
+step_refusal net = if is_some net.active then work_refusal (mote_at_work net net.active) else outcome_refusal (due_step net) net

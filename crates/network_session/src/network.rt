@@ -3,7 +3,7 @@
 ghost use Rattle.std.specs.Prelude.{◌≡◌, ◌≤◌, ◌<◌, ◌+◌, ◌^◌, ◌≢◌, ◌↔◌, length, not, map, true, false, is_some, nat_lt, slice_get, slice_set, None, Some, IfErr, IfOk, OnOk, IfSome, IfNone, IsErrOf, IsSomeAnd};
 ghost use Rattle.mote_session.specs.declared.session.Next.{Next as Came};
 ghost use Rattle.network_session.specs.Network.{wakes_of};
-ghost use Rattle.network_session.specs.Refusals.{submit_refusal, catch_up_refusal, feed_refusal, is_tick, mote_refusal, pass_refusal};
+ghost use Rattle.network_session.specs.Refusals.{catch_up_refusal, feed_refusal, is_tick, mote_refusal, outcome_refusal, pass_refusal, step_refusal, submit_refusal};
 ghost use Rattle.network_session.specs.Schedule.{arriving, due_now, due_step, is_rest, passing};
 ghost use Rattle.network_session.specs.declared.fault.NetworkBootFault.{NetworkBootFault};
 ghost use Rattle.network_session.specs.declared.outcome.Outcome.TheVariants.{Woken};
@@ -121,6 +121,7 @@ fn work_by_in<H: Caller>(
     ensures speaks { IfOk result (λ worked. (one : SessionView) → slice_get motes.new.items m ≡ Some one →
         SpeaksBy worked m one (H.voices caller.old) (H.voices caller.new)) }
     ensures refused { IfErr result (λ _. motes.new.items ≡ motes.old.items) }
+    ensures awaits { IfErr result (λ fault. (fault ≡ NetworkFault.Refused SessionRefusal.AwaitsCall) × ((mote : SessionView) → slice_get motes.old.items m ≡ Some mote → mote.turn ≢ None)) }
 {
     match motes[m].next_by(m, caller) {
         Ok(worked) => Ok(worked),
@@ -205,6 +206,8 @@ impl Network {
         ensures due { IfOk result (λ outcome. self.old.active ≡ None → outcome ≡ due_step self.old) }
         ensures work { IfOk result (λ outcome. is_work outcome ≡ is_some self.old.active) }
         ensures refused { IfErr result (λ _. self.new ≡ self.old) }
+        ensures why { IfErr result (λ fault. step_refusal self.old ≡ Some fault) }
+        ensures accepted { IfOk result (λ _. step_refusal self.old ≡ None) }
         ensures awaits { IfErr result (λ fault. is_some self.old.active ≡ true → fault ≡ NetworkFault.Refused SessionRefusal.AwaitsCall) }
     {
         match self.active {
@@ -219,6 +222,8 @@ impl Network {
         ensures stepped { IfOk result (λ outcome. Steps outcome self.old self.new) }
         ensures work { IfOk result (λ outcome. is_work outcome ≡ true) }
         ensures refused { IfErr result (λ _. self.new ≡ self.old) }
+        ensures why { IfErr result (λ fault. step_refusal self.old ≡ Some fault) }
+        ensures accepted { IfOk result (λ _. step_refusal self.old ≡ None) }
         ensures awaits { IfErr result (λ fault. is_some self.old.active ≡ true → fault ≡ NetworkFault.Refused SessionRefusal.AwaitsCall) }
     {
         match work_in(&mut self.motes, m)? {
@@ -252,10 +257,11 @@ impl Network {
         ensures speaks { IfOk result (λ worked. (one : SessionView) → slice_get self.new.motes m ≡ Some one →
             SpeaksBy worked m one (H.voices caller.old) (H.voices caller.new)) }
         ensures refused { IfErr result (λ _. self.new ≡ self.old) }
+        ensures why { IfErr result (λ fault. step_refusal self.old ≡ Some fault) }
+        ensures accepted { IfOk result (λ _. step_refusal self.old ≡ None) }
     {
         match work_by_in(&mut self.motes, m, caller)? {
             Worked::Turn => Ok(Worked::Turn),
-            Worked::NoCall => Ok(Worked::NoCall),
             Worked::Entry => {
                 air_in(&mut self.medium, &self.motes[m], m);
                 Ok(Worked::Entry)
@@ -281,6 +287,8 @@ impl Network {
         ensures due { IfOk result (λ outcome. outcome ≡ due_step self.old) }
         ensures idle { IfOk result (λ outcome. is_work outcome ≡ false) }
         ensures refused { IfErr result (λ _. self.new ≡ self.old) }
+        ensures why { IfErr result (λ fault. step_refusal self.old ≡ Some fault) }
+        ensures accepted { IfOk result (λ _. step_refusal self.old ≡ None) }
     {
         if self.started < self.motes.len() {
             let m = self.started;
@@ -340,6 +348,8 @@ impl Network {
         ensures due { IfOk result (λ outcome. outcome ≡ arriving self.old (arrival self.old.air)) }
         ensures idle { IfOk result (λ outcome. is_work outcome ≡ false) }
         ensures refused { IfErr result (λ _. self.new ≡ self.old) }
+        ensures why { IfErr result (λ fault. outcome_refusal (arriving self.old (arrival self.old.air)) self.old ≡ Some fault) }
+        ensures accepted { IfOk result (λ _. outcome_refusal (arriving self.old (arrival self.old.air)) self.old ≡ None) }
     {
         let Some(next) = self.medium.arriving() else {
             return Ok(self.pass());

@@ -1,9 +1,9 @@
--- A turn of one application among those of all motes.
-use Rattle.std.proofs.Common.{◌≡◌, ◌≢◌, ◌<◌, ◌==◌, ◌&&◌, ℕ, zero, suc, Bool, true, false, List, [], ◌∷◌, length, set, get_or, slice_get, refl, ap, sym, ◌∙◌, arith, Some}
+-- A turn of one application among those of all motes, or of none of them.
+use Rattle.std.proofs.Common.{◌≡◌, ◌≢◌, ◌<◌, ◌≤◌, ◌+◌, ◌-◌, ◌⊎◌, ◌==◌, ◌&&◌, ℕ, inl, inr, nat_lt, None, zero, suc, Bool, true, false, List, [], ◌∷◌, length, set, get_or, slice_get, refl, ap, sym, ◌∙◌, arith, Some}
 use Rattle.std.proofs.lemmas.Bool.Decides.{nat_tests}
 use Rattle.std.specs.Global.{Vec}
-use Rattle.mote_types.proofs.Voices.{slice_get_set_other}
-use Rattle.mote_types.specs.Applications.{says_of}
+use Rattle.mote_types.proofs.Voices.{says_of_application, slice_get_set_other}
+use Rattle.mote_types.specs.Applications.{nth_says, says_of}
 use Rattle.mote_types.specs.declared.call.Call.{Call}
 use Rattle.mote_types.specs.declared.event.Stimulus.{Stimulus}
 use Rattle.mote_session.specs.Voices.{IsCall}
@@ -51,3 +51,38 @@ module _ (motes : List (Vec MoteApp)) (m p : ℕ) (stimulus : Stimulus) (call : 
       law = λ next later. rw (get_new, get_old) (law next later);
       others = λ n q other next later. other_said n q (n == m) refl other next later;
     }
+
+-- an application that doesn't exist waits
+
+silent_beyond : (apps : List MoteApp) (i : ℕ) (stimuli : List Stimulus) → length apps ≤ i → nth_says mote_app_says apps i stimuli ≡ Call.Wait
+silent_beyond [] i stimuli beyond = refl
+silent_beyond (app ∷ apps) zero stimuli beyond = absurd (omega (arith, beyond))
+silent_beyond (app ∷ apps) (suc i) stimuli beyond = silent_beyond apps i stimuli (omega (arith, beyond))
+
+silent_here : (apps : List MoteApp) (p : ℕ) (stimuli : List Stimulus) → (p < 4) ⊎ (4 + length apps ≤ p) → says_of mote_app_says apps p stimuli ≡ Call.Wait
+silent_here apps p stimuli (inl early) = let test : nat_lt p 4 ≡ true = grind (arith, nat_tests) in rw test refl
+silent_here apps p stimuli (inr late) =
+    says_of_application mote_app_says apps p stimuli (omega (arith, late)) ∙ silent_beyond apps (p - 4) stimuli (omega (arith, late))
+
+none_beyond : {X : Type 0} (xs : List X) (i : ℕ) → length xs ≤ i → slice_get xs i ≡ None
+none_beyond [] i beyond = refl
+none_beyond (x ∷ xs) zero beyond = absurd (omega (arith, beyond))
+none_beyond (x ∷ xs) (suc i) beyond = none_beyond xs i (omega (arith, beyond))
+
+module _ (motes : List (Vec MoteApp)) (m p : ℕ) where
+  pub silent_mote : length motes ≤ m → (stimuli : List Stimulus) → voices_of motes m p stimuli ≡ Call.Wait
+  silent_mote beyond stimuli = rw (none_beyond motes m beyond) refl
+
+  pub silent_application : (apps : Vec MoteApp) → m < length motes → apps ≡ get_or motes m apps → (p < 4) ⊎ (4 + length apps.items ≤ p) →
+      (stimuli : List Stimulus) → voices_of motes m p stimuli ≡ Call.Wait
+  silent_application apps within there lacks stimuli =
+      let here : slice_get motes m ≡ Some apps = there_at motes m apps within ∙ ap (λ (v : Vec MoteApp). Some v) (sym there) in
+      rw here (silent_here apps.items p stimuli lacks)
+
+  pub waits_is_call : (stimulus : Stimulus) → ((stimuli : List Stimulus) → voices_of motes m p stimuli ≡ Call.Wait) →
+      IsCall m p stimulus Call.Wait (voices_of motes) (voices_of motes)
+  waits_is_call stimulus silent = record {
+    made = silent (stimulus ∷ []);
+    law = λ next later. silent (next ∷ later) ∙ sym (silent (stimulus ∷ next ∷ later));
+    others = λ n q other next later. refl;
+  }

@@ -1,6 +1,6 @@
 //! The applications of all motes, and their calls.
 
-ghost use Rattle.std.specs.Prelude.{◌≡◌, ◌≢◌, ◌<◌, ◌≤◌, ◌+◌, ℕ, true, List, [], ◌∷◌, length};
+ghost use Rattle.std.specs.Prelude.{◌≡◌, ◌≢◌, ◌<◌, ◌≤◌, ◌+◌, ◌⊎◌, ℕ, false, true, List, [], ◌∷◌, length};
 ghost use Rattle.mote_types.specs.Applications.{says_of};
 ghost use Rattle.mote_types.specs.declared.event.Stimulus.{Stimulus};
 ghost use Rattle.network_setup.specs.MoteApps.{mote_app_says, voices_of};
@@ -27,7 +27,8 @@ fn take_turn(applications: &mut Vec<MoteApp>, pid: Pid, stimulus: &Stimulus, cal
 
 /// Whether a mote with this number of applications has this one.
 fn has_application(applications: usize, pid: Pid) -> bool
-    ensures { result ≡ true → (4 ≤ pid.0) × (pid.0 < 4 + applications) }
+    ensures has { result ≡ true → (4 ≤ pid.0) × (pid.0 < 4 + applications) }
+    ensures lacks { result ≡ false → (pid.0 < 4) ⊎ (4 + applications ≤ pid.0) }
 {
     pid.0 >= FIRST_APPLICATION && ((pid.0 - FIRST_APPLICATION) as usize) < applications
 }
@@ -41,11 +42,13 @@ pub struct Applications {
 impl Caller for Applications {
     ghost voices = { λ applications. voices_of applications.motes.items };
 
-    fn call_into(&mut self, mote: usize, turn: OpenTurn<'_>, call: &mut Call) -> bool {
-        if mote >= self.motes.len() || !has_application(self.motes[mote].len(), turn.process) {
-            return false;
+    fn call_into(&mut self, mote: usize, turn: OpenTurn<'_>, call: &mut Call) {
+        if mote >= self.motes.len() {
+            *call = Call::Wait;
+        } else if has_application(self.motes[mote].len(), turn.process) {
+            take_turn(&mut self.motes[mote], turn.process, turn.stimulus, call);
+        } else {
+            *call = Call::Wait;
         }
-        take_turn(&mut self.motes[mote], turn.process, turn.stimulus, call);
-        true
     }
 }

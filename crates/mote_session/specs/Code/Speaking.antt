@@ -6,7 +6,6 @@ use Rattle.mote_session.specs.declared.session.Worked.{Worked}
 
 abbrev pub SpeaksBy : Worked → ℕ → SessionView → Voices → Voices → Type 0
 SpeaksBy Worked.Turn m new before after = SpokeLast m new.last before after
-SpeaksBy Worked.NoCall m new before after = Unit {0}
 SpeaksBy Worked.Entry m new before after = after ≡ before
 SpeaksBy Worked.Rest m new before after = after ≡ before
 SpeaksBy Worked.Halted m new before after = after ≡ before

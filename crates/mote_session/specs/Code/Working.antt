@@ -25,15 +25,6 @@ pub record TakesTurn (old new : SessionView) : Type 0 where
 
 abbrev pub WorksBy : Worked → SessionView → SessionView → Type 0
 WorksBy Worked.Turn old new = TakesTurn old new
-WorksBy Worked.NoCall old new = DoesNext Next.Turn old new
 WorksBy Worked.Entry old new = DoesNext Next.Entry old new
 WorksBy Worked.Rest old new = DoesNext Next.Rest old new
 WorksBy Worked.Halted old new = DoesNext Next.Halted old new
-
--- a turn that was open is taken, or stays open
-abbrev pub TurnTaken : Worked → SessionView → SessionView → Type 0
-TurnTaken Worked.Turn old new = MakesCall old new
-TurnTaken Worked.NoCall old new = new ≡ old
-TurnTaken Worked.Entry old new = ⊥
-TurnTaken Worked.Rest old new = ⊥
-TurnTaken Worked.Halted old new = ⊥

@@ -1,12 +1,12 @@
 -- The way of a run from one state to another.
-use Rattle.std.specs.Prelude.{◌≡◌, ◌+◌, ◌⊎◌, ℕ, Bool, true, false, List, [], ◌∷◌, ◌++◌, Option, None, Some, Result, MatchResult, filter_map, if◌then◌else◌}
+use Rattle.std.specs.Prelude.{◌≡◌, ⊤, ◌+◌, ◌⊎◌, ℕ, Bool, true, false, List, [], ◌∷◌, ◌++◌, Option, None, Some, Result, MatchResult, if◌then◌else◌}
 use Rattle.mote_text.specs.declared.script.End.{End}
 use Rattle.network_session.specs.Network.{NetworkView}
-use Rattle.network_run.specs.NetworkRunText.{CanEnd, IsSpent}
+use Rattle.network_run.specs.NetworkRunText.{CanEnd, IsSpent, Refuses}
 use Rattle.mote_session.specs.Voices.{Voices}
 use Rattle.network_run.specs.Code.Calls.{Speak}
 use Rattle.network_run.specs.Code.Writing.{WritesOn}
-use Rattle.network_run.specs.Outside.{AreInTurn, IsFor, Outside, all_outside}
+use Rattle.network_run.specs.Outside.{AreInTurn, IsFor, Outside, all_outside, givens}
 use Rattle.network_run.specs.declared.fault.RunFault.{RunFault}
 use Rattle.network_text.specs.NetworkRuns.{IsResting, Leads, Move, moves_text}
 use Rattle.network_text.specs.declared.input.NetworkInput.{NetworkInput}
@@ -31,7 +31,6 @@ pub record Went (quiet : Bool) (outside : List Outside) (from to : Place) : Type
 
 abbrev pub is_write : RunFault → Bool
 is_write RunFault.Write = true
-is_write RunFault.NoCall = false
 is_write (RunFault.Refused fault) = false
 
 -- some of this came, and the rest is left; if writing failed, some text is lost
@@ -40,9 +39,15 @@ pub record Stopped (quiet : Bool) (outside : List Outside) (left : List Outside)
   pub parts : outside ≡ carried ++ left
   pub went : Went quiet carried from (record to { due = lost })
 
+-- the network refuses its next step or what comes next, unless writing failed
+abbrev pub IsReason : RunFault → NetworkView → List Outside → Type 0
+IsReason RunFault.Write net left = ⊤
+IsReason (RunFault.Refused fault) net left = Refuses net left fault
+
 -- a fault: text is lost only if writing failed. A refused call is no move
 pub record Faulted (quiet : Bool) (outside : List Outside) (fault : RunFault) (from to : Place) : Type 0 where
   pub left : List Outside
+  pub why : IsReason fault to.net left
   pub lost : List ℕ
   pub kept : is_write fault ≡ false → lost ≡ to.due
   pub voices : Voices
@@ -91,33 +96,24 @@ CountsFaults result old new = MatchResult result (λ _. new ≡ old) (λ fault. 
 abbrev pub Reading : Type 0
 Reading = List NetworkInput × End
 
-abbrev pub given_of : Outside → Option NetworkInput
-given_of (Outside.Time m) = None
-given_of (Outside.Given input) = Some input
-
--- the inputs among what came
-abbrev pub givens : List Outside → List NetworkInput
-givens outside = filter_map given_of outside
-
--- some inputs of a script were executed, and these are left; if writing failed, some text is lost
-pub record RunStopped (quiet : Bool) (inputs : List NetworkInput) (left : List NetworkInput) (lost : List ℕ) (from to : Place) : Type 0 where
-  pub outside : List Outside
-  pub parts : inputs ≡ givens outside ++ left
+-- this comes with these inputs
+pub record ComesWith (inputs : List NetworkInput) (outside : List Outside) : Type 0 where
+  pub given : inputs ≡ givens outside
   pub in_turn : AreInTurn outside
-  pub went : Went quiet outside from (record to { due = lost })
 
+-- some of what comes with these inputs came, and then there was a fault
 pub record RunFaulted (quiet : Bool) (inputs : List NetworkInput) (fault : RunFault) (from to : Place) : Type 0 where
-  pub left : List NetworkInput
-  pub lost : List ℕ
-  pub kept : is_write fault ≡ false → lost ≡ to.due
-  pub voices : Voices
-  pub stopped : RunStopped quiet inputs left lost from (record to { voices = voices })
+  pub outside : List Outside
+  pub comes : ComesWith inputs outside
+  pub faulted : Faulted quiet outside fault from to
 
--- a run on this script came to its end, or to a fault
+-- or the run on this script came to its end
 pub record Ends (quiet : Bool) (script : Reading) (end : End) (from to : Place) : Type 0 where
-  pub left : List NetworkInput
+  pub outside : List Outside
+  pub comes : ComesWith script.0 outside
+  pub left : List Outside
   pub can : CanEnd to.net left script.1 end
-  pub stopped : RunStopped quiet script.0 left to.due from to
+  pub stopped : Stopped quiet outside left to.due from to
 
 abbrev pub RunsIf : Result End RunFault → Bool → Reading → Place → Place → Type 0
 RunsIf result quiet script from to =

@@ -1,5 +1,5 @@
 -- What the mote at work does whose caller makes the calls at once.
-use Rattle.std.specs.Prelude.{◌≡◌, ℕ, List}
+use Rattle.std.specs.Prelude.{ℕ, List}
 use Rattle.mote_types.specs.declared.call.Call.{Call}
 use Rattle.mote_session.specs.SessionView.{SessionView}
 use Rattle.mote_session.specs.declared.session.Next.{Next}
@@ -17,7 +17,6 @@ pub record TurnIn (m : ℕ) (old new : List SessionView) : Type 0 where
 -- one mote worked
 abbrev pub WorksIn : ℕ → Done → List SessionView → List SessionView → Type 0
 WorksIn m Done.Turn old new = TurnIn m old new
-WorksIn m Done.NoCall old new = WorkedIn m Next.Turn old new
 WorksIn m Done.Entry old new = WorkedIn m Next.Entry old new
 WorksIn m Done.Rest old new = WorkedIn m Next.Rest old new
 WorksIn m Done.Halted old new = WorkedIn m Next.Halted old new
@@ -31,7 +30,6 @@ pub record TakesTurn (m : ℕ) (old new : NetworkView) : Type 0 where
 
 abbrev pub Works : ℕ → Done → NetworkView → NetworkView → Type 0
 Works m Done.Turn old new = TakesTurn m old new
-Works m Done.NoCall old new = Worked m Next.Turn old new
 Works m Done.Entry old new = Worked m Next.Entry old new
 Works m Done.Rest old new = Worked m Next.Rest old new
 Works m Done.Halted old new = Worked m Next.Halted old new

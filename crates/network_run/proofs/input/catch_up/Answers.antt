@@ -1,5 +1,6 @@
-use Rattle.std.proofs.Common.{[], ◌∷◌, inl, inr, refl}
+use Rattle.std.proofs.Common.{[], ◌∷◌, inl, inr, refl, sym}
 use Rattle.network_run.specs.Outside.{Outside}
+use Rattle.network_run.proofs.Refusals.{time_refusal}
 use Rattle.network_run.proofs.Ways.{faulted_same, goes_after, takes_all, takes_same, went_mute}
 use Rattle.network_text.specs.NetworkRuns.{Move}
 use Rattle.network_run.proofs.input.catch_up.Goals as goal
@@ -27,4 +28,9 @@ pub returns-else-is_told-clause-takes : goal.returns-else-is_told-clause-takes
 returns-else-is_told-clause-takes g c = λ named. ([], inl refl, takes_same c.args.quiet _ _ _ _ _ (c.in-Ok.ensures.untold c.if-is_told.false))
 
 pub returns-in-Err-clause-takes : goal.returns-in-Err-clause-takes
-returns-in-Err-clause-takes g c = λ named. ([], inl refl, faulted_same c.args.quiet _ _ _ _ _ _ _ _ c.in-Err.ensures.refused.1)
+returns-in-Err-clause-takes g c = λ named. (
+  Outside.Time c.args.mote ∷ [],
+  inr refl,
+  faulted_same c.args.quiet _ _ _ _ _ _ _ _ c.in-Err.ensures.refused.1
+      (inr (c.requires.rests, time_refusal c.args.mote c.args.network.now _ (sym c.if-is_halted.ensures) c.in-Err.ensures.refused.0)),
+)

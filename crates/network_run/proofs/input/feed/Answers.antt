@@ -1,5 +1,6 @@
-use Rattle.std.proofs.Common.{◌+◌, [], ◌∷◌, refl}
+use Rattle.std.proofs.Common.{◌+◌, [], ◌∷◌, inr, refl, slice_get, sym}
 use Rattle.network_run.specs.Outside.{Outside}
+use Rattle.network_run.proofs.Refusals.{fed_refusal, is_halted_mote}
 use Rattle.network_run.proofs.Ways.{fault_on, faulted_move, faulted_same, goes_after, takes_all, takes_went, went_move, went_mute}
 use Rattle.network_text.specs.NetworkRuns.{Move}
 use Rattle.network_text.specs.declared.input.NetworkInput.{NetworkInput}
@@ -12,7 +13,8 @@ returns-in_err-put_unheard-clause-takes g c = λ named.
     let cut = c.in_err-put_unheard.ensures.puts named in
     fault_on c.from_residual.result _ _ _ c.from_residual.ensures.1
     (faulted_move c.args.quiet _ (Move.Miss c.args.mote c.args.input net) outside net net _ _ _ _ cut.0 _ _
-    (record { rested = c.requires.rests; halted = c.if-is_halted.ensures refl; result = refl }) refl refl refl c.in_err-put_unheard.ensures.failures.2 cut.1)
+    (record { rested = c.requires.rests; halted = is_halted_mote (slice_get net.motes c.args.mote) (sym c.if-is_halted.ensures); result = refl })
+    refl refl refl c.in_err-put_unheard.ensures.failures.2 cut.1)
 
 pub returns-then-is_halted-clause-takes : goal.returns-then-is_halted-clause-takes
 returns-then-is_halted-clause-takes g c = λ named.
@@ -20,7 +22,8 @@ returns-then-is_halted-clause-takes g c = λ named.
     let outside = Outside.Given (NetworkInput.ForMote (c.args.mote + 1) c.args.input) ∷ [] in
     takes_went c.args.quiet
     (went_move c.args.quiet (Move.Miss c.args.mote c.args.input net) outside net net
-    (record { rested = c.requires.rests; halted = c.if-is_halted.ensures refl; result = refl }) refl refl refl (c.in_ok-put_unheard.ensures.puts named))
+    (record { rested = c.requires.rests; halted = is_halted_mote (slice_get net.motes c.args.mote) (sym c.if-is_halted.ensures); result = refl })
+    refl refl refl (c.in_ok-put_unheard.ensures.puts named))
 
 pub returns-in-Ok-clause-takes : goal.returns-in-Ok-clause-takes
 returns-in-Ok-clause-takes g c = λ named.
@@ -33,4 +36,6 @@ returns-in-Ok-clause-takes g c = λ named.
     (c.run_to_rest.ensures.goes named))
 
 pub returns-in-Err-clause-takes : goal.returns-in-Err-clause-takes
-returns-in-Err-clause-takes g c = λ named. faulted_same c.args.quiet _ _ _ _ _ _ _ _ c.in-Err.ensures.refused.1
+returns-in-Err-clause-takes g c = λ named.
+    faulted_same c.args.quiet _ _ _ _ _ _ _ _ c.in-Err.ensures.refused.1
+    (inr (c.requires.rests, fed_refusal c.args.mote c.args.input c.args.network.now _ (sym c.if-is_halted.ensures) c.in-Err.ensures.refused.0))

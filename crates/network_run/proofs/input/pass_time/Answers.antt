@@ -1,4 +1,4 @@
-use Rattle.std.proofs.Common.{[], ◌∷◌, refl}
+use Rattle.std.proofs.Common.{[], ◌∷◌, inr, refl}
 use Rattle.network_run.specs.Outside.{Outside}
 use Rattle.network_run.proofs.Ways.{faulted_same, goes_after, takes_all, went_mute}
 use Rattle.network_text.specs.NetworkRuns.{Move}
@@ -16,4 +16,5 @@ returns-in-Ok-clause-takes g c = λ named.
     (c.run_to_rest.ensures.goes named))
 
 pub returns-in-Err-clause-takes : goal.returns-in-Err-clause-takes
-returns-in-Err-clause-takes g c = λ named. faulted_same c.args.quiet _ _ _ _ _ _ _ _ c.in-Err.ensures.refused.1
+returns-in-Err-clause-takes g c = λ named.
+    faulted_same c.args.quiet _ _ _ _ _ _ _ _ c.in-Err.ensures.refused.1 (inr (c.requires.rests, c.in-Err.ensures.refused.0))

@@ -9,9 +9,8 @@ use Rattle.network_session.specs.declared.outcome.Outcome.{Outcome}
 use Rattle.network_run.proofs.Doing.{does_work}
 use Rattle.network_run.proofs.Speaking.{there_submitted, there_worked}
 use Rattle.network_run.proofs.StepText.{other_is, submitted_is}
-use Rattle.network_run.proofs.Ways.{faulted_after, faulted_mute, goes_after, goes_move, on_any, went_mute}
+use Rattle.network_run.proofs.Ways.{goes_after, goes_move, on_any, went_mute}
 use Rattle.network_run.proofs.Writing.{puts_as}
-use Rattle.network_run.specs.declared.fault.RunFault.{RunFault}
 use Rattle.network_text.specs.NetworkRuns.{Move}
 use Rattle.network_run.proofs.settle.put_work.Goals as goal
 
@@ -54,17 +53,6 @@ returns-in-Entry-clause-nearer g c =
     on_any c.put_entry-in-Entry.result (λ before works.
     let made : Worked c.args.mote Next.Entry before c.args.network.now = rw c.in-Entry.is at works in
     nearer_made c.args.mote before c.args.network.now made)
-
-pub returns-in-NoCall-clause-goes : goal.returns-in-NoCall-clause-goes
-returns-in-NoCall-clause-goes g c = λ named before active works voices later speaks.
-    let m = c.args.mote in
-    let opens : Worked m Next.Turn before c.args.network.now = rw c.in-NoCall.is at works in
-    let quiet = c.args.quiet in
-    let after = c.args.network.now in
-    faulted_after quiet
-    (went_mute quiet (Move.Step (Outcome.Turn m) after) [] before after _ _ voices voices (does_work (Outcome.Turn m) m before after active opens refl) refl refl
-    refl refl)
-    (faulted_mute quiet [] RunFault.NoCall _ _ _ voices later)
 
 pub returns-in-Rest-clause-goes : goal.returns-in-Rest-clause-goes
 returns-in-Rest-clause-goes g c = λ named before active works voices later speaks.

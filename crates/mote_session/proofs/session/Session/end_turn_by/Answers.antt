@@ -1,7 +1,7 @@
 use Rattle.mote_session.proofs.session.Session.end_turn_by.Goals as goal
 
-pub returns-else-not-take_in-clause-speaks : goal.returns-else-not-take_in-clause-speaks
-returns-else-not-take_in-clause-speaks g c = λ yes. c.if-not-take_in.ensures.speaks yes c.self.inside.even c.self.inside.other
+pub returns-then-self-clause-speaks : goal.returns-then-self-clause-speaks
+returns-then-self-clause-speaks g c = c.take_in.ensures.speaks c.self.inside.even c.self.inside.other
 
-pub returns-else-not-take_in-2-clause-speaks : goal.returns-else-not-take_in-2-clause-speaks
-returns-else-not-take_in-2-clause-speaks g c = λ yes. c.if-not-take_in-2.ensures.speaks yes c.self.inside.odd c.self.inside.other
+pub returns-else-self-clause-speaks : goal.returns-else-self-clause-speaks
+returns-else-self-clause-speaks g c = c.take_in-else-self.ensures.speaks c.self.inside.odd c.self.inside.other

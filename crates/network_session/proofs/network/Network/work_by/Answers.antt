@@ -17,12 +17,6 @@ invariant_of-self-in-Turn g c =
     let opened = steady_on c.args.m c.self.inside.motes.items c.self.inside.wakes h.opens.after h.mid c.self.inside.target h.opens.others (rw e at c.self.invariant) in
     rw e (steady_on c.args.m h.mid c.self.inside.wakes h.submitted.after c.work_by_in.new.motes.items c.self.inside.target h.submitted.others opened)
 
-pub invariant_of-self-in-NoCall : goal.invariant_of-self-in-NoCall
-invariant_of-self-in-NoCall g c =
-    let h : WorkedIn c.args.m Next.Turn c.self.inside.motes.items c.work_by_in.new.motes.items = rw c.in-NoCall.is at c.in_ok-work_by_in.ensures.worked in
-    let e : c.self.inside.active ≡ Some c.args.m = ap (λ (v : NetworkView). v.active) c.self.view_is ∙ c.requires in
-    rw e (steady_on c.args.m c.self.inside.motes.items c.self.inside.wakes h.after c.work_by_in.new.motes.items c.self.inside.target h.others (rw e at c.self.invariant))
-
 pub invariant_of-self-in-Entry : goal.invariant_of-self-in-Entry
 invariant_of-self-in-Entry g c =
     let h : WorkedIn c.args.m Next.Entry c.self.inside.motes.items c.work_by_in.new.motes.items = rw c.in-Entry.is at c.in_ok-work_by_in.ensures.worked in
