@@ -2,7 +2,7 @@
 
 use mote_apps::bundled::Bundled;
 use mote_run::End;
-use mote_shell::{Failure, Prepared, Program, Runner, prepare, run_booted};
+use mote_shell::{Failure, Program, Runner, read_words, run_boxed};
 use mote_types::app::App;
 use mote_types::device::{ByteSink, ByteSource};
 use std::alloc::Global;
@@ -18,24 +18,26 @@ impl Runner<Bundled> for Boxing {
         source: &mut S,
         sink: &mut K,
     ) -> Result<End, Failure<'a>> {
-        // Not `?`, and no name for the whole: each would clear and copy the room of a kernel once more.
-        match prepare::<Bundled>(alloc, program, words) {
-            Ok(Prepared { kernel, named }) => {
-                let mut boxes: Vec<Box<dyn App>> = Vec::new(alloc);
-                for application in named.applications {
-                    // Those with many turns each have a box of their own type: the mote calls it without asking which one it is.
-                    let boxed: Box<dyn App> = match application {
-                        Bundled::Blink(blink) => Box::new(alloc, blink)?,
-                        Bundled::Echo(echo) => Box::new(alloc, echo)?,
-                        Bundled::Relay(relay) => Box::new(alloc, relay)?,
-                        Bundled::Ping(ping) => Box::new(alloc, ping)?,
-                        other => Box::new(alloc, other)?,
-                    };
-                    boxes.push(boxed)?;
-                }
-                run_booted(kernel, boxes.as_mut_slice(), source, sink, named.quiet)
-            }
-            Err(failure) => Err(failure),
+        let named = read_words::<Bundled>(alloc, program, words)?;
+        let mut boxes: Vec<Box<dyn App>> = Vec::new(alloc);
+        for application in named.applications {
+            // Those with many turns each have a box of their own type: the mote calls it without asking which one it is.
+            let boxed: Box<dyn App> = match application {
+                Bundled::Blink(blink) => Box::new(alloc, blink)?,
+                Bundled::Echo(echo) => Box::new(alloc, echo)?,
+                Bundled::Relay(relay) => Box::new(alloc, relay)?,
+                Bundled::Ping(ping) => Box::new(alloc, ping)?,
+                other => Box::new(alloc, other)?,
+            };
+            boxes.push(boxed)?;
         }
+        run_boxed(
+            alloc,
+            named.sizes,
+            boxes.as_mut_slice(),
+            source,
+            sink,
+            named.quiet,
+        )
     }
 }

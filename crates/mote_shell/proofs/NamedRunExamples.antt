@@ -2,12 +2,13 @@
 use Rattle.std.proofs.Common.{◌≡◌, ◌⊎◌, ◌∙◌, ℕ, List, true, false, map, refl, subst, ap, arith, inl, inr, Option, Some, None, Result, Ok, Err, ◌∷◌, []}
 use denote.Ref.{Bor}
 use Rattle.kernel_core.specs.Machine.{is_bootable}
-use Rattle.mote_types.specs.declared.fault.BootFault.{BootFault}
+use Rattle.kernel_core.specs.declared.config.Config.{Config}
 use Rattle.mote_run.specs.RunText.{Exchange, HasRunTo}
 use Rattle.mote_run.specs.Trace.{RunPromise}
+use Rattle.mote_run.specs.declared.fault.MoteFault.{MoteFault}
 use Rattle.mote_run.specs.declared.run.RunFault.{RunFault}
 use Rattle.command_line.specs.CommandLine.{AsksForText, NamesApplications, named_in}
-use Rattle.mote_shell.specs.NamedRuns.{HasRunNamed, IsAnswer, IsOutcome, IsStatusFor, NamesMote, Refuses, config_of, failure_at_boot, failure_in_run}
+use Rattle.mote_shell.specs.NamedRuns.{HasRunNamed, IsAnswer, IsOutcome, IsStatusFor, NamesMote, Refuses, config_of, failure_in_mote}
 use Rattle.command_line.specs.Statuses.{status_of_outcome}
 use Rattle.command_line.specs.declared.failure.Failure.{Failure}
 use Rattle.command_line.specs.declared.named.Named.{Named}
@@ -69,11 +70,12 @@ module _ {A : Type 0} (by_name : List ℕ → Option A) (words : List (List ℕ)
     asked_for_text is names = let taken = names.applications.taken in rw taken at is.0
 
     -- with boxed applications the arguments are not refused
-    no_answer : IsAnswer (Err (Failure.Words text)) → ⊥
-    no_answer is = is
+    no_answer : (config : Config) → IsAnswer config (Err (Failure.Words text)) → ⊥
+    no_answer config is = is
 
-no_refusal : IsAnswer (Err Failure.BadSizes) ⊎ IsAnswer (Err Failure.OutOfMemory) → ⊥
-no_refusal is = grind arith
+-- no run of a mote that doesn't boot
+no_run : (config : Config) (end : End) → is_bootable config ≡ false → IsAnswer config (Ok end) → ⊥
+no_run config end bad is = absurd (cc)
 
 -- arguments that name a mote have a run that keeps the promise of `run`
 module _ {A : Type 0} (by_name : List ℕ → Option A) (says : A → Says) (words : List (List ℕ)) (exchange : Exchange) where
@@ -99,8 +101,6 @@ module _ {A : Type 0} (by_name : List ℕ → Option A) (says : A → Says) (wor
       → HasRunTo (config_of asked) (says_of says asked.applications.items) asked.quiet Failure.Read outcome exchange
   is_of_what_is_named outcome has = has.ran
 
-boot_failed : map failure_at_boot (BootFault.BadSizes ∷ BootFault.Memory ∷ []) ≡ Failure.BadSizes ∷ Failure.OutOfMemory ∷ []
-boot_failed = refl
-
-run_failed : map failure_in_run (RunFault.Read ∷ RunFault.Write ∷ []) ≡ Failure.Read ∷ Failure.Write ∷ []
-run_failed = refl
+mote_failed : map failure_in_mote (MoteFault.BadSizes ∷ MoteFault.Memory ∷ MoteFault.Read ∷ MoteFault.Write ∷ [])
+    ≡ Failure.BadSizes ∷ Failure.OutOfMemory ∷ Failure.Read ∷ Failure.Write ∷ []
+mote_failed = refl

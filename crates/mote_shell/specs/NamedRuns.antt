@@ -1,7 +1,6 @@
 -- Which mote the arguments name, and which outcomes they may have.
 use Rattle.std.specs.Prelude.{◌≡◌, ◌⊎◌, ⊤, ℕ, Bool, true, false, List, length, Option, Result, Ok, Err}
 use Rattle.mote_types.specs.Applications.{Applications, Says, says_of}
-use Rattle.mote_types.specs.declared.fault.BootFault.{BootFault}
 use Rattle.kernel_core.specs.declared.config.Config.{Config}
 use Rattle.kernel_core.specs.Machine.{is_bootable}
 use Rattle.mote_text.specs.declared.script.End.{End}
@@ -9,6 +8,7 @@ use Rattle.mote_run.specs.RunText.{Exchange, HasRunTo}
 use Rattle.mote_run.specs.Trace.{RunPromise}
 use Rattle.mote_run.specs.declared.run.RunFault.{RunFault}
 use Rattle.mote_run.specs.Code.Runs as of_boxes
+use Rattle.mote_run.specs.declared.fault.MoteFault.{MoteFault}
 use Rattle.command_line.specs.CommandLine.{AsksForText, NamesApplications, named_in}
 use Rattle.command_line.specs.CommandLine as of_words
 use Rattle.command_line.specs.Statuses.{status_of_outcome}
@@ -27,15 +27,12 @@ OfRun (Err Failure.Read) P = P (Err RunFault.Read)
 OfRun (Err Failure.Write) P = P (Err RunFault.Write)
 OfRun (Err failure) P = ⊤
 
--- what a program reports of a mote that didn't boot
-abbrev pub failure_at_boot : BootFault → Failure
-failure_at_boot BootFault.BadSizes = Failure.BadSizes
-failure_at_boot BootFault.Memory = Failure.OutOfMemory
-
--- and of a run whose device failed
-abbrev pub failure_in_run : RunFault → Failure
-failure_in_run RunFault.Read = Failure.Read
-failure_in_run RunFault.Write = Failure.Write
+-- what a program reports of a mote that came to no end
+abbrev pub failure_in_mote : MoteFault → Failure
+failure_in_mote MoteFault.BadSizes = Failure.BadSizes
+failure_in_mote MoteFault.Memory = Failure.OutOfMemory
+failure_in_mote MoteFault.Read = Failure.Read
+failure_in_mote MoteFault.Write = Failure.Write
 
 -- what was read and written is that of a run with this result, and where a mote was run, it keeps the promise of `run`
 pub record HasRunAs (config : Config) (says : Applications) (quiet : Bool) (outcome : Result End Failure)
@@ -43,12 +40,14 @@ pub record HasRunAs (config : Config) (says : Applications) (quiet : Bool) (outc
   pub ran : HasRunTo config says quiet Failure.Read outcome exchange
   pub promise : OfRun outcome (λ answer. RunPromise config says quiet answer exchange)
 
--- the outcomes of a run of boxed applications: no arguments, no sizes and no memory are refused then
-abbrev pub IsAnswer : Result End Failure → Type 0
-IsAnswer (Ok end) = ⊤
-IsAnswer (Err Failure.Read) = ⊤
-IsAnswer (Err Failure.Write) = ⊤
-IsAnswer (Err failure) = ⊥
+-- the outcomes of a run of boxed applications: a run, or its failure, only where there is such a mote, and bad sizes only where not
+abbrev pub IsAnswer : Config → Result End Failure → Type 0
+IsAnswer config (Ok end) = is_bootable config ≡ true
+IsAnswer config (Err Failure.Read) = is_bootable config ≡ true
+IsAnswer config (Err Failure.Write) = is_bootable config ≡ true
+IsAnswer config (Err Failure.BadSizes) = is_bootable config ≡ false
+IsAnswer config (Err Failure.OutOfMemory) = ⊤
+IsAnswer config (Err failure) = ⊥
 
 -- by the table of a program's applications, which has the one of each name
 module _ {A : Type 0} (by_name : List ℕ → Option A) where

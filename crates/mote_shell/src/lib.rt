@@ -3,7 +3,6 @@
 #![tactic(auto)]
 
 mod help;
-mod prepared;
 mod runner;
 mod running;
 mod streams;
@@ -12,7 +11,6 @@ pub use command_line::{
     Applications, Failure, Named, ParserText, Program, Refusal, Report, Stream, exit_code, finish,
     read_words, status_of, texts_of, words_of,
 };
-pub use prepared::{Prepared, prepare};
-pub use runner::{Runner, run_booted};
+pub use runner::{Runner, run_boxed};
 pub use running::{run_to_status, work};
 pub use streams::{Input, Output};

@@ -2,17 +2,16 @@
 
 ghost use Rattle.std.specs.Prelude.{◌≡◌, ◌<◌, ◌-◌, ◌^◌, ◌↔◌, false, length, IsErrOf};
 ghost use Rattle.mote_types.specs.Applications.{says_of};
-ghost use Rattle.kernel_core.specs.declared.config.Config.{Config};
-ghost use Rattle.kernel_core.specs.Machine.{booted};
-ghost use Rattle.mote_run.specs.RunText.{Exchanged, WasBooted};
+ghost use Rattle.mote_run.specs.RunText.{Exchanged};
+ghost use Rattle.mote_run.specs.Code.Runs.{config_of};
 ghost use Rattle.command_line.specs.CommandLine.{texts};
 ghost use Rattle.command_line.specs.declared.failure.Failure.{Failure as Refused};
-ghost use Rattle.mote_shell.specs.NamedRuns.{HasRunAs, HasRunNamed, IsAnswer, IsOutcome, failure_in_run};
+ghost use Rattle.mote_shell.specs.NamedRuns.{HasRunAs, HasRunNamed, IsAnswer, IsOutcome, failure_in_mote};
 
 use app_kit::FromName;
 use command_line::{Failure, Program};
-use kernel_core::kernel::Kernel;
-use mote_run::run::{RunFault, run};
+use mote_run::fault::MoteFault;
+use mote_run::mote::{Sizes, run_boxes};
 use mote_text::script::End;
 use mote_types::app::App;
 use mote_types::device::{ByteSink, ByteSource};
@@ -27,9 +26,9 @@ pub trait Runner<T: FromName> {
     ///
     /// # Errors
     ///
-    /// First those of `prepare`: what the parser finds, an unknown name, too many names, bad sizes. Nothing is read or written
-    /// then. `Read` and `Write` exactly where that device failed; `OutOfMemory` where memory was refused. What was written is a
-    /// prefix of the text then, and after `Read` all of the text of the whole lines that were read.
+    /// First those of `read_words`: what the parser finds, an unknown name, too many names. Then `BadSizes`. Nothing is read or
+    /// written then. `Read` and `Write` exactly where that device failed; `OutOfMemory` where memory was refused. What was written
+    /// is a prefix of the text then, and after `Read` all of the text of the whole lines that were read.
     fn run_words<'a, S: ByteSource, K: ByteSink>(
         alloc: Global,
         program: Program,
@@ -48,41 +47,43 @@ pub trait Runner<T: FromName> {
         ensures write_fault { IsErrOf result Refused.Write ↔ (K.failure_count sink.old < K.failure_count sink.new) };
 }
 
-/// What a program reports of a run whose device failed.
-fn failure_of<'a>(fault: RunFault) -> Failure<'a>
-    ensures { result ≡ failure_in_run fault }
+/// What a program reports of a mote that came to no end.
+fn failure_of<'a>(fault: MoteFault) -> Failure<'a>
+    ensures { result ≡ failure_in_mote fault }
 {
     match fault {
-        RunFault::Read => Failure::Read,
-        RunFault::Write => Failure::Write,
+        MoteFault::BadSizes => Failure::BadSizes,
+        MoteFault::Memory => Failure::OutOfMemory,
+        MoteFault::Read => Failure::Read,
+        MoteFault::Write => Failure::Write,
     }
 }
 
-/// Runs the applications in the boxes on a kernel just booted for them, from a source to a sink, as `run` does, with all that it
+/// Runs the applications in the boxes on a mote of these sizes, from a source to a sink, as `run_boxes` does, with all that it
 /// promises: the last thing that a runner does.
 ///
 /// # Errors
 ///
-/// `Read` and `Write` exactly where that device failed.
-pub fn run_booted<'a, S: ByteSource, K: ByteSink>(
-    kernel: Kernel,
+/// `BadSizes`, `Read` and `Write` as `run_boxes`, otherwise `OutOfMemory`.
+pub fn run_boxed<'a, S: ByteSource, K: ByteSink>(
+    alloc: Global,
+    sizes: Sizes,
     boxes: &mut [Box<dyn App>],
     source: &mut S,
     sink: &mut K,
     quiet: bool,
 ) -> Result<End, Failure<'a>>
-    requires booted { WasBooted kernel (length boxes.old) }
     requires unended { S.is_ended source.old ≡ false }
     requires countable_reads { S.failure_count source.old < 2 ^ 64 - 1 }
     requires countable_writes { K.failure_count sink.old < 2 ^ 64 - 1 }
-    ensures answer { IsAnswer result }
-    ensures run { S.is_named → K.is_named → (config : Config) → kernel.machine ≡ booted config →
+    ensures answer { IsAnswer (config_of sizes (length boxes.old)) result }
+    ensures run { S.is_named → K.is_named →
         Exchanged (S.taken source.old) (S.taken source.new) (S.is_ended source.new) (K.given sink.old) (K.given sink.new)
-        (HasRunAs config (says_of says boxes.old) quiet result) }
+        (HasRunAs (config_of sizes (length boxes.old)) (says_of says boxes.old) quiet result) }
     ensures read_fault { IsErrOf result Refused.Read ↔ (S.failure_count source.old < S.failure_count source.new) }
     ensures write_fault { IsErrOf result Refused.Write ↔ (K.failure_count sink.old < K.failure_count sink.new) }
 {
-    match run(source, sink, kernel, boxes, quiet) {
+    match run_boxes(alloc, sizes, boxes, source, sink, quiet) {
         Ok(end) => Ok(end),
         Err(fault) => Err(failure_of(fault)),
     }

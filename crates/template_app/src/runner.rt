@@ -2,7 +2,7 @@
 
 use crate::beat::Beat;
 use mote_run::End;
-use mote_shell::{Failure, Prepared, Program, Runner, prepare, run_booted};
+use mote_shell::{Failure, Program, Runner, read_words, run_boxed};
 use mote_types::app::App;
 use mote_types::device::{ByteSink, ByteSource};
 use std::alloc::Global;
@@ -18,16 +18,18 @@ impl Runner<Beat> for Boxing {
         source: &mut S,
         sink: &mut K,
     ) -> Result<End, Failure<'a>> {
-        // Not `?`, and no name for the whole: each would clear and copy the room of a kernel once more.
-        match prepare::<Beat>(alloc, program, words) {
-            Ok(Prepared { kernel, named }) => {
-                let mut boxes: Vec<Box<dyn App>> = Vec::new(alloc);
-                for application in named.applications {
-                    boxes.push(Box::new(alloc, application)?)?;
-                }
-                run_booted(kernel, boxes.as_mut_slice(), source, sink, named.quiet)
-            }
-            Err(failure) => Err(failure),
+        let named = read_words::<Beat>(alloc, program, words)?;
+        let mut boxes: Vec<Box<dyn App>> = Vec::new(alloc);
+        for application in named.applications {
+            boxes.push(Box::new(alloc, application)?)?;
         }
+        run_boxed(
+            alloc,
+            named.sizes,
+            boxes.as_mut_slice(),
+            source,
+            sink,
+            named.quiet,
+        )
     }
 }
