@@ -109,40 +109,53 @@ fn flag<'a>(alloc: Global, name: &'a str, help: &'a str) -> Arg<'a> {
         .help(help)
 }
 
-/// The command line, as a description for the parser.
-fn command<'a>(alloc: Global) -> Result<Command<'a>, AllocError> {
-    let files = Arg::new(alloc, "FILE")
-        .num_args(1..)
-        .required(true)
-        .help("Files that tell of runs");
-    let all = flag(alloc, "all", "Shows every difference");
-    let write = flag(
+/// The option by which transcripts are written.
+fn write_flag<'a>(alloc: Global) -> Result<Arg<'a>, AllocError> {
+    flag(
         alloc,
         "write",
         "Puts the transcripts in their places in the files, in place of those that differ",
     )
     .conflicts_with("all")?
     .conflicts_with("thorough")?
-    .conflicts_with("json")?;
-    let json = flag(
+    .conflicts_with("json")
+}
+
+/// The option by which what files say is written.
+fn json_flag<'a>(alloc: Global) -> Result<Arg<'a>, AllocError> {
+    flag(
         alloc,
         "json",
         "Runs nothing, and writes what each run is given and is to write, as a line of JSON",
     )
     .conflicts_with("all")?
-    .conflicts_with("thorough")?;
-    let thorough = flag(
+    .conflicts_with("thorough")
+}
+
+fn thorough_flag<'a>(alloc: Global) -> Arg<'a> {
+    flag(
         alloc,
         "thorough",
         "Carries out each run with a transcript in fifteen kinds of pieces too, and walks over its lines",
-    );
+    )
+}
+
+fn files<'a>(alloc: Global) -> Arg<'a> {
+    Arg::new(alloc, "FILE")
+        .num_args(1..)
+        .required(true)
+        .help("Files that tell of runs")
+}
+
+/// The command line, as a description for the parser.
+fn command<'a>(alloc: Global) -> Result<Command<'a>, AllocError> {
     Command::new(alloc, "scenario")
         .version(VERSION)
         .about(ABOUT)
         .after_help(AFTER_HELP)
-        .arg(write)?
-        .arg(all)?
-        .arg(thorough)?
-        .arg(json)?
-        .arg(files)
+        .arg(write_flag(alloc)?)?
+        .arg(flag(alloc, "all", "Shows every difference"))?
+        .arg(thorough_flag(alloc))?
+        .arg(json_flag(alloc)?)?
+        .arg(files(alloc))
 }

@@ -6,9 +6,10 @@ use crate::command_line::Wish;
 use crate::fault::Fault;
 use crate::flaw::flaw_of;
 use crate::parts::{Part, parts_of};
+use crate::reader::{Misread, read_scenario};
 use crate::record::record_of;
 use crate::run::{WHOLE, Way, Widths, comes_out, outcome_of};
-use crate::scenario::{Misread, Scenario};
+use crate::scenario::Scenario;
 use crate::spelled::plain_text;
 use std::alloc::{AllocError, Global};
 use std::rt::Files;
@@ -89,7 +90,7 @@ impl<'a> ScenarioFile<'a> {
     /// Checks whether each line is well-formed.
     fn look(&self, alloc: Global) -> Result<(), Misread<'_>> {
         for part in self.parts(alloc)? {
-            Scenario::of(alloc, part)?;
+            read_scenario(alloc, part)?;
         }
         Ok(())
     }
@@ -109,12 +110,22 @@ impl<'a> ScenarioFile<'a> {
             return Ok(());
         };
         for part in parts {
-            if let Ok(scenario) = Scenario::of(rt.alloc(), part) {
-                let record = record_of(rt.alloc(), self.path, part.name, scenario)?;
-                println!(rt; "{}", record.as_str())?;
+            if let Ok(scenario) = read_scenario(rt.alloc(), part) {
+                self.write_record(rt, part.name, &scenario)?;
             }
         }
         Ok(())
+    }
+
+    /// Writes what the file says of one run.
+    fn write_record<R: AllocGlobal + Print>(
+        &self,
+        rt: &R,
+        name: Option<&str>,
+        scenario: &Scenario<'_>,
+    ) -> io::Result<()> {
+        let record = record_of(rt.alloc(), self.path, name, scenario)?;
+        println!(rt; "{}", record.as_str())
     }
 
     /// Executes all runs of the file, and reports their results. Returns whether all came out as the file says.
@@ -159,31 +170,13 @@ impl<'a> ScenarioFile<'a> {
         title: &mut Option<&str>,
         count: &mut Count,
     ) -> io::Result<()> {
-        let Ok(mut scenario) = Scenario::of(rt.alloc(), part) else {
-            return Ok(());
-        };
         let name = self.name_of(rt.alloc(), part)?;
-        if !scenario.is_told() {
-            if let Some(path) = title.take() {
-                println!(rt; "# {path}")?;
+        match read_scenario(rt.alloc(), part) {
+            Ok(mut scenario) => {
+                carry_run_out(rt, name.as_str(), part, &mut scenario, wish, title, count)
             }
-            let has_ended = show(rt, part.name, name.as_str(), &mut scenario)?;
-            count.endless = count.endless.saturating_add(u32::from(!has_ended));
-            return Ok(());
+            Err(_) => Ok(()),
         }
-        count.told = count.told.saturating_add(1);
-        let way = Way {
-            widths: WHOLE,
-            tells_all: wish.tells_all,
-            walks: wish.thorough,
-        };
-        let comes = comes_out(rt, name.as_str(), scenario, way)?;
-        count.as_told = count.as_told.saturating_add(u32::from(comes));
-        if wish.thorough {
-            let held = count_cuts(rt, name.as_str(), part)?;
-            count.in_pieces = count.in_pieces.saturating_add(held);
-        }
-        Ok(())
     }
 
     /// Reports the number of runs that came out as the file says. Returns whether all did.
@@ -205,6 +198,39 @@ impl<'a> ScenarioFile<'a> {
         let are_cut = !thorough || *in_pieces == told.saturating_mul(15);
         Ok(as_told == told && are_cut && *endless == 0)
     }
+}
+
+/// Executes one run of a file, and counts its result.
+fn carry_run_out<R: AllocGlobal + Print + Eprint>(
+    rt: &R,
+    name: &str,
+    part: Part<'_>,
+    scenario: &mut Scenario<'_>,
+    wish: Wish,
+    title: &mut Option<&str>,
+    count: &mut Count,
+) -> io::Result<()> {
+    if !scenario.is_told() {
+        if let Some(path) = title.take() {
+            println!(rt; "# {path}")?;
+        }
+        let has_ended = show(rt, part.name, name, scenario)?;
+        count.endless = count.endless.saturating_add(u32::from(!has_ended));
+        return Ok(());
+    }
+    count.told = count.told.saturating_add(1);
+    let way = Way {
+        widths: WHOLE,
+        tells_all: wish.tells_all,
+        walks: wish.thorough,
+    };
+    let comes = comes_out(rt, name, scenario, way)?;
+    count.as_told = count.as_told.saturating_add(u32::from(comes));
+    if wish.thorough {
+        let held = count_cuts(rt, name, part)?;
+        count.in_pieces = count.in_pieces.saturating_add(held);
+    }
+    Ok(())
 }
 
 /// Writes the transcript of a run that the file says nothing of, below its name where it has one. Returns whether it
@@ -238,13 +264,13 @@ fn count_sinks<R: AllocGlobal + Print>(
 {
     let mut held = 0u32;
     for taken in [1, 5, usize::MAX] {
-        if let Ok(scenario) = Scenario::of(rt.alloc(), part) {
+        if let Ok(mut scenario) = read_scenario(rt.alloc(), part) {
             let way = Way {
                 widths: Widths { given, taken },
                 tells_all: false,
                 walks: false,
             };
-            let comes = comes_out(rt, name, scenario, way)?;
+            let comes = comes_out(rt, name, &mut scenario, way)?;
             held = held.saturating_add(u32::from(comes));
         }
     }

@@ -14,6 +14,7 @@ mod network;
 mod network_script;
 mod parts;
 mod program;
+mod reader;
 mod record;
 mod run;
 mod scenario;

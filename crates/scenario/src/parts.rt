@@ -1,7 +1,7 @@
 //! The runs of a file: where the text of each begins.
 
 use crate::fault::Fault;
-use crate::scenario::Misread;
+use crate::reader::Misread;
 use std::alloc::{AllocError, Global};
 
 /// What is before a run's name.

@@ -1,7 +1,7 @@
 //! What a file says of a run, as JSON, so that other programs needn't parse the format.
 
 use crate::scenario::Scenario;
-use serde_json::{Value, json};
+use serde_json::{Map, Value};
 use std::alloc::{AllocError, Global};
 
 /// Texts as a list.
@@ -45,31 +45,72 @@ fn words_of(alloc: Global, scenario: &Scenario<'_>) -> Result<Value, AllocError>
     Ok(Value::Array(words))
 }
 
+/// The applications of a run, each as its lines.
+fn applications_of(alloc: Global, scenario: &Scenario<'_>) -> Result<Value, AllocError> {
+    let mut applications = Vec::new(alloc);
+    for program in scenario.programs.iter() {
+        applications.push(list_of(alloc, program.text.as_slice())?)?;
+    }
+    Ok(Value::Array(applications))
+}
+
+/// The transcript that a file has of a run, if it has one.
+fn transcript_of<'s>(scenario: &'s Scenario<'_>) -> Option<&'s str> {
+    if scenario.transcript.is_empty() {
+        None
+    } else {
+        Some(scenario.transcript.as_str())
+    }
+}
+
+/// Adds a member to an object.
+fn put(
+    alloc: Global,
+    members: &mut Map<String, Value>,
+    name: &str,
+    value: Value,
+) -> Result<(), AllocError> {
+    let _ = members.insert(String::from_str(alloc, name)?, value)?;
+    Ok(())
+}
+
+/// Adds what a file says of a run.
+fn put_all(
+    alloc: Global,
+    members: &mut Map<String, Value>,
+    path: &str,
+    name: Option<&str>,
+    scenario: &Scenario<'_>,
+) -> Result<(), AllocError> {
+    let script = scenario.inputs.script.as_str();
+    put(alloc, members, "file", text_of(alloc, Some(path))?)?;
+    put(alloc, members, "name", text_of(alloc, name)?)?;
+    put(alloc, members, "network", Value::Bool(scenario.is_network))?;
+    put(alloc, members, "words", words_of(alloc, scenario)?)?;
+    put(
+        alloc,
+        members,
+        "applications",
+        applications_of(alloc, scenario)?,
+    )?;
+    put(alloc, members, "script", text_of(alloc, Some(script))?)?;
+    put(
+        alloc,
+        members,
+        "transcript",
+        text_of(alloc, transcript_of(scenario))?,
+    )?;
+    put(alloc, members, "ends", text_of(alloc, scenario.end())?)
+}
+
 /// A run as a line of JSON.
 pub(crate) fn record_of(
     alloc: Global,
     path: &str,
     name: Option<&str>,
-    scenario: Scenario<'_>,
+    scenario: &Scenario<'_>,
 ) -> Result<String, AllocError> {
-    let mut applications = Vec::new(alloc);
-    for program in scenario.programs.iter() {
-        applications.push(list_of(alloc, program.text.as_slice())?)?;
-    }
-    let transcript = if scenario.transcript.is_empty() {
-        None
-    } else {
-        Some(scenario.transcript.as_str())
-    };
-    let record = json!(in alloc; {
-        "file": text_of(alloc, Some(path))?,
-        "name": text_of(alloc, name)?,
-        "network": Value::Bool(scenario.is_network),
-        "words": words_of(alloc, &scenario)?,
-        "applications": Value::Array(applications),
-        "script": text_of(alloc, Some(scenario.inputs.script.as_str()))?,
-        "transcript": text_of(alloc, transcript)?,
-        "ends": text_of(alloc, scenario.end())?,
-    })?;
-    record.to_string(alloc)
+    let mut members = Map::new(alloc);
+    put_all(alloc, &mut members, path, name, scenario)?;
+    Value::Object(members).to_string(alloc)
 }

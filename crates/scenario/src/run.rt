@@ -151,12 +151,12 @@ impl Outcome {
 pub(crate) fn comes_out<R: AllocGlobal + Print>(
     rt: &R,
     name: &str,
-    mut scenario: Scenario<'_>,
+    scenario: &mut Scenario<'_>,
     way: Way,
 ) -> io::Result<bool> {
     let applications = scenario.programs.len();
-    let outcome = outcome_of(rt.alloc(), &mut scenario, way.widths)?;
-    let is_same = outcome.ended_as_told(&scenario);
+    let outcome = outcome_of(rt.alloc(), scenario, way.widths)?;
+    let is_same = outcome.ended_as_told(scenario);
     if !is_same {
         println!(rt;
             "{name}: ended with: {}, and not: {}",
@@ -167,7 +167,7 @@ pub(crate) fn comes_out<R: AllocGlobal + Print>(
     // A quiet transcript has no turns to walk over, and a network's has those of several motes.
     let walks = way.walks && !scenario.quiet && !scenario.is_network;
     let keeps = !walks || keeps_laws(rt, name, applications, outcome.text())?;
-    let shows = is_shown(rt, name, &scenario, &outcome, way.tells_all)?;
+    let shows = is_shown(rt, name, scenario, &outcome, way.tells_all)?;
     Ok(is_same && keeps && shows)
 }
 

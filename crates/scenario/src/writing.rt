@@ -3,6 +3,7 @@
 use crate::files::ScenarioFile;
 use crate::gaps::fits;
 use crate::parts::Part;
+use crate::reader::read_scenario;
 use crate::run::{Outcome, WHOLE, lines_of, outcome_of};
 use crate::scenario::{Scenario, ToldLine};
 use std::alloc::{AllocError, Global};
@@ -171,7 +172,7 @@ fn patches_of(alloc: Global, file: &ScenarioFile<'_>) -> Result<(Vec<Patch>, usi
 
 /// The change of one run, if it needs one.
 fn part_patch(alloc: Global, part: Part<'_>) -> Result<Option<Patch>, AllocError> {
-    let Ok(mut scenario) = Scenario::of(alloc, part) else {
+    let Ok(mut scenario) = read_scenario(alloc, part) else {
         return Ok(None);
     };
     let outcome = outcome_of(alloc, &mut scenario, WHOLE)?;
