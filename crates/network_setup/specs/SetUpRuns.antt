@@ -1,7 +1,7 @@
 -- The run of a network that was set up.
-use Rattle.std.specs.Prelude.{◌≡◌, ℕ, Bool, List, [], None, Result, Ok, Err}
+use Rattle.std.specs.Prelude.{◌≡◌, ℕ, Bool, false, List, [], None, Result, Ok, Err}
 use Rattle.kernel_core.specs.declared.config.Config.{Config}
-use Rattle.medium_core.specs.Air.{still_air}
+use Rattle.medium_core.specs.Air.{are_links, still_air}
 use Rattle.mote_text.specs.declared.script.End.{End}
 use Rattle.network_setup.specs.SetupView.{HaveJustBooted, SetupView, config_of}
 use Rattle.network_setup.specs.declared.fault.SetUpRunFault.{SetUpRunFault}
@@ -29,10 +29,10 @@ pub record HasBooted (setup : SetupView) : Type 0 where
   pub motes : HaveJustBooted configs setup.motes
   pub log : IsLogOf (config_of configs) setup.room setup.links [] (start_of setup)
 
--- how the run ended: where there is a network, as its run promises
+-- how the run ended: as that of the network promises. There is none where memory is refused, or a link isn't sound
 abbrev pub HasRunSetUp : Bool → NetworkView → Voices → List NetworkInput × End → List ℕ → Result End SetUpRunFault → Type 0
 HasRunSetUp quiet start voices script written (Ok end) = HasRun quiet start voices script written (Ok end)
 HasRunSetUp quiet start voices script written (Err (SetUpRunFault.Run fault)) = HasRun quiet start voices script written (Err fault)
 HasRunSetUp quiet start voices script written (Err SetUpRunFault.Memory) = written ≡ []
 HasRunSetUp quiet start voices script written (Err SetUpRunFault.NoMote) = ⊥
-HasRunSetUp quiet start voices script written (Err SetUpRunFault.BadLink) = written ≡ []
+HasRunSetUp quiet start voices script written (Err SetUpRunFault.BadLink) = (written ≡ []) × (are_links start.air.links ≡ false)
