@@ -1,6 +1,6 @@
 //! Executes a run, whole and in pieces, and compares its result with what its file says.
 
-ghost use Rattle.std.specs.Prelude.{◌<◌};
+ghost use Rattle.std.specs.Prelude.{◌<◌, ◌-◌, ◌^◌};
 
 use crate::change::changes;
 use crate::gaps::fits;
@@ -61,9 +61,29 @@ pub(crate) fn outcome_of(
     scenario: &mut Scenario<'_>,
     widths: Widths,
 ) -> Result<Outcome, AllocError> {
-    if scenario.is_network {
-        return outcome_of_network(alloc, scenario, widths.taken);
-    }
+    let mut sink = Transcript::new(alloc).in_pieces_of(widths.taken);
+    let (end, has_ended) = if scenario.is_network {
+        run_network(alloc, scenario, &mut sink)?
+    } else {
+        run_mote(alloc, scenario, widths.given, &mut sink)?
+    };
+    Ok(Outcome {
+        end,
+        has_ended,
+        transcript: sink.text,
+    })
+}
+
+/// Executes the run of a mote, and consumes its applications. Returns how it ended, or why it did not end, and whether it ended.
+fn run_mote(
+    alloc: Global,
+    scenario: &mut Scenario<'_>,
+    given: usize,
+    sink: &mut Transcript,
+) -> Result<(String, bool), AllocError>
+    requires reads { 0 < given }
+    requires writes { sink.old.failed < 2 ^ 64 - 1 }
+{
     let mut boxes: Vec<Box<dyn App>> = Vec::new(alloc);
     for program in mem::replace(&mut scenario.programs, Vec::new(alloc)) {
         let Program { acts, .. } = program;
@@ -73,54 +93,42 @@ pub(crate) fn outcome_of(
         }
     }
     let script = scenario.script();
-    let reads = script.len().div_ceil(widths.given.min(READ_LIMIT)) as u64;
+    let reads = script.len().div_ceil(given.min(READ_LIMIT)) as u64;
     let mut source = Script::new(script)
-        .in_pieces_of(widths.given)
+        .in_pieces_of(given)
         .failing_at(reads.saturating_add(2));
-    let mut sink = Transcript::new(alloc).in_pieces_of(widths.taken);
     let ran = run_boxes(
         alloc,
         scenario.sizes(),
         boxes.as_mut_slice(),
         &mut source,
-        &mut sink,
+        sink,
         scenario.quiet,
     );
-    let (end, has_ended) = match ran {
-        Ok(end) => (end_words(alloc, end)?, true),
-        Err(MoteFault::Memory) => return Err(AllocError),
-        Err(fault) => (fault.to_string(alloc)?, false),
-    };
-    Ok(Outcome {
-        end,
-        has_ended,
-        transcript: sink.text,
-    })
+    end_of(alloc, ran)
 }
 
-/// Executes the run of a network.
-fn outcome_of_network(
+/// How the run of a mote ended, or why it did not end, and whether it ended.
+fn end_of(alloc: Global, ran: Result<End, MoteFault>) -> Result<(String, bool), AllocError> {
+    match ran {
+        Ok(end) => Ok((end_words(alloc, end)?, true)),
+        Err(MoteFault::Memory) => Err(AllocError),
+        Err(fault) => Ok((fault.to_string(alloc)?, false)),
+    }
+}
+
+/// The same of the run of a network, which it executes.
+fn run_network(
     alloc: Global,
     scenario: &Scenario<'_>,
-    taken: usize,
-) -> Result<Outcome, AllocError>
-    requires { 0 < taken }
+    sink: &mut Transcript,
+) -> Result<(String, bool), AllocError>
+    requires { sink.old.failed < 2 ^ 64 - 1 }
 {
-    let mut sink = Transcript::new(alloc).in_pieces_of(taken);
-    let (end, has_ended) = match run_network_script(
-        alloc,
-        scenario.script(),
-        &mut sink,
-        scenario.quiet,
-    )? {
-        Some(end) => (end_words(alloc, end)?, true),
-        None => (String::from_str(alloc, "too many inputs or ticks")?, false),
-    };
-    Ok(Outcome {
-        end,
-        has_ended,
-        transcript: sink.text,
-    })
+    match run_network_script(alloc, scenario.script(), sink, scenario.quiet)? {
+        Some(end) => Ok((end_words(alloc, end)?, true)),
+        None => Ok((String::from_str(alloc, "too many inputs or ticks")?, false)),
+    }
 }
 
 /// How a run is compared with what its file says.

@@ -276,24 +276,38 @@ pub(crate) fn write_in_place<R: AllocGlobal + Files + Print + Eprint>(
     file: &ScenarioFile<'_>,
 ) -> io::Result<bool> {
     let (patches, runs) = patches_of(rt.alloc(), file)?;
-    if !patches.is_empty() {
-        let text = patched(rt.alloc(), file.text.as_str(), patches.as_slice())?;
-        if let Err(error) = replace(rt, file.path, text.as_str()) {
-            if error.kind() == io::ErrorKind::OutOfMemory {
-                return Err(error);
-            }
+    let is_written = write_patches(rt, file, patches.as_slice())?;
+    if is_written {
+        println!(rt;
+            "{}: {} of {runs} transcripts put in place",
+            file.path,
+            patches.len()
+        )?;
+    }
+    Ok(is_written)
+}
+
+/// Writes the changes of a file's runs into it, if there are any. Returns whether it could be written, and reports the reason where it
+/// couldn't.
+fn write_patches<R: AllocGlobal + Files + Eprint>(
+    rt: &R,
+    file: &ScenarioFile<'_>,
+    patches: &[Patch],
+) -> io::Result<bool> {
+    if patches.is_empty() {
+        return Ok(true);
+    }
+    let text = patched(rt.alloc(), file.text.as_str(), patches)?;
+    match replace(rt, file.path, text.as_str()) {
+        Ok(()) => Ok(true),
+        Err(error) if error.kind() == io::ErrorKind::OutOfMemory => Err(error),
+        Err(error) => {
             let _ = eprintln!(rt;
                 "scenario: {}: not written: {}",
                 file.path,
                 reason(error.kind())
             );
-            return Ok(false);
+            Ok(false)
         }
     }
-    println!(rt;
-        "{}: {} of {runs} transcripts put in place",
-        file.path,
-        patches.len()
-    )?;
-    Ok(true)
 }
