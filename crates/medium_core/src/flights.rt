@@ -109,6 +109,7 @@ impl Flights {
     }
 
     /// Removes the one that arrives next.
+    #[inline(always)]
     pub(crate) fn take_next(&mut self) -> Option<Flight>
         ensures some { IfSome result (λ flight. self.old.flights ≡ flight ∷ self.new.flights) }
         ensures none { IfNone result (self.old.flights ≡ []) }

@@ -231,6 +231,8 @@ impl Medium {
     }
 
     /// The frame that arrives now, if one does, leaves the medium.
+    // Inlined, so that a caller who drops it gets no copy.
+    #[inline(always)]
     pub fn land(&mut self) -> Option<Flight>
         ensures flight { result ≡ arrival self.old }
         ensures landed { self.new ≡ landed self.old }

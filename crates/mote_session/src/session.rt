@@ -110,6 +110,7 @@ fn ticks(input: &Input) -> u64
 
 /// Works until there is something to report, where no turn awaits its call. Writes a turn into one buffer, and another entry
 /// into the other.
+#[inline(always)]
 fn work_in(
     kernel: &mut AwaitingKernel,
     turn: &mut Turn,
@@ -153,6 +154,7 @@ fn submit_in(kernel: &mut AwaitingKernel, turn: &mut Turn, pid: Pid, call: Call)
 }
 
 /// Has the caller put a call into the turn that awaits it, and executes it.
+#[inline(always)]
 fn call_in<H: Caller>(
     kernel: &mut AwaitingKernel,
     turn: &mut Turn,
@@ -185,6 +187,7 @@ fn call_in<H: Caller>(
 }
 
 /// The same, and notes that the turn was the last entry.
+#[inline(always)]
 fn take_in<H: Caller>(
     kernel: &mut AwaitingKernel,
     turn: &mut Turn,
@@ -207,6 +210,7 @@ fn take_in<H: Caller>(
 }
 
 /// The one buffer or the other.
+#[inline(always)]
 fn turn_in<'a>(takes_odd: bool, odd: &'a Turn, even: &'a Turn) -> &'a Turn
     ensures { result.now ≡ turn_in takes_odd odd.now even.now }
 {
@@ -303,6 +307,7 @@ impl Session {
     }
 
     /// Works as `next`, where no turn awaits its call.
+    #[inline(always)]
     fn advance(&mut self) -> Next
         requires { self.old.turn ≡ None }
         ensures advances { Advances result self.old self.new }
@@ -366,6 +371,8 @@ impl Session {
     /// # Errors
     ///
     /// `AwaitsCall` exactly where a turn awaits its call.
+    // Part of the loop of a network's run, with all that it calls but the kernel's `next`: see docs/performance.md.
+    #[inline(always)]
     pub fn next_by<H: Caller>(
         &mut self,
         mote: usize,
@@ -382,6 +389,7 @@ impl Session {
     }
 
     /// Works as `next_by`, where no turn awaits its call.
+    #[inline(always)]
     fn advance_by<H: Caller>(&mut self, mote: usize, caller: &mut H) -> Worked
         requires { self.old.turn ≡ None }
         ensures works { WorksBy result self.old self.new }
@@ -399,6 +407,7 @@ impl Session {
     }
 
     /// Has the caller make the call of the turn that awaits it, and executes it.
+    #[inline(always)]
     fn take_turn<H: Caller>(&mut self, mote: usize, caller: &mut H)
         requires { self.old.turn ≢ None }
         ensures submitted { MakesCall self.old self.new }
@@ -410,6 +419,7 @@ impl Session {
     }
 
     /// Has the caller make the call of the application whose turn it is, and executes it.
+    #[inline(always)]
     fn end_turn_by<H: Caller>(&mut self, pid: Pid, mote: usize, caller: &mut H)
         requires { IsSomeAnd self.old.turn (λ turn. turn.process ≡ pid) }
         ensures submitted { MakesCall self.old self.new }
@@ -547,6 +557,7 @@ impl Session {
     }
 
     /// The frame that was sent, where the last entry reports one.
+    #[inline(always)]
     pub fn sent(&self) -> Option<&ArrayVec<u8, 127>>
         ensures { sent_in self.now.last ≡ option_copied result }
     {
@@ -561,6 +572,7 @@ impl Session {
 
     /// Whether a transcript shows the last entry, if one was made. A quiet one shows the turns that print or send, the frames that were
     /// sent, and `halt`.
+    #[inline(always)]
     pub fn shows_last(&self, quiet: bool) -> bool
         ensures { result ≡ is_last_shown quiet self.now.last }
     {
@@ -589,6 +601,7 @@ impl Session {
     }
 
     /// Whether the last entry has a line: one was made, and no turn awaits its call.
+    #[inline(always)]
     pub fn has_line(&self) -> bool
         ensures { result ≡ is_some self.now.last }
     {
@@ -603,6 +616,7 @@ impl Session {
     /// # Errors
     ///
     /// `NoLine` exactly where no entry was made, or the last turn awaits its call.
+    #[inline(always)]
     pub fn push_line(&self, line: &mut OutputBuffer) -> Result<(), SessionRefusal>
         requires { HasRoom line.old entry_line_limit }
         ensures pushed { IfOk result (λ _. IsSomeAnd self.now.last (λ entry. line.new.items ≡ line.old.items ++ entry_line entry)) }

@@ -132,6 +132,7 @@ impl PendingText {
     }
 
     /// Puts the line of a mote's last entry after it, if there is one, and it is shown.
+    #[inline(always)]
     pub(crate) fn put_entry<K: ByteSink>(
         &mut self,
         sink: &mut K,

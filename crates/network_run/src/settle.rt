@@ -19,6 +19,7 @@ use network_session::network::Network;
 use network_session::outcome::Outcome;
 
 /// Puts the lines of what the mote at work did, which left the network so.
+#[inline(always)]
 fn put_work<K: ByteSink>(
     sink: &mut K,
     text: &mut PendingText,
@@ -44,6 +45,7 @@ fn put_work<K: ByteSink>(
 }
 
 /// Lets the mote that is at work make an entry, with the call of a turn, or come to rest; and puts the entry's lines.
+#[inline(always)]
 fn work_once<K: ByteSink, H: Caller>(
     sink: &mut K,
     text: &mut PendingText,
@@ -67,6 +69,8 @@ fn work_once<K: ByteSink, H: Caller>(
 }
 
 /// Lets the mote that is at work come to rest.
+// A function of its own, into which all that makes and writes an entry is inlined: its registers are saved once for all entries.
+#[inline(never)]
 fn settle<K: ByteSink, H: Caller>(
     sink: &mut K,
     text: &mut PendingText,

@@ -15,6 +15,7 @@ use network_session::network::Network;
 use network_session::outcome::Outcome;
 
 /// Puts a line for each link that didn't carry the frame that was sent last.
+#[inline(never)]
 fn put_fates<K: ByteSink>(
     sink: &mut K,
     text: &mut PendingText,
@@ -33,6 +34,7 @@ fn put_fates<K: ByteSink>(
 }
 
 /// Puts what became of the frame that a mote's last entry sent, if it sent one.
+#[inline(always)]
 fn put_losses<K: ByteSink>(
     sink: &mut K,
     text: &mut PendingText,

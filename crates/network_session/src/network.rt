@@ -111,6 +111,7 @@ fn submit_in(motes: &mut Vec<Session>, m: usize, call: Call) -> Result<(), Netwo
 }
 
 /// Lets one mote work on, and the caller make the call of a turn.
+#[inline(always)]
 fn work_by_in<H: Caller>(
     motes: &mut Vec<Session>,
     m: usize,
@@ -130,6 +131,8 @@ fn work_by_in<H: Caller>(
 }
 
 /// Sends the frame that the mote's last entry says was sent, if it does.
+// Out of the way of turns, which most entries are.
+#[inline(never)]
 fn air_in(medium: &mut Medium, mote: &Session, m: usize)
     ensures { medium.new ≡ aired_if m (sent_in mote.now.last) medium.old }
 {
@@ -139,6 +142,8 @@ fn air_in(medium: &mut Medium, mote: &Session, m: usize)
 }
 
 /// Sets when a mote must get the time.
+// Out of the way of entries: it is set where a mote rests.
+#[inline(never)]
 fn set_wake(wakes: &mut Alarms, motes: &Vec<Session>, m: usize)
     requires within { m < length motes.now.items }
     requires each { length wakes.old ≡ length motes.now.items }
@@ -251,6 +256,7 @@ impl Network {
     /// # Errors
     ///
     /// `Refused(AwaitsCall)` where a turn awaits its call.
+    #[inline(always)]
     pub fn work_by<H: Caller>(&mut self, m: usize, caller: &mut H) -> Result<Worked, NetworkFault>
         requires { self.old.active ≡ Some m }
         ensures worked { IfOk result (λ worked. Works m worked self.old self.new) }

@@ -33,6 +33,7 @@ fn push_mote_number(mote: usize, text: &mut OutputBuffer)
 }
 
 /// Appends the number of a mote, and a blank.
+#[inline(always)]
 fn push_mote_word(mote: usize, text: &mut OutputBuffer)
     requires { HasRoom text.old (number_limit + 1) }
     ensures text { text.new.items ≡ text.old.items ++ (mote_number mote ++ codes " ") }
@@ -106,6 +107,7 @@ pub fn push_unheard_line(mote: usize, text: &mut OutputBuffer)
 ///
 /// Source: the transcript format is this project's profile.
 #[tactic(auto)]
+#[inline(always)]
 pub fn push_last_entry(mote: usize, session: &Session, text: &mut OutputBuffer)
     requires { HasRoom text.old mote_line_limit }
     ensures { text.new.items ≡ text.old.items ++ last_entry_line mote session.now.last }
