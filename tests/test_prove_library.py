@@ -1,0 +1,66 @@
+"""scripts/prove_library.py with stand-ins for the kit: how a library is proved, and what is left of it."""
+
+import os
+import shutil
+import sys
+from pathlib import Path
+
+import pytest
+
+from tools import ROOT, Completed, run
+
+
+class Library:
+    """The crate `tool` and a kit, and what the script says there."""
+
+    def __init__(self, room: Path) -> None:
+        self.kit, self.begun, self.built = room / "kit", room / "begun", room / "crates/tool/out/rlib"
+        shutil.copytree(ROOT / "tests/stand_in_kit", self.kit)
+        self.built.mkdir(parents=True)
+        for name in ("stamp", "old"):
+            (self.built / name).write_text("old", encoding="utf-8")
+
+    def prove(self, path: str = "", **settings: str) -> Completed:
+        known = {"PATH": f"{path}{self.kit}/bin:{os.environ['PATH']}", "BEGUN": str(self.begun), "HELP": "--statements", "BUILT": "0",
+                 "STATUS": "0"}
+        return run(sys.executable, ROOT / "scripts/prove_library.py", "--jobs", "2", cwd=self.built.parent.parent,
+                   settings={**known, **settings})
+
+    def files(self) -> list[str]:
+        return sorted(it.name for it in self.built.iterdir())
+
+
+@pytest.fixture
+def library(tmp_path: Path) -> Library:
+    return Library(tmp_path)
+
+
+def test_library_has_only_statements(library: Library) -> None:
+    """Nothing is left of the one before, and the stamp is that of the sources."""
+    ran = library.prove()
+    assert ran.returncode == 0 and library.files() == ["stamp", "tool.rlib"]
+    assert ran.stdout.decode().split()[:2] == ["rattle", "build"] and b" --jobs 2 keeps=False --statements -o " in ran.stdout
+    assert (library.built / "stamp").read_text(encoding="utf-8") == "stamp" and not library.begun.exists()
+
+
+def test_current_library(library: Library) -> None:
+    """It isn't built again."""
+    ran = library.prove(BUILT="1")
+    assert (ran.returncode, ran.stdout, library.files()) == (0, b"", ["old", "stamp"])
+
+
+def test_library_that_is_not_proved(library: Library) -> None:
+    """It has no stamp, and the status is rattle's."""
+    assert library.prove(STATUS="3").returncode == 3
+    assert library.files() == ["tool.rlib"]
+
+
+@pytest.mark.parametrize("is_old", [True, False], ids=["an-old-kit", "another-rt"])
+def test_rt_lib_is_run(library: Library, tmp_path: Path, is_old: bool) -> None:
+    """A kit that can't build statements only, or an rt in PATH that isn't the kit's."""
+    (tmp_path / "bin").mkdir()
+    shutil.copy2(library.kit / "bin/rt", tmp_path / "bin")
+    (tmp_path / "bin/rt").write_text(f'#!/bin/sh\n[ "$1" != doc ] || exec "{library.kit}/bin/rt" doc\necho "$*" >"$BEGUN"\nexit 4\n')
+    ran = library.prove(HELP="") if is_old else library.prove(f"{tmp_path}/bin:")
+    assert ran.returncode == (9 if is_old else 4) and library.files() == ["old", "stamp"]
+    assert library.begun.read_text(encoding="utf-8").startswith("lib --jobs 2")
