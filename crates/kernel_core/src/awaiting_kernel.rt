@@ -99,8 +99,7 @@ impl AwaitingKernel {
     /// The first half of a step, as `Kernel::step_to` makes it: works until an application must take a turn, which is
     /// written into `turn` without its call, until another entry is made, which is written into `other`, or until there is
     /// rest.
-    // Out of line: a session has two calls of it, one for each of its buffers.
-    #[inline(never)]
+    #[inline]
     pub fn next(&mut self, turn: &mut Turn, other: &mut Entry) -> StepOutcome
         requires closed { self.old.turn ≡ None }
         ensures opens { result ≡ StepOutcome.Turn → self.new.turn ≡ Some turn.new.pid }
@@ -128,7 +127,7 @@ impl AwaitingKernel {
     }
 
     /// The second half: executes the call of the application whose turn it is.
-    #[inline(always)]
+    #[inline]
     pub fn submit(&mut self, pid: Pid, call: &Call)
         requires open { self.old.turn ≡ Some pid }
         ensures machine { self.new.mote.machine ≡ after_call call.now pid.0 self.old.mote.machine }

@@ -110,7 +110,6 @@ fn ticks(input: &Input) -> u64
 
 /// Works until there is something to report, where no turn awaits its call. Writes a turn into one buffer, and another entry
 /// into the other.
-#[inline(always)]
 fn work_in(
     kernel: &mut AwaitingKernel,
     turn: &mut Turn,
@@ -210,7 +209,6 @@ fn take_in<H: Caller>(
 }
 
 /// The one buffer or the other.
-#[inline(always)]
 fn turn_in<'a>(takes_odd: bool, odd: &'a Turn, even: &'a Turn) -> &'a Turn
     ensures { result.now ≡ turn_in takes_odd odd.now even.now }
 {
@@ -307,7 +305,6 @@ impl Session {
     }
 
     /// Works as `next`, where no turn awaits its call.
-    #[inline(always)]
     fn advance(&mut self) -> Next
         requires { self.old.turn ≡ None }
         ensures advances { Advances result self.old self.new }
@@ -371,7 +368,7 @@ impl Session {
     /// # Errors
     ///
     /// `AwaitsCall` exactly where a turn awaits its call.
-    // Part of the loop of a network's run, with all that it calls but the kernel's `next`: see docs/performance.md.
+    // Part of the loop of a network's run: see docs/performance.md. What programs step by step call is left to the compiler.
     #[inline(always)]
     pub fn next_by<H: Caller>(
         &mut self,
@@ -557,7 +554,6 @@ impl Session {
     }
 
     /// The frame that was sent, where the last entry reports one.
-    #[inline(always)]
     pub fn sent(&self) -> Option<&ArrayVec<u8, 127>>
         ensures { sent_in self.now.last ≡ option_copied result }
     {
@@ -572,7 +568,6 @@ impl Session {
 
     /// Whether a transcript shows the last entry, if one was made. A quiet one shows the turns that print or send, the frames that were
     /// sent, and `halt`.
-    #[inline(always)]
     pub fn shows_last(&self, quiet: bool) -> bool
         ensures { result ≡ is_last_shown quiet self.now.last }
     {
@@ -601,7 +596,6 @@ impl Session {
     }
 
     /// Whether the last entry has a line: one was made, and no turn awaits its call.
-    #[inline(always)]
     pub fn has_line(&self) -> bool
         ensures { result ≡ is_some self.now.last }
     {
@@ -616,7 +610,6 @@ impl Session {
     /// # Errors
     ///
     /// `NoLine` exactly where no entry was made, or the last turn awaits its call.
-    #[inline(always)]
     pub fn push_line(&self, line: &mut OutputBuffer) -> Result<(), SessionRefusal>
         requires { HasRoom line.old entry_line_limit }
         ensures pushed { IfOk result (λ _. IsSomeAnd self.now.last (λ entry. line.new.items ≡ line.old.items ++ entry_line entry)) }
