@@ -19,6 +19,9 @@ class Library:
         self.built.mkdir(parents=True)
         for name in ("stamp", "old"):
             (self.built / name).write_text("old", encoding="utf-8")
+        self.lower = room / "crates/lower/out/rlib/lower.rlib/file"
+        self.lower.parent.mkdir(parents=True)
+        self.lower.write_text("first", encoding="utf-8")
 
     def prove(self, path: str = "", **settings: str) -> Completed:
         known = {"PATH": f"{path}{self.kit}/bin:{os.environ['PATH']}", "BEGUN": str(self.begun), "HELP": "--statements", "BUILT": "0",
@@ -38,7 +41,7 @@ def library(tmp_path: Path) -> Library:
 def test_library_has_only_statements(library: Library) -> None:
     """Nothing is left of the one before, and the stamp is that of the sources."""
     ran = library.prove()
-    assert ran.returncode == 0 and library.files() == ["stamp", "tool.rlib"]
+    assert ran.returncode == 0 and library.files() == ["over", "stamp", "tool.rlib"]
     assert ran.stdout.decode().split()[:2] == ["rattle", "build"] and b" --jobs 2 keeps=False --statements -o " in ran.stdout
     assert (library.built / "stamp").read_text(encoding="utf-8") == "stamp" and not library.begun.exists()
 
@@ -47,6 +50,14 @@ def test_current_library(library: Library) -> None:
     """It isn't built again."""
     ran = library.prove(BUILT="1")
     assert (ran.returncode, ran.stdout, library.files()) == (0, b"", ["old", "stamp"])
+
+
+def test_library_below_is_built_again(library: Library) -> None:
+    """The library is built over the new one, whatever its own sources; over the same one it isn't built again."""
+    library.prove()
+    assert library.prove(BUILT="1").stdout == b""
+    library.lower.write_text("second", encoding="utf-8")
+    assert library.prove(BUILT="1").stdout.startswith(b"rattle build") and library.prove(BUILT="1").stdout == b""
 
 
 def test_library_that_is_not_proved(library: Library) -> None:

@@ -15,6 +15,9 @@ class Crate:
     def is_built(self):
         return os.environ["BUILT"] == "1"
 
+    def below(self):
+        return [Lower()]
+
     def words(self, flags, keeps):
         return ["--crate-name", self.name, "--logic-built", "LOGIC", *flags, f"keeps={keeps}"]
 
@@ -22,6 +25,11 @@ class Crate:
         os.mkdir(self.rlib)
         print(*words)
         return int(os.environ["STATUS"])
+
+
+class Lower:
+    name = "lower"
+    rlib = f"{os.getcwd()}/../lower/out/rlib/lower.rlib"
 
 
 def crates_below(root):
