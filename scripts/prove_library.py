@@ -34,8 +34,8 @@ def builds_below(crate: Any) -> str:
     lines = []
     for it in crate.below():
         files = sorted(path for path in Path(it.rlib).rglob("*") if path.is_file())
-        facts = [f"{path.relative_to(it.rlib)} {path.stat().st_size} {path.stat().st_mtime_ns}" for path in files]
-        lines.append(f"{it.name} {hashlib.sha256(chr(10).join(facts).encode()).hexdigest()}\n")
+        facts = "".join(f"{path.relative_to(it.rlib)} {path.stat().st_size} {path.stat().st_mtime_ns}\n" for path in files)
+        lines.append(f"{it.name} {hashlib.sha256(facts.encode()).hexdigest()}\n")
     return "".join(lines)
 
 
