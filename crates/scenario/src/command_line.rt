@@ -101,43 +101,49 @@ impl<'a> Request<'a> {
     }
 }
 
-/// An option without a value.
-fn flag<'a>(alloc: Global, name: &'a str, help: &'a str) -> Arg<'a> {
-    Arg::new(alloc, name)
-        .long(name)
-        .action(ArgAction::SetTrue)
-        .help(help)
+/// An option without a value: its name, which is its long form too, its help, and the options that it excludes.
+#[derive(Clone, Copy, Drop)]
+struct Flag {
+    name: &'static str,
+    help: &'static str,
+    excludes: &'static [&'static str],
 }
 
-/// The option by which transcripts are written.
-fn write_flag<'a>(alloc: Global) -> Result<Arg<'a>, AllocError> {
-    flag(
-        alloc,
-        "write",
-        "Puts the transcripts in their places in the files, in place of those that differ",
-    )
-    .conflicts_with("all")?
-    .conflicts_with("thorough")?
-    .conflicts_with("json")
-}
+const FLAGS: [Flag; 4] = [
+    Flag {
+        name: "write",
+        help: "Puts the transcripts in their places in the files, in place of those that differ",
+        excludes: &["all", "thorough", "json"],
+    },
+    Flag {
+        name: "all",
+        help: "Shows every difference",
+        excludes: &[],
+    },
+    Flag {
+        name: "thorough",
+        help: "Carries out each run with a transcript in fifteen kinds of pieces too",
+        excludes: &[],
+    },
+    Flag {
+        name: "json",
+        help: "Runs nothing, and writes what each run is given and is to write, as a line of JSON",
+        excludes: &["all", "thorough"],
+    },
+];
 
-/// The option by which what files say is written.
-fn json_flag<'a>(alloc: Global) -> Result<Arg<'a>, AllocError> {
-    flag(
-        alloc,
-        "json",
-        "Runs nothing, and writes what each run is given and is to write, as a line of JSON",
-    )
-    .conflicts_with("all")?
-    .conflicts_with("thorough")
-}
-
-fn thorough_flag<'a>(alloc: Global) -> Arg<'a> {
-    flag(
-        alloc,
-        "thorough",
-        "Carries out each run with a transcript in fifteen kinds of pieces too, and walks over its lines",
-    )
+impl Flag {
+    /// Its description for the parser.
+    fn argument<'a>(&self, alloc: Global) -> Result<Arg<'a>, AllocError> {
+        let mut argument = Arg::new(alloc, self.name)
+            .long(self.name)
+            .action(ArgAction::SetTrue)
+            .help(self.help);
+        for other in self.excludes {
+            argument = argument.conflicts_with(other)?;
+        }
+        Ok(argument)
+    }
 }
 
 fn files<'a>(alloc: Global) -> Arg<'a> {
@@ -149,13 +155,12 @@ fn files<'a>(alloc: Global) -> Arg<'a> {
 
 /// The command line, as a description for the parser.
 fn command<'a>(alloc: Global) -> Result<Command<'a>, AllocError> {
-    Command::new(alloc, "scenario")
+    let mut command = Command::new(alloc, "scenario")
         .version(VERSION)
         .about(ABOUT)
-        .after_help(AFTER_HELP)
-        .arg(write_flag(alloc)?)?
-        .arg(flag(alloc, "all", "Shows every difference"))?
-        .arg(thorough_flag(alloc))?
-        .arg(json_flag(alloc)?)?
-        .arg(files(alloc))
+        .after_help(AFTER_HELP);
+    for flag in FLAGS {
+        command = command.arg(flag.argument(alloc)?)?;
+    }
+    command.arg(files(alloc))
 }

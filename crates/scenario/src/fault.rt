@@ -2,93 +2,146 @@
 
 use call_lists::{CallFault, RowFault};
 use std::alloc::{AllocError, AllocFailed};
-use thiserror::Error;
+use std::fmt;
+
+/// What is wrong with a word.
+#[derive(Clone, Copy, Drop)]
+pub(crate) enum WordFault {
+    Unknown,
+    TakesNoWord,
+    NoScriptLine,
+    NoTranscriptLine,
+    NoClock,
+    /// It sets a network up below an input.
+    BehindInput,
+    NoEnd,
+    Twice,
+    /// Two runs have this name.
+    SameName,
+}
+
+impl WordFault {
+    /// What a person reads before the word and after it.
+    fn around(self) -> (&'static str, &'static str) {
+        match self {
+            WordFault::Unknown => ("unknown word ", ""),
+            WordFault::TakesNoWord => ("", " takes no word"),
+            WordFault::NoScriptLine => ("", " is no line of a script"),
+            WordFault::NoTranscriptLine => ("", " is no line of a transcript"),
+            WordFault::NoClock => ("", " is no clock"),
+            WordFault::BehindInput => ("", " sets a network up, and is below an input"),
+            WordFault::NoEnd => ("no end of a run: ", ""),
+            WordFault::Twice => ("", " is given twice"),
+            WordFault::SameName => ("two runs have the name ", ""),
+        }
+    }
+}
+
+/// A rule of files that a line breaks, whatever its words are.
+#[derive(Clone, Copy, Drop)]
+pub(crate) enum Rule {
+    RowsAbove,
+    OneRow,
+    LongestText,
+    /// `at` goes on by so many ticks.
+    MostTicks,
+    LongestLine,
+    NetworkAbove,
+    NetworkFirst,
+    LastLine,
+    Headers,
+    Quotas,
+    MostApplications,
+    RunAbove,
+    Name,
+}
+
+impl Rule {
+    /// What a person reads.
+    fn text(self) -> &'static str {
+        match self {
+            Rule::RowsAbove => "a row comes after a line rows, or after another row",
+            Rule::OneRow => "the row's stimulus has a row above",
+            Rule::LongestText => "a text has at most 255 bytes",
+            Rule::MostTicks => "the clock goes on by at most 4294967295 ticks at once",
+            Rule::LongestLine => "a line of a network's script has at most 1024 bytes",
+            Rule::NetworkAbove => "a run with a line mote begins with a line network",
+            Rule::NetworkFirst => "network is the first line of a run, or none",
+            Rule::LastLine => "the script has ended with its last line",
+            Rule::Headers => "header takes 16 or 8",
+            Rule::Quotas => {
+                "mmem has no room for a quota of each application and one of the frames"
+            }
+            Rule::MostApplications => "a run has at most 16 applications",
+            Rule::RunAbove => "a line above the first run",
+            Rule::Name => "a run has no name",
+        }
+    }
+}
 
 /// Why a line of a file is malformed.
-#[derive(Clone, Copy, Debug, Drop, Error)]
+#[derive(Clone, Copy, Drop)]
 pub(crate) enum Fault<'a> {
-    #[error("unknown word {0}")]
-    UnknownWord(&'a str),
+    Word(WordFault, &'a str),
+    Rule(Rule),
     /// A text is no application, no call or no number.
-    #[error(transparent)]
-    Call(#[from] CallFault<'a>),
-    #[error(transparent)]
-    Row(#[from] RowFault<'a>),
-    #[error("a row comes after a line rows, or after another row")]
-    NoRows,
-    #[error("the row's stimulus has a row above")]
-    TwoRows,
-    #[error("{0} takes no word")]
-    TooManyWords(&'a str),
-    #[error("{0} is no line of a script")]
-    NoScriptLine(&'a str),
-    #[error("{0} is no line of a transcript")]
-    NoTranscriptLine(&'a str),
-    #[error("a text has at most 255 bytes")]
-    LongText,
-    #[error("{0} is no clock")]
-    NoClock(&'a str),
-    /// `at` names a clock that has passed.
-    #[error("the clock is at {0} already")]
+    Call(CallFault<'a>),
+    Row(RowFault<'a>),
+    /// `at` names a clock that has passed: it is this one.
     ClockIsPast(u64),
-    #[error("the clock goes on by at most 4294967295 ticks at once")]
-    ClockIsFar,
-    /// A line sets nothing up: its form.
-    #[error("{0}")]
-    Form(&'static str),
-    #[error("a line of a network's script has at most 1024 bytes")]
-    LongLine,
-    #[error("there is no mote {0}")]
     NoMote(u32),
-    #[error("{0} sets a network up, and is below an input")]
-    BehindInput(&'a str),
-    #[error("a run with a line mote begins with a line network")]
-    NoNetwork,
-    #[error("network is the first line of a run, or none")]
-    NotFirst,
-    #[error("the script has ended with its last line")]
-    ScriptHasEnded,
-    #[error("no end of a run: {0}")]
-    NoEnd(&'a str),
-    #[error("{0} is given twice")]
-    Twice(&'a str),
-    #[error("{name} takes a multiple of 4 from {least} to 65536")]
     BadSize { name: &'static str, least: u32 },
-    #[error("header takes 16 or 8")]
-    BadHeader,
-    #[error("mmem has no room for a quota of each application and one of the frames")]
-    QuotasExceed,
-    #[error("a run has at most 16 applications")]
-    TooManyApplications,
-    #[error("a line above the first run")]
-    AboveTheFirstRun,
-    #[error("a run has no name")]
-    NoName,
-    #[error("two runs have the name {0}")]
-    SameName(&'a str),
+    /// A line sets nothing up: its form.
+    Form(&'static str),
     /// What is wrong with the letters of the line.
-    #[error("{0}")]
     Flaw(&'static str),
-    #[error("out of memory")]
     OutOfMemory,
 }
 
 impl Fault<'_> {
     /// Whether a word is at fault that a typing mistake may have spoilt.
     pub(crate) fn is_of_words(&self) -> bool {
-        matches!(
-            self,
-            Fault::UnknownWord(_)
-                | Fault::Call(_)
-                | Fault::Row(_)
-                | Fault::TooManyWords(_)
-                | Fault::NoScriptLine(_)
-                | Fault::NoTranscriptLine(_)
-                | Fault::NoClock(_)
-                | Fault::Form(_)
-                | Fault::NoEnd(_)
-                | Fault::AboveTheFirstRun
-        )
+        match self {
+            Fault::Word(fault, _) => !matches!(
+                fault,
+                WordFault::BehindInput | WordFault::Twice | WordFault::SameName
+            ),
+            Fault::Rule(rule) => matches!(rule, Rule::RunAbove),
+            _ => matches!(self, Fault::Call(_) | Fault::Row(_) | Fault::Form(_)),
+        }
+    }
+}
+
+impl fmt::Display for Fault<'_> {
+    fn fmt<W: fmt::Write>(&self, f: &mut fmt::Formatter<W>) -> fmt::Result {
+        match self {
+            Fault::Word(fault, word) => {
+                let (before, behind) = fault.around();
+                write!(f, "{before}{word}{behind}")
+            }
+            Fault::Rule(rule) => f.write_str(rule.text()),
+            Fault::Call(fault) => fault.fmt(f),
+            Fault::Row(fault) => fault.fmt(f),
+            Fault::ClockIsPast(clock) => write!(f, "the clock is at {clock} already"),
+            Fault::NoMote(number) => write!(f, "there is no mote {number}"),
+            Fault::BadSize { name, least } => {
+                write!(f, "{name} takes a multiple of 4 from {least} to 65536")
+            }
+            Fault::Form(text) | Fault::Flaw(text) => f.write_str(text),
+            Fault::OutOfMemory => f.write_str("out of memory"),
+        }
+    }
+}
+
+impl<'a> From<CallFault<'a>> for Fault<'a> {
+    fn from(fault: CallFault<'a>) -> Self {
+        Fault::Call(fault)
+    }
+}
+
+impl<'a> From<RowFault<'a>> for Fault<'a> {
+    fn from(fault: RowFault<'a>) -> Self {
+        Fault::Row(fault)
     }
 }
 

@@ -222,7 +222,6 @@ fn carry_run_out<R: AllocGlobal + Print + Eprint>(
     let way = Way {
         widths: WHOLE,
         tells_all: wish.tells_all,
-        walks: wish.thorough,
     };
     let comes = comes_out(rt, name, scenario, way)?;
     count.as_told = count.as_told.saturating_add(u32::from(comes));
@@ -268,7 +267,6 @@ fn count_sinks<R: AllocGlobal + Print>(
             let way = Way {
                 widths: Widths { given, taken },
                 tells_all: false,
-                walks: false,
             };
             let comes = comes_out(rt, name, &mut scenario, way)?;
             held = held.saturating_add(u32::from(comes));

@@ -1,6 +1,6 @@
 //! The script of a run, line by line, and the clock that it reaches.
 
-use crate::fault::Fault;
+use crate::fault::{Fault, Rule, WordFault};
 use mote_text::by_value::read_input;
 use mote_types::entry::Input;
 use std::alloc::{AllocError, Global};
@@ -31,7 +31,7 @@ impl Inputs {
     ///
     /// # Errors
     ///
-    /// `UnknownWord` where the line says none.
+    /// `Unknown` where the line says none.
     pub(crate) fn read_line<'a>(
         &mut self,
         alloc: Global,
@@ -42,17 +42,17 @@ impl Inputs {
         match word {
             "script" => self.push(count, rest),
             "tick" | "serial" | "frame" if input_of(line).is_some() => self.push(count, line),
-            "tick" | "serial" | "frame" => Err(Fault::NoScriptLine(line)),
+            "tick" | "serial" | "frame" => Err(Fault::Word(WordFault::NoScriptLine, line)),
             "text" => self.push(count, serial_line(alloc, rest)?.as_str()),
-            "mote" => Err(Fault::NoNetwork),
-            _ => Err(Fault::UnknownWord(word)),
+            "mote" => Err(Fault::Rule(Rule::NetworkAbove)),
+            _ => Err(Fault::Word(WordFault::Unknown, word)),
         }
     }
 
     /// Appends a line a number of times.
     pub(crate) fn push<'a>(&mut self, count: u32, line: &str) -> Result<(), Fault<'a>> {
         if self.has_ended {
-            return Err(Fault::ScriptHasEnded);
+            return Err(Fault::Rule(Rule::LastLine));
         }
         let ticks = ticks_of(line).saturating_mul(u64::from(count));
         self.clock = self.clock.saturating_add(ticks);
@@ -63,7 +63,7 @@ impl Inputs {
     /// Appends the script's last line, with no line end.
     pub(crate) fn end_with<'a>(&mut self, line: &str) -> Result<(), Fault<'a>> {
         if self.has_ended {
-            return Err(Fault::ScriptHasEnded);
+            return Err(Fault::Rule(Rule::LastLine));
         }
         self.has_ended = true;
         self.script.push_str(line)?;
@@ -72,14 +72,14 @@ impl Inputs {
 
     /// Appends the ticks that are left up to this clock, and nothing where it has been reached.
     pub(crate) fn go_on_to<'a>(&mut self, alloc: Global, word: &'a str) -> Result<(), Fault<'a>> {
-        let clock = clock_in(word).ok_or(Fault::NoClock(word))?;
+        let clock = clock_in(word).ok_or(Fault::Word(WordFault::NoClock, word))?;
         let Some(left) = clock.checked_sub(self.clock) else {
             return Err(Fault::ClockIsPast(self.clock));
         };
         match u32::try_from(left) {
             Ok(0) => Ok(()),
             Ok(left) => self.push(1, format!(in alloc; "tick {left}")?.as_str()),
-            Err(_) => Err(Fault::ClockIsFar),
+            Err(_) => Err(Fault::Rule(Rule::MostTicks)),
         }
     }
 }
@@ -108,7 +108,7 @@ fn ticks_of(line: &str) -> u64 {
 /// The line of a script by which this text and a line end arrive on the serial line.
 fn serial_line<'a>(alloc: Global, text: &str) -> Result<String, Fault<'a>> {
     if text.len() > LONGEST_TEXT {
-        return Err(Fault::LongText);
+        return Err(Fault::Rule(Rule::LongestText));
     }
     let mut line = String::from_str(alloc, "serial ")?;
     line.push_str(hex::encode(alloc, text.as_bytes())?.as_str())?;

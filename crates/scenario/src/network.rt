@@ -1,6 +1,6 @@
 //! The lines of a run of a network.
 
-use crate::fault::Fault;
+use crate::fault::{Fault, Rule, WordFault};
 use call_lists::Application;
 use mote_text::script::LINE_LIMIT;
 use network_setup::fault::LineFault;
@@ -85,7 +85,7 @@ impl NetworkLines {
     ///
     /// # Errors
     ///
-    /// `UnknownWord` where the line is neither an input nor sets anything up.
+    /// `Unknown` where the line is neither an input nor sets anything up.
     pub(crate) fn script_line<'a>(
         &mut self,
         alloc: Global,
@@ -107,10 +107,10 @@ impl NetworkLines {
             return self.take_input(word, line);
         };
         if self.has_input {
-            return Err(Fault::BehindInput(word));
+            return Err(Fault::Word(WordFault::BehindInput, word));
         }
         if line.len() > LINE_LIMIT {
-            return Err(Fault::LongLine);
+            return Err(Fault::Rule(Rule::LongestLine));
         }
         for _ in 0..count {
             match self.setup.take_line(alloc, line) {
@@ -137,9 +137,9 @@ impl NetworkLines {
                 Ok(())
             }
             None if word == "tick" || word.starts_with(|c: char| c.is_ascii_digit()) => {
-                Err(Fault::NoScriptLine(line))
+                Err(Fault::Word(WordFault::NoScriptLine, line))
             }
-            None => Err(Fault::UnknownWord(word)),
+            None => Err(Fault::Word(WordFault::Unknown, word)),
         }
     }
 

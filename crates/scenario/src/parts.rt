@@ -1,6 +1,6 @@
 //! The runs of a file: where the text of each begins.
 
-use crate::fault::Fault;
+use crate::fault::{Fault, Rule, WordFault};
 use crate::reader::Misread;
 use std::alloc::{AllocError, Global};
 
@@ -83,7 +83,7 @@ fn look_above(text: &str) -> Result<(), Misread<'_>> {
         if !line.is_empty() && !line.starts_with('#') {
             return Err(Misread {
                 line: index.saturating_add(1),
-                fault: Fault::AboveTheFirstRun,
+                fault: Fault::Rule(Rule::RunAbove),
             });
         }
     }
@@ -94,9 +94,9 @@ fn look_above(text: &str) -> Result<(), Misread<'_>> {
 fn look_at_name<'a>(above: &[Part<'a>], part: Part<'a>) -> Result<(), Misread<'a>> {
     let name = part.name.unwrap_or("");
     let fault = if name.trim().is_empty() {
-        Fault::NoName
+        Fault::Rule(Rule::Name)
     } else if above.iter().any(|other| other.name == part.name) {
-        Fault::SameName(name)
+        Fault::Word(WordFault::SameName, name)
     } else {
         return Ok(());
     };

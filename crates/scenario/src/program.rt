@@ -1,6 +1,6 @@
 //! The applications of a run.
 
-use crate::fault::Fault;
+use crate::fault::{Fault, Rule, WordFault};
 use call_lists::{Application, Row, row_of};
 use std::alloc::Global;
 
@@ -31,8 +31,8 @@ impl<'a> Program<'a> {
             "app" => Acts::ByName(Application::named(rest)?),
             "calls" => Acts::ByName(Application::listed(rest)?),
             "rows" if rest.is_empty() => Acts::ByRows(Vec::new(alloc)),
-            "rows" => return Err(Fault::TooManyWords(word)),
-            _ => return Err(Fault::UnknownWord(word)),
+            "rows" => return Err(Fault::Word(WordFault::TakesNoWord, word)),
+            _ => return Err(Fault::Word(WordFault::Unknown, word)),
         };
         let mut text = Vec::new(alloc);
         text.push(line)?;
@@ -47,7 +47,7 @@ impl<'a> Program<'a> {
     ///
     /// # Errors
     ///
-    /// `NoRows` where the application has none, `TwoRows` where one has the same stimulus.
+    /// `RowsAbove` where the application has none, `OneRow` where one has the same stimulus.
     pub(crate) fn take_row(
         &mut self,
         alloc: Global,
@@ -55,12 +55,12 @@ impl<'a> Program<'a> {
         text: &'a str,
     ) -> Result<(), Fault<'a>> {
         let Acts::ByRows(rows) = &mut self.acts else {
-            return Err(Fault::NoRows);
+            return Err(Fault::Rule(Rule::RowsAbove));
         };
         let row = row_of(alloc, text)?;
         let trigger = row.trigger();
         if rows.iter().any(|above| above.trigger() == trigger) {
-            return Err(Fault::TwoRows);
+            return Err(Fault::Rule(Rule::OneRow));
         }
         rows.push(row)?;
         self.text.push(line)?;

@@ -1,6 +1,6 @@
 //! Reads the lines of a run.
 
-use crate::fault::Fault;
+use crate::fault::{Fault, Rule, WordFault};
 use crate::gaps::GAP;
 use crate::network;
 use crate::network::NetworkLines;
@@ -98,7 +98,7 @@ impl<'a> Reader<'a> {
             "at" => self.scenario.inputs.go_on_to(alloc, rest),
             "times" => self.repeat(alloc, number, rest),
             "quiet" | "ends" => self.scenario.set_outcome(number, word, rest),
-            "==" => Err(Fault::NoName),
+            "==" => Err(Fault::Rule(Rule::Name)),
             _ if line == GAP => self.scenario.push_gap(number),
             _ if self.scenario.is_network => self.append(alloc, number, 1, line),
             _ => self.take_line_of_mote(alloc, number, line),
@@ -131,10 +131,10 @@ impl<'a> Reader<'a> {
         rest: &'a str,
     ) -> Result<(), Fault<'a>> {
         if !rest.is_empty() {
-            return Err(Fault::TooManyWords("network"));
+            return Err(Fault::Word(WordFault::TakesNoWord, "network"));
         }
         if !is_first {
-            return Err(Fault::NotFirst);
+            return Err(Fault::Rule(Rule::NetworkFirst));
         }
         self.scenario.is_network = true;
         self.network = Some(NetworkLines::new(alloc));
@@ -168,7 +168,7 @@ impl<'a> Reader<'a> {
             return self.take_input(alloc, count, line);
         }
         if !is_line {
-            return Err(Fault::NoTranscriptLine(line));
+            return Err(Fault::Word(WordFault::NoTranscriptLine, line));
         }
         self.scenario.push_told(number, count, line)
     }

@@ -82,9 +82,15 @@ fn put_all(
     name: Option<&str>,
     scenario: &Scenario<'_>,
 ) -> Result<(), AllocError> {
-    let script = scenario.inputs.script.as_str();
-    put(alloc, members, "file", text_of(alloc, Some(path))?)?;
-    put(alloc, members, "name", text_of(alloc, name)?)?;
+    for (member, text) in [
+        ("file", Some(path)),
+        ("name", name),
+        ("script", Some(scenario.inputs.script.as_str())),
+        ("transcript", transcript_of(scenario)),
+        ("ends", scenario.end()),
+    ] {
+        put(alloc, members, member, text_of(alloc, text)?)?;
+    }
     put(alloc, members, "network", Value::Bool(scenario.is_network))?;
     put(alloc, members, "words", words_of(alloc, scenario)?)?;
     put(
@@ -92,15 +98,7 @@ fn put_all(
         members,
         "applications",
         applications_of(alloc, scenario)?,
-    )?;
-    put(alloc, members, "script", text_of(alloc, Some(script))?)?;
-    put(
-        alloc,
-        members,
-        "transcript",
-        text_of(alloc, transcript_of(scenario))?,
-    )?;
-    put(alloc, members, "ends", text_of(alloc, scenario.end())?)
+    )
 }
 
 /// A run as a line of JSON.

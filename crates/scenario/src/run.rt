@@ -17,7 +17,6 @@ use mote_run::End;
 use mote_types::app::App;
 use std::alloc::{AllocError, Global};
 use std::{io, mem};
-use transcript_lines::are_laws_kept;
 
 /// How a run ended, in words.
 fn end_words(alloc: Global, end: End) -> Result<String, AllocError> {
@@ -137,8 +136,6 @@ pub(crate) struct Way {
     pub(crate) widths: Widths,
     /// Whether each difference is reported, or only the first.
     pub(crate) tells_all: bool,
-    /// Whether plain walks over the transcript are to hold, too.
-    pub(crate) walks: bool,
 }
 
 impl Outcome {
@@ -162,7 +159,6 @@ pub(crate) fn comes_out<R: AllocGlobal + Print>(
     scenario: &mut Scenario<'_>,
     way: Way,
 ) -> io::Result<bool> {
-    let applications = scenario.programs.len();
     let outcome = outcome_of(rt.alloc(), scenario, way.widths)?;
     let is_same = outcome.ended_as_told(scenario);
     if !is_same {
@@ -172,11 +168,8 @@ pub(crate) fn comes_out<R: AllocGlobal + Print>(
             scenario.end().unwrap_or("")
         )?;
     }
-    // A quiet transcript has no turns to walk over, and a network's has those of several motes.
-    let walks = way.walks && !scenario.quiet && !scenario.is_network;
-    let keeps = !walks || keeps_laws(rt, name, applications, outcome.text())?;
     let shows = is_shown(rt, name, scenario, &outcome, way.tells_all)?;
-    Ok(is_same && keeps && shows)
+    Ok(is_same && shows)
 }
 
 /// Whether the transcript is the expected one. Where it is not, reports the lines that differ.
@@ -233,18 +226,4 @@ pub(crate) fn lines_of(alloc: Global, text: &str) -> Result<Vec<&str>, AllocErro
         lines.push(line)?;
     }
     Ok(lines)
-}
-
-/// Whether a transcript shows of memory, events and timers what every run must show. Where it does not, reports that.
-fn keeps_laws<R: AllocGlobal + Print>(
-    rt: &R,
-    name: &str,
-    applications: usize,
-    transcript: &str,
-) -> io::Result<bool> {
-    let are_kept = are_laws_kept(rt.alloc(), applications, transcript)?;
-    if !are_kept {
-        println!(rt; "{name}: a law of memory, events or timers is broken")?;
-    }
-    Ok(are_kept)
 }

@@ -1,6 +1,6 @@
 //! A run of a file, and what the file says of its outcome. `docs/scenarios.md` has the format.
 
-use crate::fault::Fault;
+use crate::fault::{Fault, Rule, WordFault};
 use crate::gaps::GAP;
 use crate::inputs::{Inputs, push_lines};
 use crate::program::Program;
@@ -84,7 +84,7 @@ impl<'a> Scenario<'a> {
         }
         if !are_few(self.programs.len()) {
             let line = self.programs.get(16).map(|program| program.line);
-            return Some((line.unwrap_or(0), Fault::TooManyApplications));
+            return Some((line.unwrap_or(0), Fault::Rule(Rule::MostApplications)));
         }
         self.sizes.fault(self.programs.len())
     }
@@ -97,7 +97,11 @@ impl<'a> Scenario<'a> {
         line: &'a str,
     ) -> Result<(), Fault<'a>> {
         if let Some(row) = line.strip_prefix("on ") {
-            let last = self.programs.len().checked_sub(1).ok_or(Fault::NoRows)?;
+            let last = self
+                .programs
+                .len()
+                .checked_sub(1)
+                .ok_or(Fault::Rule(Rule::RowsAbove))?;
             if last < self.programs.len() {
                 return self.programs[last].take_row(alloc, line, row);
             }
@@ -113,12 +117,12 @@ impl<'a> Scenario<'a> {
         rest: &'a str,
     ) -> Result<(), Fault<'a>> {
         match word {
-            "quiet" if !rest.is_empty() => return Err(Fault::TooManyWords(word)),
-            "quiet" if self.quiet => return Err(Fault::Twice(word)),
+            "quiet" if !rest.is_empty() => return Err(Fault::Word(WordFault::TakesNoWord, word)),
+            "quiet" if self.quiet => return Err(Fault::Word(WordFault::Twice, word)),
             "quiet" => self.quiet = true,
-            _ if self.end.is_some() => return Err(Fault::Twice(word)),
+            _ if self.end.is_some() => return Err(Fault::Word(WordFault::Twice, word)),
             _ if is_end(rest) => self.end = Some((rest, number)),
-            _ => return Err(Fault::NoEnd(rest)),
+            _ => return Err(Fault::Word(WordFault::NoEnd, rest)),
         }
         Ok(())
     }

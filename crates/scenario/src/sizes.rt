@@ -1,6 +1,6 @@
 //! The sizes that a file states, with the lines that state them.
 
-use crate::fault::Fault;
+use crate::fault::{Fault, Rule, WordFault};
 use mote_kit::mote::DEFAULT_SIZES;
 use mote_types::event::MOST_APPLICATIONS;
 use node_memory::Sizes;
@@ -69,7 +69,7 @@ impl GivenSizes {
             _ => &mut self.header,
         };
         if place.is_some() {
-            return Err(Fault::Twice(name));
+            return Err(Fault::Word(WordFault::Twice, name));
         }
         *place = Some(given);
         Ok(())
@@ -100,7 +100,7 @@ impl GivenSizes {
         let given = self.header?;
         match given.size {
             16 | 8 => None,
-            _ => Some((given.line, Fault::BadHeader)),
+            _ => Some((given.line, Fault::Rule(Rule::Headers))),
         }
     }
 
@@ -111,7 +111,7 @@ impl GivenSizes {
         if quotas.saturating_mul(u64::from(given.size)) <= u64::from(self.sizes().mmem) {
             None
         } else {
-            Some((given.line, Fault::QuotasExceed))
+            Some((given.line, Fault::Rule(Rule::Quotas)))
         }
     }
 }
