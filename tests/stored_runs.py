@@ -12,12 +12,13 @@ PLACES = {"worked runs": ["crates/scenario/data/*.runs"], "examples": ["examples
 
 @dataclass(frozen=True)
 class StoredRun:
-    """A run's name, its transcript, the options of its sizes, and whether the transcript is a quiet one."""
+    """A run's name, its transcript, the options of its sizes, whether the transcript is a quiet one, and the number of applications."""
 
     name: str
     transcript: str
     sizes: tuple[str, ...] = ()
     is_quiet: bool = False
+    applications: int = 0
 
     @property
     def lines(self) -> list[str]:
@@ -55,7 +56,7 @@ def runs_of(kind: str) -> dict[str, StoredRun]:
         transcript = record["transcript"] or ""
         sizes = tuple(word for word in record["words"] if word != "--quiet")
         # Sizes that no mote boots with have no transcript.
-        runs[name] = StoredRun(name, transcript, sizes if transcript else (), "--quiet" in record["words"])
+        runs[name] = StoredRun(name, transcript, sizes if transcript else (), "--quiet" in record["words"], len(record["applications"]))
     return runs
 
 

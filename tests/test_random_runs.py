@@ -9,10 +9,12 @@ import pytest
 from call_rules import CALLS
 from plain_memory import Memory
 from random_calls import random_call
+from run_laws import broken_laws
 from tools import succeed, told
 
 RUNS = 1000
 PART = 250
+APPLICATIONS = 8
 # So many of a part are executed in pieces, too.
 IN_PIECES = 25
 LONGEST_LIST = 128
@@ -41,7 +43,7 @@ def busy_call(chance: random.Random) -> str:
 def scenario_of(seed: int) -> tuple[str, dict[str, int]]:
     chance = random.Random(seed)
     sizes = random_sizes(chance)
-    lists = ("calls " + ", ".join(busy_call(chance) for _ in range(LONGEST_LIST)) for _ in range(8))
+    lists = ("calls " + ", ".join(busy_call(chance) for _ in range(LONGEST_LIST)) for _ in range(APPLICATIONS))
     lines = [f"== {seed}", *(f"{name} {size}" for name, size in sizes.items()), *lists, "times 20 tick 7"]
     return "\n".join(lines) + "\n", sizes
 
@@ -74,7 +76,8 @@ def test_random_runs(scenario: Path, tmp_path: Path, first: int) -> None:
         memory = Memory(sizes["mmem"], sizes["heap"], sizes["header"], sizes.get("quota"))
         wrong = wrong_lines(transcript, memory)
         assert not wrong, f"{text}\n" + "\n".join(wrong[:3])
-    # `--thorough` checks the laws of runs that have a transcript.
+        assert broken_laws(APPLICATIONS, transcript) == {}, text
+    # `--thorough` executes in pieces only runs that have a transcript.
     kept_runs = [text + transcript for transcript, (text, _) in zip(transcripts[:IN_PIECES], runs)]
     (tmp_path / "runs").write_text("".join(kept_runs), encoding="utf-8")
     kept = succeed(scenario, "--thorough", "runs", cwd=tmp_path)
