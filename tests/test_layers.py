@@ -13,8 +13,7 @@ from tools import CRATES, ROOT, needs, succeed, told
 
 SOURCES = sorted((ROOT / "tests/layers").glob("*.rt.txt"))
 FILES = [source.name.removesuffix(".rt.txt") for source in SOURCES if "fn check_all(" in source.read_text(encoding="utf-8")]
-USED = ("mote_types arrayvec arena_core mmem_core heap_core node_memory process_core timer_core kernel_core mote_text mote_apps "
-        "transcript_lines anyhow")
+USED = "mote_types arrayvec arena_core mmem_core heap_core node_memory process_core timer_core kernel_core mote_text mote_apps anyhow"
 
 
 @pytest.fixture

@@ -4,4 +4,3 @@ pub mod Lines
 pub mod Quiet
 pub mod Turns
 pub mod Words
-pub mod Walks

@@ -7,7 +7,7 @@ ghost use Rattle.transcript_lines.specs.Quiet as spec;
 
 use crate::line::{Ending, Line, Note, read_ending, read_line};
 
-pub(crate) fn begins_with(text: &str, word: &str) -> bool
+fn begins_with(text: &str, word: &str) -> bool
     ensures { result ≡ starts_with eqb text.now word.now }
 {
     text.starts_with(word)
