@@ -123,6 +123,7 @@ class MemoryLaw(Law):
     def is_rightly_refused(self, call: BlockCall, reply: str) -> bool:
         needed = (call.block, call.other_block())
         if max(needed) >= BLOCKS:
+            # No block has that number, so there is another refusal.
             return reply.startswith("refused ")
         are_live = all((call.pid, call.kind, block) in self.blocks for block in needed)
         if call.verb == "alloc":
