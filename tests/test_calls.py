@@ -43,7 +43,7 @@ def c_enum(header: str, name: str) -> list[tuple[str, int]]:
 
 
 def test_made_tables() -> None:
-    """The enums of toarmuts.h and the tables of the Python package and of crates/toarmuts are as scripts/make-calls writes them."""
+    """The enums of toarmuts.h and the tables of the Python package and of crates/library_core are as scripts/make-calls writes them."""
     ran = run(ROOT / "scripts/make-calls", "--check")
     assert ran.returncode == 0, ran.stderr.decode()
 
@@ -123,7 +123,7 @@ def of_plain_calls() -> Table:
     """What the numbers and bytes of a struct of C say, by the definition; its order is that of the kinds."""
     readings = {"bare": "", "printing": "b", "named": "s", "paired": "ss", "tripled": "sss", "sized": "sn", "spanned": "ns",
                 "reading": "sns", "writing": "snb", "pool_reading": "ssns", "pool_writing": "ssnb", "announcing": "sp", "posting": "ssp"}
-    text = source("crates/toarmuts/specs/Calls.antt").partition("\nreadings =\n    no_call\n")[2].partition("[]\n")[0]
+    text = source("crates/library_core/specs/Calls.antt").partition("\nreadings =\n    no_call\n")[2].partition("[]\n")[0]
     found = {spoken(name): readings[reading] for reading, name in re.findall(r"∷ (\w+) (?:\(λ .*?\. )?Call\.(\w+)", text)}
     assert list(found) == list(CALLS)
     return found
@@ -144,7 +144,7 @@ TABLES: dict[str, tuple[Callable[[], Table], Table]] = {
     "call_lists/src/calls.rt": (of_lists, LETTERS),
     "transcript_lines/specs/Turns.antt": (of_line_forms, NUMBERS),
     "transcript_lines/src/turn.rt": (of_lines, NUMBERS),
-    "toarmuts/specs/Calls.antt": (of_plain_calls, LETTERS),
+    "library_core/specs/Calls.antt": (of_plain_calls, LETTERS),
     "tests/c/steps.h": (of_steps, LETTERS),
 }
 
@@ -256,8 +256,8 @@ def test_applications(file: str) -> None:
 
 def test_kinds_of_applications() -> None:
     """The applications of the program mote have the numbers 1, 2, .. in a struct of C, in code and in what is proved of the definition."""
-    code = re.findall(r"^            (\d) => Some\(Bundled::(\w+)", source("crates/toarmuts/src/application.rt"), re.M)
+    code = re.findall(r"^            (\d) => Some\(Bundled::(\w+)", source("crates/library_core/src/application.rt"), re.M)
     assert [(int(kind), name.lower()) for kind, name in code] == list(enumerate(OF_MOTE, 1))
-    examples = source("crates/toarmuts/proofs/BundledExamples.antt")
+    examples = source("crates/library_core/proofs/BundledExamples.antt")
     proved = re.findall(r'said (\d) 0 0 0 0 ≡ named \(codes "([a-z-]+)"\)', examples)
     assert [(int(kind), name) for kind, name in proved] == list(enumerate(OF_MOTE, 1))

@@ -1,51 +1,19 @@
 //! The mote as a library for C: one call runs applications over a script. `toarmuts.h` in `include/` declares it.
 //!
 //! Calls, inputs and turns are structs of numbers and bytes, with no pointer in them. The contracts say what every number means, or that
-//! it is invalid. C passes a mote by its address, and can neither read nor copy it: all raw pointers that C holds are in `mote` and
-//! `unboxed`.
+//! it is invalid. `library_core` has these structs, the motes and networks that C holds, and what each call does.
 #![tactic(auto)]
 
 ghost use Rattle.std.specs.Prelude.{◌≡◌, ◌≢◌, ◌≤◌, ◌<◌, length, take, drop};
-ghost use Rattle.toarmuts.specs.Outcomes.{HasNoReason, IsRefusalOf, IsRunOf, IsTooLongFor};
+ghost use Rattle.library_core.specs.Outcomes.{HasNoReason, IsRefusalOf, IsRunOf, IsTooLongFor};
 
-mod application;
-mod bundled_turn;
-mod call;
-mod configuration;
-mod held_network;
-mod in_network;
-mod in_session;
-mod input;
-mod kind;
-mod lines;
-mod list_reason;
-mod mote;
 pub mod network;
-mod open_mote;
-mod open_network;
-mod outcome;
-mod plain_network;
-mod refusal;
-mod running;
-mod sizes;
-mod status;
 pub mod steps;
-mod turn;
-mod unboxed;
 
-use crate::outcome::{put_refusal, put_run};
-use crate::running::run_lines;
-pub use application::PlainApplication;
-pub use call::PlainCall;
-pub use configuration::Configuration;
-pub use held_network::HeldNetwork;
-pub use mote::Mote;
-pub use open_mote::OpenMote;
-pub use open_network::OpenNetwork;
-pub use outcome::Outcome;
-pub use plain_network::{Happening, NetworkMote, NetworkSizes, PlainLink};
+use library_core::configuration::Configuration;
+use library_core::outcome::{Outcome, put_refusal, put_run};
+use library_core::running::run_lines;
 use std::alloc::Global;
-pub use turn::{PlainStats, PlainTurn};
 
 /// Runs applications over a script, writes the transcript to the front of the room for it, and reports how it went.
 /// `applications` has a line for each: its name, or `calls` and its calls. No call asks anything of what it is given.

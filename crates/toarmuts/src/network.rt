@@ -6,23 +6,23 @@ ghost use Rattle.std.specs.Prelude.{◌≡◌, ◌≢◌, ◌≤◌, ◌+◌, �
 ghost use Rattle.std.specs.List.{list_any};
 ghost use Rattle.network_steps.specs.Lines.{came_line};
 ghost use Rattle.network_steps.specs.Works.{TakesFeed, TakesLink, TakesTicks};
-ghost use Rattle.toarmuts.specs.BundledTurns.{NetworkTakesTurn, network_bundled_status};
-ghost use Rattle.toarmuts.specs.Inputs.{input_said};
-ghost use Rattle.toarmuts.specs.NetworkCalls.{IsNetworkOpened, NetworkGoes, NetworkGoesNext, NetworkTakesCall, awaits, is_unbootable, mote_due, network_due_status, network_feed_status, network_line_status, network_link_status, network_status, network_submit_status, network_tick_status, steps_in};
-ghost use Rattle.toarmuts.specs.Networks.{link_said, place_of};
+ghost use Rattle.library_core.specs.BundledTurns.{NetworkTakesTurn, network_bundled_status};
+ghost use Rattle.library_core.specs.Inputs.{input_said};
+ghost use Rattle.library_core.specs.NetworkCalls.{IsNetworkOpened, NetworkGoes, NetworkGoesNext, NetworkTakesCall, awaits, is_unbootable, mote_due, network_due_status, network_feed_status, network_line_status, network_link_status, network_status, network_submit_status, network_tick_status, steps_in};
+ghost use Rattle.library_core.specs.Networks.{link_said, place_of};
 
-use crate::application::PlainApplication;
-use crate::bundled_turn::take_network_turn;
-use crate::call::PlainCall;
-use crate::held_network::HeldNetwork;
-use crate::in_network::{
+use library_core::application::PlainApplication;
+use library_core::bundled_turn::take_network_turn;
+use library_core::call::PlainCall;
+use library_core::held_network::HeldNetwork;
+use library_core::in_network::{
     add_link, boot_network, feed_mote, go_next, pass_ticks, put_mote_due, put_network_line,
     submit_call,
 };
-use crate::input::input_of;
-use crate::plain_network::{Happening, NetworkMote, NetworkSizes, PlainLink};
-use crate::status::{BAD_SIZES, CLOSED, DONE, IS_OPEN, OUT_OF_MEMORY};
-use crate::turn::PlainTurn;
+use library_core::input::input_of;
+use library_core::plain_network::{Happening, NetworkMote, NetworkSizes, PlainLink};
+use library_core::status::{BAD_SIZES, CLOSED, DONE, IS_OPEN, OUT_OF_MEMORY};
+use library_core::turn::PlainTurn;
 use mote_session::BootFault;
 use std::alloc::Global;
 

@@ -3,62 +3,27 @@
 //! Each takes the session out of the mote, works, and puts it back. What C passes can be anything: a mote that is closed, a
 //! call where none is awaited, numbers out of range have their statuses, and then nothing is changed.
 
-ghost use Rattle.std.specs.Prelude.{◌≡◌, ◌≢◌, ◌≤◌, ◌+◌, ◌↔◌, false, true, None, Some, length as size_of, take, drop, is_some, IsSomeAnd, IfErr, IfOk, IsErrOf};
+ghost use Rattle.std.specs.Prelude.{◌≡◌, ◌≢◌, ◌≤◌, ◌+◌, ◌↔◌, false, true, None, Some, length as size_of, take, drop, is_some, IsSomeAnd};
 ghost use Rattle.kernel_core.specs.Machine.{is_bootable};
 ghost use Rattle.timer_core.specs.Deadlines.{next_deadline};
-ghost use Rattle.toarmuts.specs.Sessions.{session_in};
+ghost use Rattle.library_core.specs.Sessions.{session_in};
 ghost use Rattle.mote_text.specs.EntryText.{entry_line};
-ghost use Rattle.toarmuts.specs.BundledTurns.{TakesTurn, bundled_status};
-ghost use Rattle.toarmuts.specs.Inputs.{input_said};
-ghost use Rattle.toarmuts.specs.Steps.{Goes, GoesNext, IsLastLine, IsOpened, TakesCall, TakesInput, TakesScriptLine, submit_status, config_in, due_status, feed_status, input_status, line_status, next_status, open_status};
+ghost use Rattle.library_core.specs.BundledTurns.{TakesTurn, bundled_status};
+ghost use Rattle.library_core.specs.Inputs.{input_said};
+ghost use Rattle.library_core.specs.Steps.{Goes, GoesNext, IsLastLine, IsOpened, TakesCall, TakesInput, TakesScriptLine, submit_status, config_in, due_status, feed_status, input_status, line_status, next_status, open_status};
 
-use crate::application::PlainApplication;
-use crate::bundled_turn::take_turn;
-use crate::call::PlainCall;
-use crate::configuration::Configuration;
-use crate::in_session::{feed_input, feed_line, go_on, put_due, put_last_line, take_call};
-use crate::input::input_of;
-use crate::mote::Mote;
-use crate::open_mote::OpenMote;
-use crate::status::{BAD_SIZES, CLOSED, DONE, IS_OPEN, OUT_OF_MEMORY};
-use crate::turn::PlainTurn;
-use mote_session::session::Session;
+use library_core::application::PlainApplication;
+use library_core::bundled_turn::take_turn;
+use library_core::call::PlainCall;
+use library_core::configuration::Configuration;
+use library_core::in_session::{feed_input, feed_line, go_on, put_due, put_last_line, take_call};
+use library_core::input::input_of;
+use library_core::mote::Mote;
+use library_core::open_mote::boot;
+use library_core::status::{BAD_SIZES, CLOSED, DONE, IS_OPEN, OUT_OF_MEMORY};
+use library_core::turn::PlainTurn;
 use mote_session::{BootFault, Config};
-use mote_text::output_buffer::OutputBuffer;
 use std::alloc::Global;
-
-/// Puts a session on the heap, with room for a line.
-// Out of line, so that what it takes of the stack isn't added to what the boot takes.
-#[inline(never)]
-fn held(alloc: Global, session: Session) -> Result<Box<OpenMote>, BootFault>
-    ensures session { IfOk result (λ mote. mote.value.session ≡ session) }
-    ensures fault { IfErr result (λ fault. fault ≡ BootFault.Memory) }
-{
-    let line = OutputBuffer::new();
-    match Box::new(alloc, OpenMote { session, line }) {
-        Ok(open_mote) => Ok(open_mote),
-        Err(_) => Err(BootFault::Memory),
-    }
-}
-
-/// A mote at boot.
-///
-/// # Errors
-///
-/// `BadSizes` exactly if no mote boots with this configuration, otherwise `Memory`.
-fn boot(alloc: Global, config: Config) -> Result<Box<OpenMote>, BootFault>
-    ensures opened { IfOk result (λ mote. IsOpened config mote.value.session) }
-    ensures bad_sizes { IsErrOf result BootFault.BadSizes ↔ (is_bootable config ≡ false) }
-{
-    // No `?`: it would take room on the stack for two sessions more.
-    match Session::boot(alloc, config) {
-        Ok(session) => match held(alloc, session) {
-            Ok(open_mote) => Ok(open_mote),
-            Err(fault) => Err(fault),
-        },
-        Err(fault) => Err(fault),
-    }
-}
 
 /// Opens a mote with `applications` applications: processes 4, 5, .. All memory that it will use is allocated here.
 #[unsafe(no_mangle)]

@@ -1,0 +1,232 @@
+//! A call as C passes it.
+
+ghost use Rattle.std.specs.Prelude.{◌≡◌, ◌<◌, ◌≤◌, if◌then◌else◌, nat_le, take, Some, None};
+ghost use Rattle.library_core.specs.Calls.{byte_at, call_said, chunk_of, number_at, payload_of};
+
+use crate::kind;
+use arrayvec::ArrayVec;
+use mote_types::call::Call;
+use mote_types::event::Payload;
+use mote_types::reply::Chunk;
+
+/// A call: its kind, its numbers in the order in which a transcript shows them, and its bytes. What its kind has no use for is not
+/// looked at.
+#[repr(C)]
+#[derive(Drop)]
+pub struct PlainCall {
+    /// 1, 2, .. in the order of `Call`.
+    pub kind: u32,
+    pub numbers: [u32; 4],
+    /// Of an event: 0 it carries nothing, 1 a number, 2 a line of bytes.
+    pub payload: u32,
+    /// The number that an event carries.
+    pub number: u32,
+    /// How many bytes there are: of prints and writes at most 64, of a line at most 127.
+    pub length: u32,
+    pub bytes: [u8; 128],
+}
+
+/// The first `len` bytes, if the vector has room for them.
+pub(crate) fn front<const N: usize>(bytes: &[u8; 128], len: u32) -> Option<ArrayVec<u8, N>>
+    requires { N ≤ 128 }
+    ensures { result ≡ (if nat_le len N then Some (record { items = take len bytes.now }) else None) }
+{
+    let len = len as usize;
+    if len > N {
+        return None;
+    }
+    let mut front = ArrayVec::new();
+    let _ = front.try_extend_from_slice(&bytes[..len]);
+    Some(front)
+}
+
+impl PlainCall {
+    /// A name, or how many bytes are read: a number that fits in a byte.
+    fn byte(&self, place: usize) -> Option<u8>
+        requires { place < 4 }
+        ensures { result ≡ byte_at place self.now }
+    {
+        u8::try_from(self.numbers[place]).ok()
+    }
+
+    /// A length, an interval, or an offset in a block.
+    fn size(&self, place: usize) -> u32
+        requires { place < 4 }
+        ensures { result ≡ number_at place self.now }
+    {
+        self.numbers[place]
+    }
+
+    /// The bytes of a print or of a write.
+    fn chunk(&self) -> Option<Chunk>
+        ensures { result ≡ chunk_of self.now }
+    {
+        front(&self.bytes, self.length)
+    }
+
+    /// What an event carries.
+    fn carried(&self) -> Option<Payload>
+        ensures { result ≡ payload_of self.now }
+    {
+        match self.payload {
+            0 => Some(Payload::Empty),
+            1 => Some(Payload::Num(self.number)),
+            2 => Some(Payload::Line(front(&self.bytes, self.length)?)),
+            _ => None,
+        }
+    }
+
+    /// A call about processes and events.
+    fn process_call(&self) -> Option<Call>
+        requires { (1 ≤ self.now.kind) × (self.now.kind ≤ 8) }
+        ensures { result ≡ call_said self.now }
+    {
+        match self.kind {
+            kind::POST => Some(Call::Post(self.byte(0)?, self.byte(1)?, self.carried()?)),
+            kind::BROADCAST => Some(Call::Broadcast(self.byte(0)?, self.carried()?)),
+            kind::POST_SYNCH => Some(Call::PostSynch(
+                self.byte(0)?,
+                self.byte(1)?,
+                self.carried()?,
+            )),
+            kind::POLL => Some(Call::Poll(self.byte(0)?)),
+            kind::START => Some(Call::Start(self.byte(0)?)),
+            kind::KILL => Some(Call::Kill(self.byte(0)?)),
+            kind::IS_RUNNING => Some(Call::IsRunning(self.byte(0)?)),
+            kind::ALLOC_EVENT => Some(Call::AllocEvent),
+            _ => None,
+        }
+    }
+
+    /// A call about timers and the clock, or one that ends a turn with no service.
+    fn timer_call(&self) -> Option<Call>
+        requires { (9 ≤ self.now.kind) × (self.now.kind ≤ 19) }
+        ensures { result ≡ call_said self.now }
+    {
+        match self.kind {
+            kind::TIMER_SET => Some(Call::TimerSet(self.byte(0)?, self.size(1))),
+            kind::TIMER_STOP => Some(Call::TimerStop(self.byte(0)?)),
+            kind::TIMER_RESET => Some(Call::TimerReset(self.byte(0)?)),
+            kind::TIMER_RESTART => Some(Call::TimerRestart(self.byte(0)?)),
+            kind::TIMER_EXPIRED => Some(Call::TimerExpired(self.byte(0)?)),
+            kind::CALLBACK_SET => Some(Call::CallbackSet(self.byte(0)?, self.size(1))),
+            kind::CALLBACK_STOP => Some(Call::CallbackStop(self.byte(0)?)),
+            kind::CLOCK => Some(Call::Clock),
+            kind::PRINT => Some(Call::Print(self.chunk()?)),
+            kind::WAIT => Some(Call::Wait),
+            kind::EXIT => Some(Call::Exit),
+            _ => None,
+        }
+    }
+
+    /// A call about managed memory.
+    fn mmem_call(&self) -> Option<Call>
+        requires { (20 ≤ self.now.kind) × (self.now.kind ≤ 25) }
+        ensures { result ≡ call_said self.now }
+    {
+        match self.kind {
+            kind::MMEM_ALLOC => Some(Call::MmemAlloc(self.byte(0)?, self.size(1))),
+            kind::MMEM_FREE => Some(Call::MmemFree(self.byte(0)?)),
+            kind::MMEM_WRITE => Some(Call::MmemWrite(self.byte(0)?, self.size(1), self.chunk()?)),
+            kind::MMEM_READ => Some(Call::MmemRead(self.byte(0)?, self.size(1), self.byte(2)?)),
+            kind::MMEM_COPY => Some(Call::MmemCopy(self.byte(0)?, self.byte(1)?)),
+            kind::MMEM_AVAIL => Some(Call::MmemAvail),
+            _ => None,
+        }
+    }
+
+    /// A call about heap memory.
+    fn heap_call(&self) -> Option<Call>
+        requires { (26 ≤ self.now.kind) × (self.now.kind ≤ 31) }
+        ensures { result ≡ call_said self.now }
+    {
+        match self.kind {
+            kind::HEAP_ALLOC => Some(Call::HeapAlloc(self.byte(0)?, self.size(1))),
+            kind::HEAP_REALLOC => Some(Call::HeapRealloc(self.byte(0)?, self.size(1))),
+            kind::HEAP_FREE => Some(Call::HeapFree(self.byte(0)?)),
+            kind::HEAP_WRITE => Some(Call::HeapWrite(self.byte(0)?, self.size(1), self.chunk()?)),
+            kind::HEAP_READ => Some(Call::HeapRead(self.byte(0)?, self.size(1), self.byte(2)?)),
+            kind::HEAP_STATS => Some(Call::HeapStats),
+            _ => None,
+        }
+    }
+
+    /// A call about pools.
+    fn memb_call(&self) -> Option<Call>
+        requires { (32 ≤ self.now.kind) × (self.now.kind ≤ 36) }
+        ensures { result ≡ call_said self.now }
+    {
+        match self.kind {
+            kind::MEMB_ALLOC => Some(Call::MembAlloc(self.byte(0)?)),
+            kind::MEMB_FREE => Some(Call::MembFree(self.byte(0)?, self.byte(1)?)),
+            kind::MEMB_WRITE => Some(Call::MembWrite(
+                self.byte(0)?,
+                self.byte(1)?,
+                self.size(2),
+                self.chunk()?,
+            )),
+            kind::MEMB_READ => Some(Call::MembRead(
+                self.byte(0)?,
+                self.byte(1)?,
+                self.size(2),
+                self.byte(3)?,
+            )),
+            kind::MEMB_NUM_FREE => Some(Call::MembNumFree(self.byte(0)?)),
+            _ => None,
+        }
+    }
+
+    /// A call about lists.
+    fn list_call(&self) -> Option<Call>
+        requires { (37 ≤ self.now.kind) × (self.now.kind ≤ 45) }
+        ensures { result ≡ call_said self.now }
+    {
+        match self.kind {
+            kind::LIST_ADD => Some(Call::ListAdd(self.byte(0)?, self.byte(1)?)),
+            kind::LIST_PUSH => Some(Call::ListPush(self.byte(0)?, self.byte(1)?)),
+            kind::LIST_INSERT => Some(Call::ListInsert(
+                self.byte(0)?,
+                self.byte(1)?,
+                self.byte(2)?,
+            )),
+            kind::LIST_POP => Some(Call::ListPop(self.byte(0)?)),
+            kind::LIST_CHOP => Some(Call::ListChop(self.byte(0)?)),
+            kind::LIST_REMOVE => Some(Call::ListRemove(self.byte(0)?, self.byte(1)?)),
+            kind::LIST_HEAD => Some(Call::ListHead(self.byte(0)?)),
+            kind::LIST_NEXT => Some(Call::ListNext(self.byte(0)?, self.byte(1)?)),
+            kind::LIST_LENGTH => Some(Call::ListLength(self.byte(0)?)),
+            _ => None,
+        }
+    }
+
+    /// A call about packets.
+    fn packet_call(&self) -> Option<Call>
+        requires { (46 ≤ self.now.kind) × (self.now.kind ≤ 50) }
+        ensures { result ≡ call_said self.now }
+    {
+        match self.kind {
+            kind::PACKET_OPEN => Some(Call::PacketOpen),
+            kind::PACKET_READ => Some(Call::PacketRead(self.size(0), self.byte(1)?)),
+            kind::PACKET_DONE => Some(Call::PacketDone),
+            kind::PACKET_COUNT => Some(Call::PacketCount),
+            kind::PACKET_SEND => Some(Call::PacketSend(self.byte(0)?)),
+            _ => None,
+        }
+    }
+
+    /// The call that this says. None where there is no such kind, a number is out of its range, or there are too many bytes.
+    pub fn call(&self) -> Option<Call>
+        ensures { result ≡ call_said self.now }
+    {
+        match self.kind {
+            kind::POST..=kind::ALLOC_EVENT => self.process_call(),
+            kind::TIMER_SET..=kind::EXIT => self.timer_call(),
+            kind::MMEM_ALLOC..=kind::MMEM_AVAIL => self.mmem_call(),
+            kind::HEAP_ALLOC..=kind::HEAP_STATS => self.heap_call(),
+            kind::MEMB_ALLOC..=kind::MEMB_NUM_FREE => self.memb_call(),
+            kind::LIST_ADD..=kind::LIST_LENGTH => self.list_call(),
+            kind::PACKET_OPEN..=kind::PACKET_SEND => self.packet_call(),
+            _ => None,
+        }
+    }
+}

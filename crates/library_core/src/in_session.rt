@@ -1,0 +1,145 @@
+//! What the calls do in the session of an open mote, and the status that they return.
+
+ghost use Rattle.std.specs.Prelude.{◌≡◌, ◌≢◌, ◌≤◌, ◌<◌, ◌+◌, length as size_of, take, drop, nat_lt, if◌then◌else◌, IfSome, IsSomeAnd};
+ghost use Rattle.mote_session.specs.Refusals.{input_refusal, line_refusal};
+ghost use Rattle.mote_text.specs.EntryText.{entry_line};
+ghost use Rattle.mote_text.specs.Script.{read_line};
+ghost use Rattle.library_core.specs.Steps.{GoesNext, IsLastLine, TakesCall, TakesInput, TakesScriptLine, TellsTurn, due_status_of, submit_status_of, line_status_of, next_status_of, status_if, step_number};
+
+use crate::call::PlainCall;
+use crate::open_mote::OpenMote;
+use crate::status::{DONE, NO_CALL, NO_ROOM, NO_TIMER, NO_TURN, refusal_status};
+use crate::turn::PlainTurn;
+use mote_session::session::{Next, Session};
+use mote_types::entry::Input;
+
+/// Submits the input of a line of a script.
+pub fn feed_line(session: &mut Session, line: &[u8]) -> u32
+    ensures status { result ≡ status_if (line_refusal (read_line line.now) session.old) }
+    ensures fed { result ≡ 0 → TakesScriptLine line.now session.old session.new }
+    ensures unchanged { result ≢ 0 → session.new ≡ session.old }
+{
+    match session.feed(line) {
+        Ok(()) => DONE,
+        Err(refusal) => refusal_status(refusal),
+    }
+}
+
+/// Submits an input.
+pub fn feed_input(session: &mut Session, input: Input) -> u32
+    ensures status { result ≡ status_if (input_refusal input session.old) }
+    ensures fed { result ≡ 0 → TakesInput input session.old session.new }
+    ensures unchanged { result ≢ 0 → session.new ≡ session.old }
+{
+    match session.feed_input(input) {
+        Ok(()) => DONE,
+        Err(refusal) => refusal_status(refusal),
+    }
+}
+
+/// Reports when the next timer runs out.
+pub fn put_due(due: Option<u64>, clock: &mut u64) -> u32
+    ensures status { result ≡ due_status_of due }
+    ensures clock { IfSome due (λ moment. clock.new ≡ moment) }
+    ensures no_clock { result ≢ 0 → clock.new ≡ clock.old }
+{
+    match due {
+        Some(moment) => {
+            *clock = moment;
+            DONE
+        }
+        None => NO_TIMER,
+    }
+}
+
+/// The number of what `next` came to.
+fn step_number(next: Next) -> u32
+    ensures { result ≡ step_number next }
+{
+    match next {
+        Next::Turn => 0,
+        Next::Entry => 1,
+        Next::Rest => 2,
+        Next::Halted => 3,
+    }
+}
+
+/// Reports the turn that awaits its call, if one does.
+fn tell_turn(session: &Session, turn: &mut PlainTurn)
+    ensures { TellsTurn session.now.turn turn.old turn.new }
+{
+    if let Some(awaited) = session.turn() {
+        turn.tell(awaited.process, awaited.origin, awaited.stimulus);
+    }
+}
+
+/// Works to the next turn, entry or rest.
+pub fn go_on(session: &mut Session, step: &mut u32, turn: &mut PlainTurn) -> u32
+    ensures status { result ≡ next_status_of session.old }
+    ensures goes { result ≡ 0 → GoesNext step.new turn.old turn.new session.old session.new }
+    ensures unchanged { result ≢ 0 → (session.new ≡ session.old) × (step.new ≡ step.old) × (turn.new ≡ turn.old) }
+{
+    match session.next() {
+        Ok(next) => {
+            *step = step_number(next);
+            tell_turn(session, turn);
+            DONE
+        }
+        Err(refusal) => refusal_status(refusal),
+    }
+}
+
+/// Submits the call that a struct says.
+pub fn take_call(session: &mut Session, plain: &PlainCall) -> u32
+    ensures status { result ≡ submit_status_of plain.now session.old }
+    ensures taken { result ≡ 0 → TakesCall plain.now session.old session.new }
+    ensures unchanged { result ≢ 0 → session.new ≡ session.old }
+{
+    if session.turn().is_none() {
+        return NO_TURN;
+    }
+    let Some(call) = plain.call() else {
+        return NO_CALL;
+    };
+    match session.submit(call) {
+        Ok(()) => DONE,
+        Err(refusal) => refusal_status(refusal),
+    }
+}
+
+/// Puts a line, without its end, to the front of the buffer if it fits, and reports its length.
+pub fn put_line(text: &[u8], line: &mut [u8], length: &mut usize) -> u32
+    requires { 0 < size_of text.now }
+    ensures length { length.new + 1 ≡ size_of text.now }
+    ensures status { result ≡ (if nat_lt (size_of line.old + 1) (size_of text.now) then 20 else 0) }
+    ensures fits { result ≡ 0 → length.new ≤ size_of line.new }
+    ensures front { result ≡ 0 → take length.new line.new ≡ take length.new text.now }
+    ensures behind { result ≡ 0 → drop length.new line.new ≡ drop length.new line.old }
+    ensures unchanged { result ≢ 0 → line.new ≡ line.old }
+{
+    let size = text.len() - 1;
+    *length = size;
+    if size > line.len() {
+        return NO_ROOM;
+    }
+    line[..size].copy_from_slice(&text[..size]);
+    DONE
+}
+
+/// Puts the line of the last entry, without its end, to the front of the buffer.
+pub fn put_last_line(open_mote: &mut OpenMote, line: &mut [u8], length: &mut usize) -> u32
+    ensures session { open_mote.new.session ≡ open_mote.old.session }
+    ensures status { result ≡ line_status_of (size_of line.old) open_mote.old.session.last }
+    ensures line { result ≡ 0 → IsLastLine (take length.new line.new) open_mote.old.session }
+    ensures fits { result ≡ 0 → length.new ≤ size_of line.new }
+    ensures behind { result ≡ 0 → drop length.new line.new ≡ drop length.new line.old }
+    ensures length { result ≡ 20 → IsSomeAnd open_mote.old.session.last (λ entry. length.new + 1 ≡ size_of (entry_line entry)) }
+    ensures no_line { result ≢ 0 → line.new ≡ line.old }
+    ensures no_length { result ≢ 0 → result ≢ 20 → length.new ≡ length.old }
+{
+    open_mote.line.clear();
+    match open_mote.session.push_line(&mut open_mote.line) {
+        Ok(()) => put_line(open_mote.line.as_slice(), line, length),
+        Err(refusal) => refusal_status(refusal),
+    }
+}

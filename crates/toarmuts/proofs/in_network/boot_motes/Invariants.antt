@@ -1,7 +1,0 @@
-use Rattle.std.proofs.Common.{take}
-use Rattle.toarmuts.specs.NetworkCalls.{AreOpened}
-use Rattle.toarmuts.proofs.in_network.boot_motes.Given as goal
-
--- the motes so far have booted
-abbrev pub invariant-loop-mote : goal.invariant-loop-mote
-invariant-loop-mote l = AreOpened (take l.mote-index l.motes) l.sessions.items
