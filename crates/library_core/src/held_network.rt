@@ -79,6 +79,8 @@ impl HeldNetwork {
     }
 
     /// Opens it. What it held before is dropped.
+    // Each call of the library puts the network back: inlined, that takes some 8 instructions less.
+    #[inline(always)]
     pub fn put(&mut self, alloc: Global, open_network: Box<OpenNetwork>)
         ensures { self.new.open_network ≡ Some open_network.value }
     {

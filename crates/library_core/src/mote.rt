@@ -79,6 +79,8 @@ impl Mote {
     }
 
     /// Opens it. What it held before is dropped.
+    // Each call of the library puts the mote back: inlined, that takes some 8 instructions less.
+    #[inline(always)]
     pub fn put(&mut self, alloc: Global, open_mote: Box<OpenMote>)
         ensures { self.new.open_mote ≡ Some open_mote.value }
     {
