@@ -99,7 +99,7 @@ struct Gathered {
 /// A frame that arrived; the next line says whether it is lost.
 #[derive(Clone, Copy)]
 struct Arrived {
-    size: usize,
+    size: u64,
     row: usize,
     number: usize,
 }
@@ -113,11 +113,17 @@ struct Awaited {
 
 /// What a line says of rows: in which of them the call was made to which it has the reply, if any, and the delay of its timer in
 /// ticks.
-#[derive(Clone, Copy, Default)]
+#[derive(Clone, Copy)]
 struct Told {
     answered: Option<usize>,
     late: u64,
 }
+
+/// What a line says that tells nothing of rows.
+const NOTHING: Told = Told {
+    answered: None,
+    late: 0,
+};
 
 /// A process after the lines so far.
 #[derive(Clone, Copy)]
@@ -145,6 +151,8 @@ struct Walk {
     arrived: Option<Arrived>,
     posts: Posts,
     marks: Gathered,
+    /// Whether there was memory for all of them so far. Otherwise `close` says so.
+    is_whole: bool,
 }
 
 impl Walk {
@@ -156,13 +164,12 @@ impl Walk {
             marked: None,
             awaited: None,
         };
-        let timers = Timers::new(alloc)?;
         let memory = Memory::new(alloc, sizes)?;
         Ok(Walk {
             is_folded: false,
             processes: [process; PROCESSES],
             active: Vec::new(alloc),
-            timers,
+            timers: Timers::new(alloc),
             memory,
             arrived: None,
             posts: Posts::new(alloc),
@@ -174,6 +181,7 @@ impl Walk {
                 processes: 0,
                 is_quiet,
             },
+            is_whole: true,
         })
     }
 
@@ -182,7 +190,7 @@ impl Walk {
         tally.inputs = tally.inputs.saturating_add(1);
         match *input {
             Input::Frame(digits) => {
-                let size = digits.len() / 2;
+                let size = (digits.len() / 2) as u64;
                 self.arrived = Some(Arrived { size, row, number });
             }
             Input::Tick(_) | Input::Serial(_) => {}
@@ -190,40 +198,39 @@ impl Walk {
     }
 
     /// The frame that arrived last is held, if it is not lost.
-    fn hold_frame(&mut self) -> Result<(), AllocError> {
-        match self.arrived.take() {
-            Some(Arrived { size, row, number }) => { self.memory.hold_frame(size, row, number) }
-            None => Ok(()),
+    fn hold_frame(&mut self) {
+        if let Some(Arrived { size, row, number }) = self.arrived.take() {
+            self.memory.managed.hold_frame(size, row, number);
         }
     }
 
-    fn take_note(&mut self, note: &Note<'_>) -> Result<(), AllocError> {
+    fn take_note(&mut self, note: &Note<'_>) {
         let tally = &mut self.marks.tally;
         match *note {
             Note::Lost(reason) => {
                 tally.lost = tally.lost.saturating_add(1);
                 if let Some(Arrived { size, number, .. }) = self.arrived.take() {
-                    self.memory.lose_frame(size, reason, number);
+                    self.memory.managed.lose_frame(size, reason, number);
                 }
             }
             Note::Sent(_) => tally.sent = tally.sent.saturating_add(1),
         }
-        self.hold_frame()
+        self.hold_frame();
     }
 
     /// A process ends in a row.
-    fn end_life(&mut self, pid: usize, row: usize) -> Result<(), AllocError> {
-        self.timers.end_all(pid, row)?;
+    fn end_life(&mut self, pid: usize, row: usize) {
+        self.timers.end_all(pid, row);
         let Some(process) = self.processes.get_mut(pid) else {
-            return Ok(());
+            return;
         };
         match process.born.take() {
             Some(first) if first < row || !self.is_folded => {
                 let end = Some(row);
-                self.marks.lives.push(Life { pid, first, end })?;
-                Ok(())
+                let life = Life { pid, first, end };
+                self.is_whole &= self.marks.lives.push(life).is_ok();
             }
-            _ => Ok(()),
+            _ => {}
         }
     }
 
@@ -233,18 +240,12 @@ impl Walk {
     }
 
     /// A process receives the reply to its call.
-    fn take_answer(
-        &mut self,
-        lines: &[&str],
-        turn: &Turn<'_>,
-        awaited: Awaited,
-        clock: u64,
-    ) -> Result<(), AllocError> {
+    fn take_answer(&mut self, lines: &[&str], turn: &Turn<'_>, awaited: Awaited, clock: u64) {
         if awaited.number >= lines.len() {
-            return Ok(());
+            return;
         }
         let Some(asked) = read_turn(lines[awaited.number]) else {
-            return Ok(());
+            return;
         };
         let called = Answered {
             pid: asked.pid,
@@ -257,10 +258,10 @@ impl Walk {
             let tally = &mut self.marks.tally;
             tally.refused = tally.refused.saturating_add(1);
             self.memory.refuse(&called);
-            return Ok(());
+        } else {
+            let row = awaited.row;
+            self.carry_out(&asked, &called, Moment { row, clock });
         }
-        let row = awaited.row;
-        self.carry_out(&asked, &called, Moment { row, clock })
     }
 
     /// Counts the bytes of a print.
@@ -270,38 +271,29 @@ impl Walk {
     }
 
     /// A call was accepted.
-    fn carry_out(
-        &mut self,
-        turn: &Turn<'_>,
-        called: &Answered<'_>,
-        moment: Moment,
-    ) -> Result<(), AllocError> {
+    fn carry_out(&mut self, turn: &Turn<'_>, called: &Answered<'_>, moment: Moment) {
         let row = moment.row;
         let (word, rest) = turn.call.split_once(' ').unwrap_or((turn.call, ""));
         match word {
-            "print" => {
-                self.count_printed(rest);
-                Ok(())
-            }
+            "print" => self.count_printed(rest),
             "kill" => self.end_life(number_of(Some(rest)) as usize, row),
             "post" | "broadcast" => self.posts.carry_out(turn, called.line, row),
             _ => {
                 let asked = asked_by(turn.call);
-                self.memory.carry_out(called, &asked)?;
-                self.timers.carry_out(turn.pid, &asked, moment)
+                self.memory.carry_out(called, &asked);
+                self.timers.carry_out(turn.pid, &asked, moment);
             }
         }
     }
 
     /// A process receives something at once, from the one whose activation is the innermost, if there is one.
-    fn give(&mut self, to: usize, row: usize) -> Result<(), AllocError> {
+    fn give(&mut self, to: usize, row: usize) {
         match self.active.last() {
             Some(from) if !self.is_folded => {
                 let from = *from;
-                self.marks.gifts.push(Gift { from, to, row })?;
-                Ok(())
+                self.is_whole &= self.marks.gifts.push(Gift { from, to, row }).is_ok();
             }
-            _ => Ok(()),
+            _ => {}
         }
     }
 
@@ -316,63 +308,62 @@ impl Walk {
     }
 
     /// A process's activation begins in a row. Returns the delay of its timer in ticks.
-    fn begin(
-        &mut self,
-        lines: &[&str],
-        turn: &Turn<'_>,
-        moment: Moment,
-    ) -> Result<u64, AllocError> {
+    fn begin(&mut self, lines: &[&str], turn: &Turn<'_>, moment: Moment) -> u64 {
         let row = moment.row;
         match turn.origin {
-            Origin::Synch => self.give(turn.pid, row)?,
-            Origin::Event => self.posts.tell(lines, turn, row)?,
+            Origin::Synch => self.give(turn.pid, row),
+            Origin::Event => self.posts.tell(lines, turn, row),
             _ => {}
         }
-        let late = self.timers.tell(turn, moment)?;
+        let late = self.timers.tell(turn, moment);
         self.count_late(late);
-        self.active.push(turn.pid)?;
+        self.is_whole &= self.active.push(turn.pid).is_ok();
         if let Some(process) = self.processes.get_mut(turn.pid) {
             process.begun = row;
             if turn.stimulus.starts_with("129 ") {
                 process.born = Some(row);
             }
         }
-        Ok(late)
+        late
     }
 
     /// All activations that are still open end: nothing more is known of them.
-    fn rest(&mut self) -> Result<(), AllocError> {
+    fn rest(&mut self) {
         for _active in 0..self.active.len() {
             let pid = self.active.pop().unwrap_or(0);
             if let Some(process) = self.processes.get(pid) {
                 let last = process.last;
-                self.mark_activation(pid, last)?;
+                self.mark_activation(pid, last);
             }
         }
-        Ok(())
     }
 
     /// A process's activation lasted up to a row. Of those in one folded row only the first is stored.
-    fn mark_activation(&mut self, pid: usize, last: usize) -> Result<(), AllocError> {
+    fn mark_activation(&mut self, pid: usize, last: usize) {
         let Some(process) = self.processes.get_mut(pid) else {
-            return Ok(());
+            return;
         };
         let first = process.begun;
         let is_marked = process.marked == Some(first);
         process.marked = Some(last);
         if first == last && is_marked && self.is_folded {
-            return Ok(());
+            return;
         }
-        self.marks
-            .activations
-            .push(Activation { pid, first, last })?;
-        Ok(())
+        let activation = Activation { pid, first, last };
+        self.is_whole &= self.marks.activations.push(activation).is_ok();
     }
 
     /// A process's activation ends in a row.
-    fn end(&mut self, pid: usize, row: usize) -> Result<(), AllocError> {
-        self.active.retain(|active| *active != pid);
-        self.mark_activation(pid, row)
+    fn end(&mut self, pid: usize, row: usize) {
+        for place in (0..self.active.len()).rev() {
+            match self.active.get(place) {
+                Some(active) if *active == pid => {
+                    self.active.remove(place);
+                }
+                _ => {}
+            }
+        }
+        self.mark_activation(pid, row);
     }
 
     /// A turn in a row, from the line of that number.
@@ -382,42 +373,42 @@ impl Walk {
         turn: &Turn<'_>,
         moment: Moment,
         number: usize,
-    ) -> Result<Told, AllocError> {
+    ) -> Told {
         let Moment { row, clock } = moment;
         let tally = &mut self.marks.tally;
         tally.turns = tally.turns.saturating_add(1);
         self.marks.processes = self.marks.processes.max(turn.pid.saturating_add(1));
+        let mut told = NOTHING;
         if self.marks.is_quiet {
-            self.take_quiet_turn(turn, row)?;
-            return Ok(Told::default());
+            self.take_quiet_turn(turn, row);
+            return told;
         }
-        let mut told = Told::default();
         if turn.origin == Origin::Answer {
             if let Some(awaited) = self.take_awaited(turn.pid) {
                 told.answered = Some(awaited.row);
-                self.take_answer(lines, turn, awaited, clock)?;
+                self.take_answer(lines, turn, awaited, clock);
             }
         }
         if turn.origin != Origin::Answer || !self.active.as_slice().contains(&turn.pid) {
-            told.late = self.begin(lines, turn, moment)?;
+            told.late = self.begin(lines, turn, moment);
         }
-        self.take_call(turn, Awaited { row, number })?;
-        Ok(told)
+        self.take_call(turn, Awaited { row, number });
+        told
     }
 
     /// A turn of a quiet transcript: this is all that is known of its activation.
-    fn take_quiet_turn(&mut self, turn: &Turn<'_>, row: usize) -> Result<(), AllocError> {
+    fn take_quiet_turn(&mut self, turn: &Turn<'_>, row: usize) {
         if let Some(digits) = turn.call.strip_prefix("print ") {
             self.count_printed(digits);
         }
         if let Some(process) = self.processes.get_mut(turn.pid) {
             process.begun = row;
         }
-        self.mark_activation(turn.pid, row)
+        self.mark_activation(turn.pid, row);
     }
 
     /// What a process calls.
-    fn take_call(&mut self, turn: &Turn<'_>, call: Awaited) -> Result<(), AllocError> {
+    fn take_call(&mut self, turn: &Turn<'_>, call: Awaited) {
         let row = call.row;
         if let Some(process) = self.processes.get_mut(turn.pid) {
             process.last = row;
@@ -426,10 +417,10 @@ impl Walk {
         match turn.call {
             "wait" => self.end(turn.pid, row),
             "exit" => {
-                self.end(turn.pid, row)?;
-                self.end_life(turn.pid, row)
+                self.end(turn.pid, row);
+                self.end_life(turn.pid, row);
             }
-            _ => Ok(()),
+            _ => {}
         }
     }
 
@@ -440,20 +431,20 @@ impl Walk {
         line: Option<Line<'_>>,
         moment: Moment,
         number: usize,
-    ) -> Result<Told, AllocError> {
+    ) -> Told {
         if let Some(Line::Note(note)) = line {
-            self.take_note(&note)?;
-            return Ok(Told::default());
+            self.take_note(&note);
+            return NOTHING;
         }
-        self.hold_frame()?;
+        self.hold_frame();
         match line {
             Some(Line::Input(input)) => {
-                self.rest()?;
+                self.rest();
                 self.take_input(&input, moment.row, number);
-                Ok(Told::default())
+                NOTHING
             }
             Some(Line::Turn(turn)) => self.take_turn(lines, &turn, moment, number),
-            _ => Ok(Told::default()),
+            _ => NOTHING,
         }
     }
 
@@ -468,29 +459,32 @@ impl Walk {
         self.posts.forget_rows();
     }
 
-    /// A row begins.
-    fn begin_row(&mut self, row: &Row) {
-        self.is_folded = matches!(row.show, Show::Again(_));
-    }
-
     /// The processes that have not ended live on to the end.
-    fn close_lives(&mut self) -> Result<(), AllocError> {
-        for (pid, process) in self.processes.iter().enumerate() {
-            if let Some(first) = process.born {
+    fn close_lives(&mut self) {
+        for pid in 0..PROCESSES {
+            if let Some(first) = self.processes[pid].born {
                 let end = None;
-                self.marks.lives.push(Life { pid, first, end })?;
+                let life = Life { pid, first, end };
+                self.is_whole &= self.marks.lives.push(life).is_ok();
             }
         }
-        Ok(())
     }
 
     /// What is still going on lasts to the end.
+    ///
+    /// # Errors
+    ///
+    /// `AllocError` where memory was refused at any line: then marks are missing.
     fn close(&mut self) -> Result<(), AllocError> {
-        self.rest()?;
-        self.hold_frame()?;
-        self.close_lives()?;
-        self.timers.close()?;
-        self.memory.close()
+        self.rest();
+        self.hold_frame();
+        self.close_lives();
+        let is_whole = self.is_whole & self.posts.is_whole;
+        if is_whole & self.timers.close() & self.memory.close() {
+            Ok(())
+        } else {
+            Err(AllocError)
+        }
     }
 }
 
@@ -532,44 +526,36 @@ impl ClockedWalk {
     }
 
     /// The line of that number, in a row.
-    fn take_line(&mut self, lines: &[&str], row: usize, number: usize) -> Result<(), AllocError>
-        ensures clock { IfOk result (λ _. self.old.clock ≡ clock_after (take number (bytes_of lines.now))
-            → self.new.clock ≡ clock_after (take (number + 1) (bytes_of lines.now))) }
+    fn take_line(&mut self, lines: &[&str], row: usize, number: usize)
+        ensures clock { self.old.clock ≡ clock_after (take number (bytes_of lines.now))
+            → self.new.clock ≡ clock_after (take (number + 1) (bytes_of lines.now)) }
         ensures clocks { self.new.clocks ≡ self.old.clocks }
         ensures answers { length self.new.answers.items ≡ length self.old.answers.items }
         ensures lateness { length self.new.lateness.items ≡ length self.old.lateness.items }
     {
         if number >= lines.len() {
-            return Ok(());
+            return;
         }
         let line = read_line(lines[number]);
         let clock = self.clock.saturating_add(ticks_of(&line));
         self.clock = clock;
         let moment = Moment { row, clock };
-        let told = self.walk.take_line(lines, line, moment, number)?;
+        let told = self.walk.take_line(lines, line, moment, number);
         self.note(told, row, number);
-        Ok(())
     }
 
     /// The lines from one to another, in a row.
-    fn take_lines(
-        &mut self,
-        lines: &[&str],
-        row: usize,
-        first: usize,
-        end: usize,
-    ) -> Result<(), AllocError>
+    fn take_lines(&mut self, lines: &[&str], row: usize, first: usize, end: usize)
         requires { first ≤ end }
-        ensures clock { IfOk result (λ _. self.old.clock ≡ clock_after (take first (bytes_of lines.now))
-            → self.new.clock ≡ clock_after (take end (bytes_of lines.now))) }
+        ensures clock { self.old.clock ≡ clock_after (take first (bytes_of lines.now))
+            → self.new.clock ≡ clock_after (take end (bytes_of lines.now)) }
         ensures clocks { self.new.clocks ≡ self.old.clocks }
         ensures answers { length self.new.answers.items ≡ length self.old.answers.items }
         ensures lateness { length self.new.lateness.items ≡ length self.old.lateness.items }
     {
         for number in first..end {
-            self.take_line(lines, row, number)?;
+            self.take_line(lines, row, number);
         }
-        Ok(())
     }
 
     /// The lines of a row.
@@ -582,9 +568,9 @@ impl ClockedWalk {
     {
         self.answers.push(None)?;
         self.lateness.push(0)?;
-        self.walk.begin_row(row);
+        self.walk.is_folded = matches!(row.show, Show::Again(_));
         let end = row.first.saturating_add(row.count);
-        self.take_lines(lines, place, row.first, end)?;
+        self.take_lines(lines, place, row.first, end);
         self.clocks.push(self.clock)?;
         Ok(())
     }
@@ -618,7 +604,7 @@ impl ClockedWalk {
         ensures answers { IfOk result (λ _. length self.new.answers.items ≡ length rows.now) }
         ensures lateness { IfOk result (λ _. length self.new.lateness.items ≡ length rows.now) }
     {
-        self.take_lines(lines, 0, 0, first_of(lines, rows))?;
+        self.take_lines(lines, 0, 0, first_of(lines, rows));
         self.walk.forget_rows();
         let start = self.clock;
         self.take_rows(lines, rows)?;

@@ -13,7 +13,7 @@ pub mod stay;
 use crate::numbers::{Asked, asked_by};
 use heap_map::HeapMap;
 use managed::Managed;
-use pools::Pools;
+use stay::Record;
 pub use stay::Stay;
 use std::alloc::{AllocError, Global};
 
@@ -41,10 +41,13 @@ pub(crate) struct Answered<'a> {
 /// The memory of a mote after the calls so far.
 #[derive(Drop)]
 pub(crate) struct Memory {
-    managed: Managed,
+    pub(crate) managed: Managed,
     /// `None` where no heap has the given size.
     heap: Option<HeapMap>,
-    pools: Pools,
+    /// The used blocks of all pools.
+    used: Record,
+    /// Those that are in a list.
+    linked: Record,
 }
 
 /// The blocks of a run.
@@ -77,22 +80,19 @@ impl Memory {
         Ok(Memory {
             managed: Managed::new(alloc, sizes.managed, sizes.quota),
             heap,
-            pools: Pools::new(alloc),
+            used: Record::new(alloc),
+            linked: Record::new(alloc),
         })
     }
 
     /// A call was accepted. Calls that are on no memory change nothing.
-    pub(crate) fn carry_out(
-        &mut self,
-        called: &Answered<'_>,
-        asked: &Asked<'_>,
-    ) -> Result<(), AllocError> {
-        self.managed.carry_out(called, asked)?;
+    pub(crate) fn carry_out(&mut self, called: &Answered<'_>, asked: &Asked<'_>) {
+        self.managed.carry_out(called, asked);
         if let Some(heap) = &mut self.heap {
-            heap.carry_out(called, asked)?;
+            heap.carry_out(called, asked);
         }
-        self.pools.carry_out(called, asked)?;
-        self.pools.carry_out_on_list(called, asked)
+        pools::carry_out(&mut self.used, called, asked);
+        pools::carry_out_on_list(&mut self.linked, called, asked);
     }
 
     /// A call was refused, which changes nothing.
@@ -104,37 +104,23 @@ impl Memory {
         }
     }
 
-    /// A frame of `size` bytes arrived, in that row and in the line of that number, and is held.
-    pub(crate) fn hold_frame(
-        &mut self,
-        size: usize,
-        row: usize,
-        line: usize,
-    ) -> Result<(), AllocError> {
-        self.managed.hold_frame(size as u64, row, line)
-    }
-
-    /// A frame of `size` bytes arrived, in the line of that number, and was lost: the number of the refusal.
-    pub(crate) fn lose_frame(&mut self, size: usize, number: u64, line: usize) {
-        self.managed.lose_frame(size as u64, number, line);
-    }
-
     /// What has gone so far is forgotten, and what is there begins in the first row.
     pub(crate) fn forget_rows(&mut self) {
-        self.managed.forget_rows();
+        self.managed.record.forget_rows();
         if let Some(heap) = &mut self.heap {
             heap.forget_rows();
         }
-        self.pools.forget_rows();
+        self.used.forget_rows();
+        self.linked.forget_rows();
     }
 
-    /// What is there stays to the end.
-    pub(crate) fn close(&mut self) -> Result<(), AllocError> {
-        self.managed.close()?;
-        if let Some(heap) = &mut self.heap {
-            heap.close()?;
-        }
-        self.pools.close()
+    /// What is there stays to the end. Returns whether there was memory for all.
+    pub(crate) fn close(&mut self) -> bool {
+        let is_heap_whole = match &mut self.heap {
+            Some(heap) => heap.record.close() & heap.is_whole,
+            None => true,
+        };
+        is_heap_whole & self.managed.record.close() & self.used.close() & self.linked.close()
     }
 
     /// The blocks that there were.
@@ -144,22 +130,22 @@ impl Memory {
         let Memory {
             managed,
             heap,
-            pools,
+            used,
+            linked,
         } = self;
         let managed_differs = managed.differs;
-        let (used, linked) = pools.finish();
         let (most, differs, heap) = match heap {
-            Some(heap) => (heap.most, heap.differs, heap.finish()),
+            Some(heap) => (heap.most, heap.differs, heap.record.finish()),
             None => (0, None, Vec::new(alloc)),
         };
         Stays {
-            managed: managed.finish(),
+            managed: managed.record.finish(),
             heap,
             most,
             differs,
             managed_differs,
-            used,
-            linked,
+            used: used.finish(),
+            linked: linked.finish(),
         }
     }
 }

@@ -48,65 +48,50 @@ pub(crate) struct Change {
 #[derive(Drop)]
 struct Changes {
     changes: Vec<Change>,
+    /// Whether there was memory for all of them so far.
+    are_whole: bool,
 }
 
 impl Changes {
     /// A level is higher by so much from a line on, up to another one.
-    fn push(
-        &mut self,
-        level: Level,
-        amount: u64,
-        first: usize,
-        end: Option<usize>,
-    ) -> Result<(), AllocError> {
-        self.changes.push(Change {
+    fn push(&mut self, level: Level, amount: u64, first: usize, end: Option<usize>) {
+        let mut change = Change {
             line: first,
             level,
             amount,
             rises: true,
-        })?;
+        };
+        self.are_whole &= self.changes.push(change).is_ok();
         if let Some(line) = end {
-            self.changes.push(Change {
-                line,
-                level,
-                amount,
-                rises: false,
-            })?;
+            change.line = line;
+            change.rises = false;
+            self.are_whole &= self.changes.push(change).is_ok();
         }
-        Ok(())
     }
 
-    fn push_stays(&mut self, level: Level, stays: &[Stay]) -> Result<(), AllocError> {
+    fn push_stays(&mut self, level: Level, stays: &[Stay]) {
         for stay in stays {
-            self.push(level, stay.taken, stay.first, stay.last)?;
+            self.push(level, stay.taken, stay.first, stay.last);
         }
-        Ok(())
     }
 
-    fn push_processes(&mut self, facts: &Facts) -> Result<(), AllocError> {
+    fn push_processes(&mut self, facts: &Facts) {
         for life in facts.marks.lives.as_slice() {
-            self.push(Level::Life(life.pid), 1, life.first, life.end)?;
+            self.push(Level::Life(life.pid), 1, life.first, life.end);
         }
         for activation in facts.marks.activations.as_slice() {
-            let end = activation.last.saturating_add(1);
-            self.push(
-                Level::Activation(activation.pid),
-                1,
-                activation.first,
-                Some(end),
-            )?;
+            let end = Some(activation.last.saturating_add(1));
+            self.push(Level::Activation(activation.pid), 1, activation.first, end);
         }
-        Ok(())
     }
 
-    fn push_counts(&mut self, facts: &Facts) -> Result<(), AllocError> {
+    fn push_counts(&mut self, facts: &Facts) {
         for wait in facts.waits.as_slice() {
-            self.push(Level::Queue, 1, wait.line, wait.end)?;
+            self.push(Level::Queue, 1, wait.line, wait.end);
         }
         for arming in facts.marks.armings.as_slice() {
-            self.push(Level::Timers, 1, arming.first, arming.last)?;
+            self.push(Level::Timers, 1, arming.first, arming.last);
         }
-        Ok(())
     }
 }
 
@@ -114,11 +99,15 @@ impl Changes {
 pub(crate) fn changes_of(alloc: Global, facts: &Facts) -> Result<Vec<Change>, AllocError> {
     let mut found = Changes {
         changes: Vec::new(alloc),
+        are_whole: true,
     };
-    found.push_processes(facts)?;
-    found.push_counts(facts)?;
-    found.push_stays(Level::Managed, facts.marks.stays.managed.as_slice())?;
-    found.push_stays(Level::Heap, facts.marks.stays.heap.as_slice())?;
+    found.push_processes(facts);
+    found.push_counts(facts);
+    found.push_stays(Level::Managed, facts.marks.stays.managed.as_slice());
+    found.push_stays(Level::Heap, facts.marks.stays.heap.as_slice());
+    if !found.are_whole {
+        return Err(AllocError);
+    }
     let mut changes = found.changes;
     changes.sort_by_key(|change| change.line)?;
     Ok(changes)

@@ -5,7 +5,7 @@ ghost use Rattle.picture_facts.specs.Spans.{IsToldLater};
 
 use crate::facts::waiting::posted_by;
 use crate::numbers::bit_of;
-use std::alloc::{AllocError, Global};
+use std::alloc::Global;
 use std::marker::Model;
 use transcript_lines::{Turn, read_turn};
 
@@ -39,6 +39,8 @@ pub struct Curve {
 pub(crate) struct Posts {
     posted: Vec<Posted>,
     curves: Vec<Curve>,
+    /// Whether there was memory for all of them so far.
+    pub(crate) is_whole: bool,
 }
 
 /// The code of the event that the call of a line posts, and what it carries.
@@ -78,33 +80,26 @@ impl Posts {
         Posts {
             posted: Vec::new(alloc),
             curves: Vec::new(alloc),
+            is_whole: true,
         }
     }
 
     /// A call in the line of that number was accepted that was made in a row.
-    pub(crate) fn carry_out(
-        &mut self,
-        turn: &Turn<'_>,
-        number: usize,
-        row: usize,
-    ) -> Result<(), AllocError> {
+    pub(crate) fn carry_out(&mut self, turn: &Turn<'_>, number: usize, row: usize) {
         let Some((to, _)) = posted_by(turn.call) else {
-            return Ok(());
+            return;
         };
         if self.posted.len() >= MOST {
             self.forget_front(1);
         }
-        let from = turn.pid;
-        let row = Some(row);
-        let told = 0;
-        self.posted.push(Posted {
-            from,
+        let posted = Posted {
+            from: turn.pid,
             to,
             number,
-            row,
-            told,
-        })?;
-        Ok(())
+            row: Some(row),
+            told: 0,
+        };
+        self.is_whole &= self.posted.push(posted).is_ok();
     }
 
     /// The `count` oldest events are no longer on their way.
@@ -114,25 +109,20 @@ impl Posts {
     }
 
     /// An event is received in a row. Those that were posted before it were received already, or by nobody.
-    pub(crate) fn tell(
-        &mut self,
-        lines: &[&str],
-        turn: &Turn<'_>,
-        row: usize,
-    ) -> Result<(), AllocError> {
+    pub(crate) fn tell(&mut self, lines: &[&str], turn: &Turn<'_>, row: usize) {
         let Some(posted) = self.take(lines, turn) else {
-            return Ok(());
+            return;
         };
         let first = posted.row.unwrap_or(row);
         if first < row {
-            self.curves.push(Curve {
+            let curve = Curve {
                 from: posted.from,
                 first,
                 to: turn.pid,
                 last: row,
-            })?;
+            };
+            self.is_whole &= self.curves.push(curve).is_ok();
         }
-        Ok(())
     }
 
     /// A turn receives its event: those before it go, and so does it where it was posted to only one.

@@ -4,7 +4,7 @@ ghost use Rattle.std.specs.Prelude.{◌≡◌, ◌%◌, nat_le, All};
 ghost use Rattle.picture_facts.specs.Spans.{ArmingEndsLater};
 
 use crate::numbers::{Asked, number_of};
-use std::alloc::{AllocError, Global};
+use std::alloc::Global;
 use std::marker::Model;
 use transcript_lines::{Origin, Turn};
 
@@ -64,8 +64,10 @@ pub(crate) struct Moment {
 /// The timers of all processes.
 #[derive(Drop)]
 pub(crate) struct Timers {
-    cells: Vec<Cell>,
+    cells: [Cell; CELLS],
     armings: Vec<Arming>,
+    /// Whether there was memory for all armings so far.
+    is_whole: bool,
 }
 
 impl Model for Timers {
@@ -81,56 +83,44 @@ impl Model for Timers {
 }
 
 impl Timers {
-    pub(crate) fn new(alloc: Global) -> Result<Self, AllocError> {
-        Ok(Timers {
-            cells: vec![in alloc; UNUSED; CELLS]?,
+    pub(crate) fn new(alloc: Global) -> Self {
+        Timers {
+            cells: [UNUSED; CELLS],
             armings: Vec::new(alloc),
-        })
+            is_whole: true,
+        }
     }
 
     fn cell(&mut self, pid: usize, timer: usize) -> Option<&mut Cell> {
         let place = pid.saturating_mul(TIMERS).saturating_add(timer);
-        self.cells.as_mut_slice().get_mut(place)
+        self.cells.get_mut(place)
     }
 
     /// A timer's arming ends, if it is armed. One that began in the same row is not stored.
-    fn end(
-        &mut self,
-        pid: usize,
-        timer: usize,
-        row: usize,
-        told: Option<u64>,
-    ) -> Result<(), AllocError> {
+    fn end(&mut self, pid: usize, timer: usize, row: usize, told: Option<u64>) {
         let Some(cell) = self.cell(pid, timer) else {
-            return Ok(());
+            return;
         };
         let armed = *cell;
         cell.is_armed = false;
         if armed.is_armed && armed.row < row {
-            self.armings.push(Arming {
+            let arming = Arming {
                 pid,
                 timer,
                 first: armed.row,
                 last: Some(row),
                 due: armed.due(),
                 told,
-            })?;
+            };
+            self.is_whole &= self.armings.push(arming).is_ok();
         }
-        Ok(())
     }
 
     /// A timer is stopped, or is armed from a start on.
-    fn set(
-        &mut self,
-        pid: usize,
-        timer: usize,
-        row: usize,
-        start: Option<u64>,
-        interval: u64,
-    ) -> Result<(), AllocError> {
-        self.end(pid, timer, row, None)?;
+    fn set(&mut self, pid: usize, timer: usize, row: usize, start: Option<u64>, interval: u64) {
+        self.end(pid, timer, row, None);
         let Some(start) = start else {
-            return Ok(());
+            return;
         };
         if let Some(cell) = self.cell(pid, timer) {
             *cell = Cell {
@@ -140,34 +130,21 @@ impl Timers {
                 is_armed: true,
             };
         }
-        Ok(())
     }
 
     /// What an accepted call does to the caller's timers.
-    pub(crate) fn carry_out(
-        &mut self,
-        pid: usize,
-        asked: &Asked<'_>,
-        moment: Moment,
-    ) -> Result<(), AllocError> {
+    pub(crate) fn carry_out(&mut self, pid: usize, asked: &Asked<'_>, moment: Moment) {
         let (part, verb) = asked.name.split_once('-').unwrap_or(("", ""));
         let timer = match part {
             "timer" => asked.first as usize,
             "callback" => (asked.first as usize).saturating_add(EVENT_TIMERS),
-            _ => return Ok(()),
+            _ => return,
         };
-        self.change(pid, timer, verb, asked.second, moment)
+        self.change(pid, timer, verb, asked.second, moment);
     }
 
     /// Sets a timer, starts it again or stops it. Other verbs change nothing.
-    fn change(
-        &mut self,
-        pid: usize,
-        timer: usize,
-        verb: &str,
-        interval: u64,
-        moment: Moment,
-    ) -> Result<(), AllocError> {
+    fn change(&mut self, pid: usize, timer: usize, verb: &str, interval: u64, moment: Moment) {
         let before = match self.cell(pid, timer) {
             Some(cell) => *cell,
             None => UNUSED,
@@ -177,34 +154,33 @@ impl Timers {
             "restart" => (Some(moment.clock), before.interval),
             "reset" => (Some(before.due()), before.interval),
             "stop" => (None, interval),
-            _ => return Ok(()),
+            _ => return,
         };
-        self.set(pid, timer, moment.row, start, interval)
+        self.set(pid, timer, moment.row, start, interval);
     }
 
     /// A process receives a stimulus, perhaps that its timer ran out. Returns the number of ticks since that was due.
-    pub(crate) fn tell(&mut self, turn: &Turn<'_>, moment: Moment) -> Result<u64, AllocError> {
+    pub(crate) fn tell(&mut self, turn: &Turn<'_>, moment: Moment) -> u64 {
         let Moment { row, clock } = moment;
         let Some(timer) = timer_told(turn) else {
-            return Ok(0);
+            return 0;
         };
         let cell = match self.cell(turn.pid, timer) {
             Some(cell) => *cell,
             None => UNUSED,
         };
         if !cell.is_armed || cell.due() > clock {
-            return Ok(0);
+            return 0;
         }
-        self.end(turn.pid, timer, row, Some(clock))?;
-        Ok(clock.saturating_sub(cell.due()))
+        self.end(turn.pid, timer, row, Some(clock));
+        clock.saturating_sub(cell.due())
     }
 
     /// A process ends in a row: none of its timers is armed any more.
-    pub(crate) fn end_all(&mut self, pid: usize, row: usize) -> Result<(), AllocError> {
+    pub(crate) fn end_all(&mut self, pid: usize, row: usize) {
         for timer in 0..TIMERS {
-            self.end(pid, timer, row, None)?;
+            self.end(pid, timer, row, None);
         }
-        Ok(())
     }
 
     /// What has ended so far is forgotten.
@@ -212,31 +188,27 @@ impl Timers {
         self.armings.clear();
     }
 
-    /// What is still armed stays so to the end.
-    pub(crate) fn close(&mut self) -> Result<(), AllocError> {
-        for place in 0..self.cells.len() {
-            self.close_cell(place)?;
+    /// What is still armed stays so to the end. Returns whether there was memory for all armings.
+    pub(crate) fn close(&mut self) -> bool {
+        for place in 0..CELLS {
+            self.close_cell(place, self.cells[place]);
         }
-        Ok(())
+        self.is_whole
     }
 
     /// The same for the timer of that number among those of all processes.
-    fn close_cell(&mut self, place: usize) -> Result<(), AllocError> {
-        if place >= self.cells.len() {
-            return Ok(());
-        }
-        let cell = self.cells[place];
+    fn close_cell(&mut self, place: usize, cell: Cell) {
         if cell.is_armed {
-            self.armings.push(Arming {
+            let arming = Arming {
                 pid: place / TIMERS,
                 timer: place % TIMERS,
                 first: cell.row,
                 last: None,
                 due: cell.due(),
                 told: None,
-            })?;
+            };
+            self.is_whole &= self.armings.push(arming).is_ok();
         }
-        Ok(())
     }
 
     /// The armings that ended, and those that `close` found.

@@ -1,13 +1,12 @@
 //! The map of the heap: where its blocks are, by a heap in which the accepted calls of the transcript are executed.
 
-ghost use Rattle.std.specs.Prelude.{◌≡◌, All, IfSome};
+ghost use Rattle.std.specs.Prelude.{◌≡◌, IfSome};
 ghost use Rattle.mote_types.specs.Code.Conditions.{IsName};
 ghost use Rattle.heap_core.specs.Code.Conditions.{IsHeaderLength};
-ghost use Rattle.picture_facts.specs.Spans.{StayEndsLater};
 
 use crate::memory::Answered;
 use crate::memory::heap::LiveHeap;
-use crate::memory::stay::{Record, Stay};
+use crate::memory::stay::{Record, Sought, Stay};
 use crate::numbers::Asked;
 use heap_core::Key;
 use mote_types::event::Pid;
@@ -19,11 +18,13 @@ pub(crate) struct HeapMap {
     alloc: Global,
     heap: LiveHeap,
     header: u32,
-    record: Record,
+    pub(crate) record: Record,
     /// The largest number of blocks at once.
     pub(crate) most: usize,
     /// The line of the first call whose reply by this heap differs from the transcript.
     pub(crate) differs: Option<usize>,
+    /// Whether there was memory for each comparison so far.
+    pub(crate) is_whole: bool,
 }
 
 /// The length of a header, 16 where a heap has none of that length.
@@ -58,42 +59,38 @@ impl HeapMap {
         let Some(heap) = LiveHeap::new(alloc, size, header)? else {
             return Ok(None);
         };
-        let record = Record::new(alloc);
-        let most = 0;
-        let differs = None;
         Ok(Some(HeapMap {
             alloc,
             heap,
             header,
-            record,
-            most,
-            differs,
+            record: Record::new(alloc),
+            most: 0,
+            differs: None,
+            is_whole: true,
         }))
     }
 
     /// A call was accepted.
-    pub(crate) fn carry_out(
-        &mut self,
-        called: &Answered<'_>,
-        asked: &Asked<'_>,
-    ) -> Result<(), AllocError> {
+    pub(crate) fn carry_out(&mut self, called: &Answered<'_>, asked: &Asked<'_>) {
         if asked.name == "heap-stats" {
-            let is_so = self.has_stats(called.answer)?;
-            self.compare(is_so, called.line);
-            return Ok(());
+            match self.has_stats(called.answer) {
+                Ok(is_so) => self.compare(is_so, called.line),
+                Err(_) => self.is_whole = false,
+            }
+            return;
         }
         let Some(key) = key_of(called.pid, asked.first) else {
-            return Ok(());
+            return;
         };
         let size = size_of(asked);
         let is_so = match asked.name {
             "heap-alloc" => self.heap.alloc(key, size),
             "heap-realloc" => self.heap.realloc(key, size),
             "heap-free" => self.heap.free(key),
-            _ => return Ok(()),
+            _ => return,
         };
         self.compare(is_so, called.line);
-        self.show(key, size, called.row)
+        self.show(key, size, called.row);
     }
 
     /// Stores the first line that says what isn't so.
@@ -132,16 +129,16 @@ impl HeapMap {
     }
 
     /// A block's stay ends in a row; where it is still live, another one begins.
-    fn show(&mut self, key: Key, size: u32, row: usize) -> Result<(), AllocError>
+    fn show(&mut self, key: Key, size: u32, row: usize)
         requires { IsName key.0.0 key.1 }
     {
         let pid = key.0.0 as usize;
         let name = key.1 as u64;
-        self.record.end(pid, name, row)?;
+        self.record.end(Sought::Named(pid, name), row);
         let Some(place) = self.heap.place_of(key) else {
-            return Ok(());
+            return;
         };
-        let stay = Stay {
+        self.record.begin(Stay {
             pid,
             name,
             at: place.at as u64,
@@ -149,24 +146,12 @@ impl HeapMap {
             size: size as u64,
             first: row,
             last: None,
-        };
-        self.record.begin(stay)?;
+        });
         self.most = self.most.max(self.record.live().len());
-        Ok(())
     }
 
     pub(crate) fn forget_rows(&mut self) {
         self.record.forget_rows();
         self.most = self.record.live().len();
-    }
-
-    pub(crate) fn close(&mut self) -> Result<(), AllocError> {
-        self.record.close()
-    }
-
-    pub(crate) fn finish(self) -> Vec<Stay>
-        ensures { All StayEndsLater result.items }
-    {
-        self.record.finish()
     }
 }

@@ -1,13 +1,10 @@
 //! Managed memory: lengths one after the other. No call shows where the blocks are in the region, so those after a freed one are
 //! shown as closing up at once.
 
-ghost use Rattle.std.specs.Prelude.{All};
-ghost use Rattle.picture_facts.specs.Spans.{StayEndsLater};
-
 use crate::memory::Answered;
-use crate::memory::stay::{Record, Stay};
+use crate::memory::stay::{Record, Sought, Stay};
 use crate::numbers::{Asked, number_in_reply, number_of};
-use std::alloc::{AllocError, Global};
+use std::alloc::Global;
 
 /// The process whose blocks hold frames.
 pub const FRAMES: usize = 3;
@@ -15,7 +12,7 @@ pub const FRAMES: usize = 3;
 /// The blocks of managed memory.
 #[derive(Drop)]
 pub(crate) struct Managed {
-    record: Record,
+    pub(crate) record: Record,
     /// The number of frames that were held.
     frames: u64,
     size: u32,
@@ -79,25 +76,21 @@ impl Managed {
     }
 
     /// A call was accepted.
-    pub(crate) fn carry_out(
-        &mut self,
-        called: &Answered<'_>,
-        asked: &Asked<'_>,
-    ) -> Result<(), AllocError> {
+    pub(crate) fn carry_out(&mut self, called: &Answered<'_>, asked: &Asked<'_>) {
         let Answered { pid, row, line, .. } = *called;
         match asked.name {
             "mmem-alloc" => {
                 self.compare(self.has_room(pid, asked.second), line);
-                self.add(pid, asked.first, asked.second, row)
+                self.add(pid, asked.first, asked.second, row);
             }
-            "mmem-free" => self.free(pid, asked.first, row),
+            "mmem-free" => self.free(Sought::Named(pid, asked.first), row),
             "mmem-avail" => {
                 let free = number_in_reply(called.answer);
                 self.compare(free == self.free_for(pid), line);
-                Ok(())
             }
-            "packet-done" => self.give_back(row),
-            _ => Ok(()),
+            // The front frame is released.
+            "packet-done" => self.free(Sought::Of(FRAMES), row),
+            _ => {}
         }
     }
 
@@ -111,88 +104,47 @@ impl Managed {
     }
 
     /// A process has one more block, after all others.
-    fn add(&mut self, pid: usize, name: u64, size: u64, row: usize) -> Result<(), AllocError> {
+    fn add(&mut self, pid: usize, name: u64, size: u64, row: usize) {
         let at = match self.record.live().last() {
             Some(stay) => stay.at.saturating_add(stay.taken),
             None => 0,
         };
-        let taken = taken_by(size);
-        let last = None;
-        let first = row;
         self.record.begin(Stay {
             pid,
             name,
             at,
-            taken,
+            taken: taken_by(size),
             size,
-            first,
-            last,
-        })
+            first: row,
+            last: None,
+        });
     }
 
-    /// The blocks from a position in the list on move down by `bytes` bytes.
-    fn close_up(&mut self, from: usize, bytes: u64, row: usize) -> Result<(), AllocError> {
-        for place in from..self.record.live().len() {
-            self.record.move_down(place, bytes, row)?;
-        }
-        Ok(())
-    }
-
-    /// The block at that position in the list goes.
-    fn take_away(&mut self, place: usize, row: usize) -> Result<(), AllocError> {
-        let Some(stay) = self.record.live().get(place) else {
-            return Ok(());
+    /// The first such block goes in a row, if there is one, and those after it move down.
+    fn free(&mut self, sought: Sought, row: usize) {
+        let Some(gone) = self.record.find(sought) else {
+            return;
+        };
+        let Some(stay) = self.record.live().get(gone) else {
+            return;
         };
         let taken = stay.taken;
-        self.record.take_away(place, row)?;
-        self.close_up(place, taken, row)
-    }
-
-    /// A process's block goes.
-    fn free(&mut self, pid: usize, name: u64, row: usize) -> Result<(), AllocError> {
-        match self.record.find(pid, name) {
-            Some(place) => self.take_away(place, row),
-            None => Ok(()),
+        self.record.take_away(gone, row);
+        for place in gone..self.record.live().len() {
+            self.record.move_down(place, taken, row);
         }
     }
 
-    /// A frame has arrived, and is held.
-    pub(crate) fn hold_frame(
-        &mut self,
-        size: u64,
-        row: usize,
-        line: usize,
-    ) -> Result<(), AllocError> {
+    /// A frame of `size` bytes arrived, in that row and in the line of that number, and is held.
+    pub(crate) fn hold_frame(&mut self, size: u64, row: usize, line: usize) {
         self.compare(self.has_room(FRAMES, size), line);
         let number = self.frames;
         self.frames = number.saturating_add(1);
-        self.add(FRAMES, number, size, row)
+        self.add(FRAMES, number, size, row);
     }
 
-    /// A frame has arrived, and was lost.
+    /// A frame of `size` bytes arrived, in the line of that number, and was lost: the number of the refusal.
     pub(crate) fn lose_frame(&mut self, size: u64, number: u64, line: usize) {
         self.compare(self.may_refuse(FRAMES, size, number), line);
-    }
-
-    /// The front frame is released.
-    fn give_back(&mut self, row: usize) -> Result<(), AllocError> {
-        match self.record.first_of(FRAMES) {
-            Some(place) => self.take_away(place, row),
-            None => Ok(()),
-        }
-    }
-
-    pub(crate) fn forget_rows(&mut self) {
-        self.record.forget_rows();
-    }
-
-    pub(crate) fn close(&mut self) -> Result<(), AllocError> {
-        self.record.close()
-    }
-
-    pub(crate) fn finish(self) -> Vec<Stay>
-        ensures { All StayEndsLater result.items }
-    {
-        self.record.finish()
     }
 }

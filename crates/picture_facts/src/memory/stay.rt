@@ -3,7 +3,7 @@
 ghost use Rattle.std.specs.Prelude.{◌≡◌, All};
 ghost use Rattle.picture_facts.specs.Spans.{StayEndsLater};
 
-use std::alloc::{AllocError, Global};
+use std::alloc::Global;
 use std::marker::Model;
 
 /// A block at its position, from a row on.
@@ -24,11 +24,34 @@ pub struct Stay {
     pub last: Option<usize>,
 }
 
+/// What a block is found by.
+#[derive(Clone, Copy)]
+pub(crate) enum Sought {
+    /// Its process, and its name there.
+    Named(usize, u64),
+    /// Its process alone.
+    Of(usize),
+    /// Its position.
+    At(u64),
+}
+
+impl Sought {
+    fn is(self, stay: &Stay) -> bool {
+        match self {
+            Sought::Named(pid, name) => stay.pid == pid && stay.name == name,
+            Sought::Of(pid) => stay.pid == pid,
+            Sought::At(at) => stay.at == at,
+        }
+    }
+}
+
 /// The blocks that have a position, and the stays that have ended.
 #[derive(Drop)]
 pub(crate) struct Record {
     live: Vec<Stay>,
     ended: Vec<Stay>,
+    /// Whether there was memory for all of them so far.
+    is_whole: bool,
 }
 
 impl Model for Record {
@@ -48,6 +71,7 @@ impl Record {
         Record {
             live: Vec::new(alloc),
             ended: Vec::new(alloc),
+            is_whole: true,
         }
     }
 
@@ -58,31 +82,10 @@ impl Record {
         self.live.as_slice()
     }
 
-    /// The index of a block in the list of those that have a position.
-    pub(crate) fn find(&self, pid: usize, name: u64) -> Option<usize> {
+    /// The index of the first such block in the list of those that have a position.
+    pub(crate) fn find(&self, sought: Sought) -> Option<usize> {
         for place in 0..self.live.len() {
-            let stay = self.live[place];
-            if stay.pid == pid && stay.name == name {
-                return Some(place);
-            }
-        }
-        None
-    }
-
-    /// The index of the first block of a process.
-    pub(crate) fn first_of(&self, pid: usize) -> Option<usize> {
-        for place in 0..self.live.len() {
-            if self.live[place].pid == pid {
-                return Some(place);
-            }
-        }
-        None
-    }
-
-    /// The index of the block at a position.
-    pub(crate) fn find_at(&self, at: u64) -> Option<usize> {
-        for place in 0..self.live.len() {
-            if self.live[place].at == at {
+            if sought.is(&self.live[place]) {
                 return Some(place);
             }
         }
@@ -90,69 +93,45 @@ impl Record {
     }
 
     /// A block's stay begins.
-    pub(crate) fn begin(&mut self, stay: Stay) -> Result<(), AllocError> {
-        self.live.push(stay)?;
-        Ok(())
+    pub(crate) fn begin(&mut self, stay: Stay) {
+        self.is_whole &= self.live.push(stay).is_ok();
     }
 
-    /// The stay of the block at that index in the list ends in a row, if there is one.
-    fn end_of(&mut self, place: Option<usize>, row: usize) -> Result<(), AllocError> {
-        match place {
+    /// The stay of such a block ends in a row, if there is one. The order of the others may change.
+    pub(crate) fn end(&mut self, sought: Sought, row: usize) {
+        match self.find(sought) {
             Some(place) if place < self.live.len() => {
                 let stay = self.live.swap_remove(place);
-                self.keep(stay, row)
+                self.keep(stay, row);
             }
-            _ => Ok(()),
+            _ => {}
         }
-    }
-
-    /// The stay of a process's block ends in a row, if it has one. The order of the others may change.
-    pub(crate) fn end(&mut self, pid: usize, name: u64, row: usize) -> Result<(), AllocError> {
-        let place = self.find(pid, name);
-        self.end_of(place, row)
-    }
-
-    /// The same for the block that begins at a position.
-    pub(crate) fn end_at(&mut self, at: u64, row: usize) -> Result<(), AllocError> {
-        let place = self.find_at(at);
-        self.end_of(place, row)
     }
 
     /// The block at index `place` of the list goes in a row, and the others keep their order.
-    pub(crate) fn take_away(&mut self, place: usize, row: usize) -> Result<(), AllocError> {
-        if place >= self.live.len() {
-            return Ok(());
+    pub(crate) fn take_away(&mut self, place: usize, row: usize) {
+        if place < self.live.len() {
+            let stay = self.live.remove(place);
+            self.keep(stay, row);
         }
-        let stay = self.live.remove(place);
-        self.keep(stay, row)
     }
 
     /// The block at index `place` of the list moves down by `bytes` bytes in a row.
-    pub(crate) fn move_down(
-        &mut self,
-        place: usize,
-        bytes: u64,
-        row: usize,
-    ) -> Result<(), AllocError> {
-        if place >= self.live.len() {
-            return Ok(());
+    pub(crate) fn move_down(&mut self, place: usize, bytes: u64, row: usize) {
+        if let Some(stay) = self.live.as_mut_slice().get_mut(place) {
+            let before = *stay;
+            stay.at = before.at.saturating_sub(bytes);
+            stay.first = row;
+            self.keep(before, row);
         }
-        let before = self.live[place];
-        let mut after = before;
-        after.at = before.at.saturating_sub(bytes);
-        after.first = row;
-        self.live[place] = after;
-        self.keep(before, row)
     }
 
     /// A stay has ended in a row. One that was in no other row is not stored.
-    fn keep(&mut self, stay: Stay, row: usize) -> Result<(), AllocError> {
+    fn keep(&mut self, stay: Stay, row: usize) {
         if stay.first < row {
-            let mut ended = stay;
-            ended.last = Some(row);
-            self.ended.push(ended)?;
+            let last = Some(row);
+            self.is_whole &= self.ended.push(Stay { last, ..stay }).is_ok();
         }
-        Ok(())
     }
 
     /// What has ended so far is forgotten, and what has not ended begins in the first row.
@@ -163,23 +142,23 @@ impl Record {
         }
     }
 
-    /// What has not ended stays so to the end.
-    pub(crate) fn close(&mut self) -> Result<(), AllocError> {
+    /// What has not ended stays so to the end. Returns whether there was memory for all.
+    pub(crate) fn close(&mut self) -> bool {
         for place in 0..self.live.len() {
-            self.keep_open(place)?;
+            self.keep_open(place);
         }
-        Ok(())
+        self.is_whole
     }
 
     /// The same for the block at that index in the list.
-    fn keep_open(&mut self, place: usize) -> Result<(), AllocError> {
-        if place >= self.live.len() {
-            return Ok(());
+    fn keep_open(&mut self, place: usize) {
+        if let Some(stay) = self.live.get(place) {
+            let open = Stay {
+                last: None,
+                ..*stay
+            };
+            self.is_whole &= self.ended.push(open).is_ok();
         }
-        let mut stay = self.live[place];
-        stay.last = None;
-        self.ended.push(stay)?;
-        Ok(())
     }
 
     /// The stays that ended, and those that `close` found.

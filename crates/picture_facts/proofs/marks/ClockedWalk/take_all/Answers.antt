@@ -8,5 +8,5 @@ pub returns-clause-clocks : goal.returns-clause-clocks
 returns-clause-clocks c =
     let lines = bytes_of c.args.lines.now in
     told_at lines c.args.rows.now (length c.args.lines.now) _ _ _
-    (c.in_ok-take_lines.ensures.clock c.requires.clock ∙ ap (λ line. clock_after (take line lines)) c.first_of.ensures)
-    (ap (λ clocks. clocks.items) c.in_ok-take_lines.ensures.clocks ∙ c.requires.clocks) c.in_ok-take_rows.ensures.clocks
+    (c.take_lines.ensures.clock c.requires.clock ∙ ap (λ line. clock_after (take line lines)) c.first_of.ensures)
+    (ap (λ clocks. clocks.items) c.take_lines.ensures.clocks ∙ c.requires.clocks) c.in_ok-take_rows.ensures.clocks
