@@ -72,11 +72,10 @@ struct Walk {
 }
 
 impl Walk {
-    /// Writes a signal's value, where it has changed.
-    fn tell(&mut self, signal: Signal) -> Result<(), AllocError> {
-        let value = self.levels.value(signal);
-        let place = signal.place();
-        let Some(told) = self.told.get_mut(place as usize) else {
+    /// Writes the value of the signal at a position among all, where it has changed.
+    fn tell(&mut self, place: usize) -> Result<(), AllocError> {
+        let value = self.levels.value(Signal::at(place));
+        let Some(told) = self.told.get_mut(place) else {
             return Ok(());
         };
         if *told == Some(value) {
@@ -85,16 +84,13 @@ impl Walk {
         *told = Some(value);
         let time = self.clock.saturating_mul(self.scale.units);
         self.dump.go_to(time.saturating_add(self.place))?;
-        self.dump.set(place, value)
+        self.dump.set(place as u8, value)
     }
 
     /// Writes the values that have changed at the present time.
     fn tell_all(&mut self) -> Result<(), AllocError> {
-        for signal in COMMON {
-            self.tell(signal)?;
-        }
-        for place in 0..self.applications {
-            self.tell(Signal::Process(place.saturating_add(FIRST)))?;
+        for place in 0..self.applications.saturating_add(COMMON) {
+            self.tell(place)?;
         }
         Ok(())
     }
@@ -157,11 +153,10 @@ fn walk_over(
 }
 
 /// The declarations and the values as one text.
-fn whole(alloc: Global, declarations: &str, dump: &Dump) -> Result<Vec<u8>, AllocError>
-    ensures { IfOk result (λ bytes. bytes.items ≡ declarations.now ++ codes "$enddefinitions $end\n" ++ dump.now) }
+fn whole(declarations: String, dump: &Dump) -> Result<Vec<u8>, AllocError>
+    ensures { IfOk result (λ bytes. bytes.items ≡ string_bytes declarations ++ codes "$enddefinitions $end\n" ++ dump.now) }
 {
-    let mut bytes = Vec::new(alloc);
-    bytes.extend_from_slice(declarations.as_bytes())?;
+    let mut bytes = declarations.into_bytes();
     bytes.extend_from_slice(b"$enddefinitions $end\n")?;
     bytes.extend_from_slice(dump.bytes())?;
     Ok(bytes)
@@ -196,7 +191,7 @@ fn dump_of(
     walk_over(&mut walk, lines, shown, clocks, changes.as_slice())?;
     walk.dump.goes_on();
     let head = declarations(alloc, scale, settings.names, applications)?;
-    whole(alloc, head.as_str(), &walk.dump)
+    whole(head, &walk.dump)
 }
 
 /// The dump of a run, from the lines of its transcript: declarations, and values at times that never go back.

@@ -1,10 +1,11 @@
 //! The declarations of a dump.
 
-use crate::dump::signal::{COMMON, FIRST, Signal};
+use crate::dump::signal::{COMMON, SIGNALS, Signal};
 use std::alloc::{AllocError, Global};
 
-/// What the values mean, as a comment.
-const COMMENT: &str = "\
+/// The program, and what the values mean, as a comment.
+const HEAD: &str = "\
+$version mote_picture $end
 $comment
 One second stands for one tick of the mote's clock. The lines of a transcript that come at one clock stand one
 behind the other, a unit of time each. At each line:
@@ -44,10 +45,6 @@ impl Scale {
         }
         scale
     }
-
-    fn name(self) -> &'static str {
-        UNITS.get(self.place).copied().unwrap_or("1 fs")
-    }
 }
 
 /// Appends a name as an identifier may have it: what is no letter, digit or `_` is a `_`.
@@ -63,9 +60,10 @@ fn push_identifier(out: &mut String, name: &str) -> Result<(), AllocError> {
     Ok(())
 }
 
-/// Appends the declaration of a signal.
-fn push_signal(out: &mut String, signal: Signal, name: Option<&&str>) -> Result<(), AllocError> {
-    let letter = char::from(33 + signal.place());
+/// Appends the declaration of the signal at a position among all.
+fn push_signal(out: &mut String, place: usize, names: &[&str]) -> Result<(), AllocError> {
+    let letter = char::from(33 + place.min(SIGNALS) as u8);
+    let signal = Signal::at(place);
     write!(
         out,
         "$var reg {} {letter} {}",
@@ -74,10 +72,10 @@ fn push_signal(out: &mut String, signal: Signal, name: Option<&&str>) -> Result<
     )?;
     if let Signal::Process(pid) = signal {
         write!(out, "_{pid}")?;
-    }
-    if let Some(name) = name {
-        out.push_str("_")?;
-        push_identifier(out, name)?;
+        if let Some(name) = names.get(place.saturating_sub(COMMON)) {
+            out.push_str("_")?;
+            push_identifier(out, name)?;
+        }
     }
     out.push_str(" $end\n")
 }
@@ -89,16 +87,11 @@ fn push_declarations(
     names: &[&str],
     applications: usize,
 ) -> Result<(), AllocError> {
-    out.push_str("$version mote_picture $end\n")?;
-    out.push_str(COMMENT)?;
-    write!(out, "$timescale {} $end\n", scale.name())?;
-    out.push_str("$scope module mote $end\n")?;
-    for signal in COMMON {
-        push_signal(out, signal, None)?;
-    }
-    for place in 0..applications {
-        let signal = Signal::Process(place.saturating_add(FIRST));
-        push_signal(out, signal, names.get(place))?;
+    out.push_str(HEAD)?;
+    let unit = UNITS.get(scale.place).copied().unwrap_or("1 fs");
+    write!(out, "$timescale {unit} $end\n$scope module mote $end\n")?;
+    for place in 0..applications.saturating_add(COMMON) {
+        push_signal(out, place, names)?;
     }
     out.push_str("$upscope $end\n")
 }

@@ -21,14 +21,6 @@ pub(crate) struct Levels {
     levels: [u64; LEVELS],
 }
 
-fn moved(level: u64, change: &Change) -> u64 {
-    if change.rises {
-        level.saturating_add(change.amount)
-    } else {
-        level.saturating_sub(change.amount)
-    }
-}
-
 /// The bytes of a size that are left where some are taken.
 fn free(size: u32, taken: u64) -> Value
     ensures { result ≡ spec.free size taken }
@@ -53,15 +45,15 @@ impl Levels {
         self.levels.get(level.place()).copied().unwrap_or(0)
     }
 
-    fn apply(&mut self, change: &Change) {
-        if let Some(level) = self.levels.get_mut(change.level.place()) {
-            *level = moved(*level, change);
-        }
-    }
-
     pub(crate) fn apply_all(&mut self, changes: &[Change]) {
         for change in changes {
-            self.apply(change);
+            if let Some(level) = self.levels.get_mut(change.level.place()) {
+                *level = if change.rises {
+                    level.saturating_add(change.amount)
+                } else {
+                    level.saturating_sub(change.amount)
+                };
+            }
         }
     }
 

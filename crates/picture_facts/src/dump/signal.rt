@@ -1,7 +1,5 @@
 //! The signals of a dump.
 
-ghost use Rattle.std.specs.Prelude.{◌<◌};
-
 /// The first process that is an application.
 pub(crate) const FIRST: usize = 4;
 
@@ -28,27 +26,19 @@ pub(crate) enum Signal {
     Process(usize),
 }
 
-/// The signals that belong to no process.
-pub(crate) const COMMON: [Signal; 5] = [
-    Signal::Running,
-    Signal::Queue,
-    Signal::ManagedFree,
-    Signal::HeapFree,
-    Signal::Timers,
-];
+/// The number of signals that belong to no process. Those of the applications are after them.
+pub(crate) const COMMON: usize = 5;
 
 impl Signal {
-    /// Its position among all.
-    pub(crate) fn place(self) -> u8
-        ensures { result < 94 }
-    {
-        match self {
-            Signal::Running => 0,
-            Signal::Queue => 1,
-            Signal::ManagedFree => 2,
-            Signal::HeapFree => 3,
-            Signal::Timers => 4,
-            Signal::Process(pid) => 5 + pid.saturating_sub(FIRST).min(15) as u8,
+    /// The signal at a position among all.
+    pub(crate) fn at(place: usize) -> Signal {
+        match place {
+            0 => Signal::Running,
+            1 => Signal::Queue,
+            2 => Signal::ManagedFree,
+            3 => Signal::HeapFree,
+            4 => Signal::Timers,
+            _ => Signal::Process(place - COMMON + FIRST),
         }
     }
 

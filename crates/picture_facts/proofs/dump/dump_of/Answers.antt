@@ -5,7 +5,7 @@ pub returns : goal.returns
 returns c =
     IfOk-weaker c.whole.result _ _
     (λ bytes same. record {
-      declarations = c.as_str.result.now;
+      declarations = _;
       values = _;
       last = c.goes_on.ensures.0;
       are_changes = c.goes_on.ensures.1;
