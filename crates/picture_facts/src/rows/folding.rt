@@ -14,16 +14,12 @@ const LONGEST_PERIOD: usize = 16;
 /// The least number of times that lines are repeated for them to be folded.
 const LEAST_TIMES: usize = 2;
 
-fn is_tick(line: &str) -> bool {
-    line.starts_with("> tick ")
-}
-
 /// The number of lines from the first on that are ticks.
 fn ticks_in_front(lines: &[&str]) -> usize
     ensures { result ≤ length lines.now }
 {
     for place in 0..lines.len() {
-        if !is_tick(lines[place]) {
+        if !lines[place].starts_with("> tick ") {
             return place;
         }
     }

@@ -27,7 +27,11 @@ fn are_text(bytes: &[u8]) -> bool
 fn are_text_bytes(bytes: &[u8]) -> bool
     ensures { result ≡ list_all spec.is_text_byte bytes.now }
 {
-    bytes.iter().all(|byte| is_text_byte(*byte))
+    let mut are_text = true;
+    for byte in bytes {
+        are_text &= is_text_byte(*byte);
+    }
+    are_text
 }
 
 fn is_text_byte(byte: u8) -> bool

@@ -11,15 +11,14 @@ use transcript_lines::{Origin, Turn};
 pub(crate) fn push_payload(alloc: Global, out: &mut String, payload: &str) -> Result<(), AllocError>
     ensures { IfOk result (λ _. string_bytes out.new ≡ string_bytes out.old ++ spec.payload_words payload.now) }
 {
-    if let Some(line) = payload.strip_prefix("x") {
-        out.push_str(" ")?;
-        return push_bytes(alloc, out, line);
-    }
     if payload == "-" {
         return Ok(());
     }
     out.push_str(" ")?;
-    out.push_str(payload)
+    match payload.strip_prefix("x") {
+        Some(line) => push_bytes(alloc, out, line),
+        None => out.push_str(payload),
+    }
 }
 
 /// An event's name, by its code; nothing where it has none.
