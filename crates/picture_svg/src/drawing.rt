@@ -4,6 +4,7 @@ use crate::grounds::lines_of;
 use crate::markup::Element;
 use crate::page::pen::{Area, Pen, Place, text_element, with_span};
 use crate::page::{CLOCK, Page, ROW};
+use itoa::Buffer;
 use picture_facts::marks::{Activation, Curve, Gift, Life, Marks};
 use picture_facts::rows::{Row, Show};
 use picture_facts::words::{
@@ -77,16 +78,17 @@ pub(crate) fn draw_gifts(pen: &mut Pen, page: &Page, gifts: &[Gift]) -> Result<(
         let from = page.lane_of(gift.from);
         let to = page.lane_of(gift.to);
         let top = page.top_of(gift.row).saturating_add(6);
-        let head = if from < to {
-            format!(in pen.alloc; "M{from},{top}H{}m-4,-3l4,3l-4,3", to.saturating_sub(6))?
+        let (end, head) = if from < to {
+            (to.saturating_sub(6), "m-4,-3l4,3l-4,3")
         } else {
-            format!(in pen.alloc; "M{from},{top}H{}m4,-3l-4,3l4,3", to.saturating_add(6))?
+            (to.saturating_add(6), "m4,-3l-4,3l4,3")
         };
+        let commands = format!(in pen.alloc; "M{from},{top}H{end}{head}")?;
         let title = format!(in pen.alloc;
             "given at once by process {} to process {}",
             gift.from, gift.to
         )?;
-        pen.line("a", head.as_str(), title.as_str())?;
+        pen.line("a", commands.as_str(), title.as_str())?;
     }
     Ok(())
 }
@@ -139,28 +141,18 @@ fn draw_turn(
         Origin::Answer => draw_going_on(alloc, element, turn.pid, beside.above)?,
         _ => draw_told(alloc, element, turn, others, beside.late)?,
     };
-    let element = draw_call(alloc, element, turn.call)?;
-    let element = draw_answer(alloc, element, beside.answer)?;
-    pen.content.hold(&element)
-}
-
-/// Adds the words of a call.
-fn draw_call(alloc: Global, element: Element, call: &str) -> Result<Element, AllocError> {
     let mut words = String::new(alloc);
-    push_call(alloc, &mut words, call)?;
-    with_span(alloc, element, class_of_call(call), words.as_str())
-}
-
-/// Adds the words of an answer.
-fn draw_answer(alloc: Global, element: Element, answer: &str) -> Result<Element, AllocError> {
-    let mut words = String::new(alloc);
-    push_answer(alloc, &mut words, answer)?;
-    let class = if refusal_in(answer).is_some() {
+    push_call(alloc, &mut words, turn.call)?;
+    let element = with_span(alloc, element, class_of_call(turn.call), words.as_str())?;
+    words.clear();
+    push_answer(alloc, &mut words, beside.answer)?;
+    let class = if refusal_in(beside.answer).is_some() {
         "r"
     } else {
         "m"
     };
-    with_span(alloc, element, class, words.as_str())
+    let element = with_span(alloc, element, class, words.as_str())?;
+    pen.content.hold(&element)
 }
 
 /// The class of a call's words.
@@ -182,13 +174,15 @@ fn draw_going_on(
     pid: usize,
     above: Option<usize>,
 ) -> Result<Element, AllocError> {
-    let arrow = class_of(alloc, "f", pid)?;
-    if above == Some(pid) {
-        return with_span(alloc, element, arrow.as_str(), "\u{a0}\u{a0}\u{a0}↳\u{a0}");
-    }
-    let who = format!(in alloc; "{pid}")?;
-    let element = with_span(alloc, element, "b", who.as_str())?;
-    with_span(alloc, element, arrow.as_str(), "\u{a0}↳\u{a0}")
+    let mut digits = Buffer::new();
+    let (who, arrow) = if above == Some(pid) {
+        ("", "\u{a0}\u{a0}\u{a0}↳\u{a0}")
+    } else {
+        (digits.format(pid), "\u{a0}↳\u{a0}")
+    };
+    let element = with_span(alloc, element, "b", who)?;
+    let class = class_of(alloc, "f", pid)?;
+    with_span(alloc, element, class.as_str(), arrow)
 }
 
 /// Adds which process receives something in a turn, what, and how late.
@@ -199,7 +193,8 @@ fn draw_told(
     others: &str,
     late: u64,
 ) -> Result<Element, AllocError> {
-    let element = draw_who(alloc, element, turn.pid, others)?;
+    let who = format!(in alloc; "{}{others}\u{a0}\u{a0}", turn.pid)?;
+    let element = with_span(alloc, element, "b", who.as_str())?;
     let mut told = String::new(alloc);
     push_told(alloc, &mut told, turn)?;
     if late == 0 {
@@ -210,17 +205,6 @@ fn draw_told(
     // Of several processes the longest delay is shown.
     let most = if others.is_empty() { "" } else { "up to " };
     draw_late(alloc, element, most, late)
-}
-
-/// Adds the numbers of the processes that receive something.
-fn draw_who(
-    alloc: Global,
-    element: Element,
-    pid: usize,
-    others: &str,
-) -> Result<Element, AllocError> {
-    let who = format!(in alloc; "{pid}{others}\u{a0}\u{a0}")?;
-    with_span(alloc, element, "b", who.as_str())
 }
 
 /// Adds how late the event of a timer is.
@@ -302,12 +286,12 @@ fn draw_clock(pen: &mut Pen, page: &Page, place: usize, clocks: Clocks) -> Resul
     if is_same || !clocks.are_known {
         return Ok(());
     }
-    let number = format!(in pen.alloc; "{}", clocks.clock)?;
+    let mut digits = Buffer::new();
     let at = Place {
         left: CLOCK,
         top: page.base_of(place),
     };
-    pen.text("e b", at, number.as_str())
+    pen.text("e b", at, digits.format(clocks.clock))
 }
 
 /// The words of a row of lines that are there again, a number of them at a time.
@@ -351,13 +335,17 @@ fn draw_row(
 
 /// The process whose turn a row shows, where it shows that of one alone.
 fn process_of(row: &Row, own: &[&str]) -> Option<usize> {
-    let first = read_turn(own.first()?)?;
-    let is_alone = own.iter().all(|line| read_turn(line).is_some_and(|turn| turn.pid == first.pid));
-    if is_alone && row.show == Show::Lines {
-        Some(first.pid)
-    } else {
-        None
+    if !matches!(row.show, Show::Lines) {
+        return None;
     }
+    let pid = read_turn(own.first()?)?.pid;
+    for line in own {
+        match read_turn(line) {
+            Some(turn) if turn.pid == pid => {}
+            _ => return None,
+        }
+    }
+    Some(pid)
 }
 
 /// What the words of the row at a position say beside its lines.

@@ -41,7 +41,11 @@ fn push_escaped(out: &mut Vec<u8>, text: &[u8]) -> Result<(), AllocError>
 fn is_named(named: &[Attribute], attribute: Attribute) -> bool
     ensures { result ≡ markup.is_named attribute named.now }
 {
-    named.iter().any(|other| other.name() == attribute.name())
+    let mut is_found = false;
+    for other in named {
+        is_found |= other.name() == attribute.name();
+    }
+    is_found
 }
 
 /// Appends an attribute.

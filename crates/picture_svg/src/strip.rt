@@ -2,6 +2,7 @@
 
 use crate::page::pen::{Area, Pen, Place};
 use crate::page::{CLOCK, Page};
+use itoa::Buffer;
 use picture_facts::marks::{Activation, Marks};
 use std::alloc::{AllocError, Global};
 
@@ -113,12 +114,12 @@ fn draw_clocks(pen: &mut Pen, page: &Page, marks: &Marks) -> Result<(), AllocErr
         let row = along.saturating_mul(page.rows) / WIDTH;
         let clock = marks.clocks.get(row).copied().unwrap_or(marks.start);
         if told != Some(clock) {
-            let number = format!(in pen.alloc; "{clock}")?;
+            let mut digits = Buffer::new();
             let place = Place {
                 left: along.saturating_add(CLOCK + 10),
                 top: page.strip.saturating_sub(4),
             };
-            pen.text("g", place, number.as_str())?;
+            pen.text("g", place, digits.format(clock))?;
         }
         told = Some(clock);
     }

@@ -19,14 +19,6 @@ fn left_of(page: &Page, arming: &Arming) -> usize {
     }
 }
 
-/// Whether its event came after it was due.
-fn is_late(arming: &Arming) -> bool {
-    match arming.told {
-        Some(clock) => clock > arming.due,
-        None => false,
-    }
-}
-
 /// What a line shows of its timer.
 fn title_of(alloc: Global, arming: &Arming) -> Result<String, AllocError> {
     let kind = if is_callback(arming.timer) {
@@ -38,14 +30,12 @@ fn title_of(alloc: Global, arming: &Arming) -> Result<String, AllocError> {
     let Arming { pid, due, .. } = *arming;
     let mut title = format!(in alloc; "{kind} {number} of process {pid}, due at clock {due}")?;
     match (arming.told, arming.last) {
-        (Some(clock), _) if clock > due => {
-            write!(
-                title,
-                ", told at {clock}: {} late",
-                clock.saturating_sub(due)
-            )?;
+        (Some(clock), _) => {
+            write!(title, ", told at {clock}")?;
+            if clock > due {
+                write!(title, ": {} late", clock - due)?;
+            }
         }
-        (Some(clock), _) => write!(title, ", told at {clock}")?,
         (None, Some(_)) => title.push_str(", stopped or set anew, or its process ended")?,
         (None, None) => title.push_str(", still armed at the end")?,
     }
@@ -63,17 +53,11 @@ fn commands_of(
     let left = left_of(page, arming);
     let top = middle_of(page, arming.first);
     let from = left.saturating_sub(3);
-    if let Some(due) = due {
-        return format!(in alloc; "M{from},{top}h6M{left},{top}V{}", middle_of(page, due));
-    }
-    let Some(last) = arming.last else {
-        return format!(in alloc; "M{from},{top}h6M{left},{top}V{}", page.bottom());
-    };
-    let end = middle_of(page, last);
-    let head = if arming.told.is_some() {
-        HEAD
-    } else {
-        "m-3,0h6"
+    let (end, head) = match (due, arming.last) {
+        (Some(due), _) => (middle_of(page, due), ""),
+        (None, Some(last)) if arming.told.is_some() => (middle_of(page, last), HEAD),
+        (None, Some(last)) => (middle_of(page, last), "m-3,0h6"),
+        (None, None) => (page.bottom(), ""),
     };
     format!(in alloc; "M{from},{top}h6M{left},{top}V{end}{head}")
 }
@@ -89,15 +73,17 @@ fn middle_of(page: &Page, row: usize) -> usize {
 /// The row in which a timer became due whose event came late, from that of its arming on.
 fn due_row(arming: &Arming, clocks: &[u64]) -> Option<usize> {
     let last = arming.last?;
-    if !is_late(arming) {
+    if arming.told? <= arming.due {
         return None;
     }
     let before = &clocks[..last.min(clocks.len())];
-    let overdue = before
-        .iter()
-        .rev()
-        .take_while(|clock| **clock >= arming.due)
-        .count();
+    let mut overdue: usize = 0;
+    for clock in before.iter().rev() {
+        if *clock < arming.due {
+            break;
+        }
+        overdue = overdue.saturating_add(1);
+    }
     Some(last.saturating_sub(overdue).max(arming.first))
 }
 

@@ -1,7 +1,7 @@
 //! The rows of a picture.
 
 /// What a row shows of its lines.
-#[derive(Clone, Copy, PartialEq, Eq)]
+#[derive(Clone, Copy)]
 pub enum Show {
     /// The first line, and after it what belongs to it: the end of its activation, or others who only wait too.
     Lines,

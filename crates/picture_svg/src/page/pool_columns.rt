@@ -24,7 +24,11 @@ const MARK: usize = 2;
 fn is_used(used: &[Stay], pool: u64) -> bool
     ensures { result ≡ spec.is_used used.now pool }
 {
-    used.iter().any(|stay| stay.at / BLOCKS == pool)
+    let mut is_found = false;
+    for stay in used {
+        is_found |= stay.at / BLOCKS == pool;
+    }
+    is_found
 }
 
 /// Which pools have a column: those of which a block is used.
