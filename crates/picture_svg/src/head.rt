@@ -3,6 +3,7 @@
 use crate::page::pen::{Area, Pen, Place};
 use crate::page::{CLOCK, Page, ROW};
 use crate::style::{COLOURS, STYLE};
+use itoa::Buffer;
 use picture_facts::marks::Tally;
 use std::alloc::{AllocError, Global};
 
@@ -27,15 +28,14 @@ const TITLE_BYTES: usize = 44;
 /// How many bytes a line of the run's numbers has at most, which are smaller.
 const TALLY_BYTES: usize = 72;
 
-/// The style with the colours of a number of processes.
-pub(crate) fn style_of(alloc: Global, lanes: usize) -> Result<String, AllocError> {
-    let mut style = String::from_str(alloc, STYLE)?;
-    let mut pid: usize = 4;
-    for colour in COLOURS.iter().take(lanes) {
+/// Appends the style with the colours of a number of processes.
+pub(crate) fn push_style(style: &mut String, lanes: usize) -> Result<(), AllocError> {
+    style.push_str(STYLE)?;
+    for lane in 0..lanes.min(COLOURS.len()) {
+        let (pid, colour) = (lane + 4, COLOURS[lane]);
         write!(style, ".f{pid}{{fill:{colour}}}.s{pid}{{stroke:{colour}}}")?;
-        pid = pid.saturating_add(1);
     }
-    Ok(style)
+    Ok(())
 }
 
 /// What the head says of a run beside its numbers.
@@ -72,12 +72,12 @@ fn push_late(out: &mut String, tally: &Tally) -> Result<(), AllocError> {
     }
 }
 
-/// The numbers of a run in words: of a quiet transcript those alone that it tells.
-pub(crate) fn tally_text(
-    alloc: Global,
+/// Appends the numbers of a run in words: of a quiet transcript those alone that it tells.
+pub(crate) fn push_tally(
+    text: &mut String,
     tally: &Tally,
     told: &Told<'_>,
-) -> Result<String, AllocError> {
+) -> Result<(), AllocError> {
     let Tally {
         printed,
         sent,
@@ -85,20 +85,21 @@ pub(crate) fn tally_text(
         refused,
         ..
     } = *tally;
-    let mut text = String::new(alloc);
     if !told.is_quiet {
-        push_whole(&mut text, tally, told)?;
+        push_whole(text, tally, told)?;
     }
     write!(text, "bytes printed {printed}, frames sent {sent}")?;
     if !told.is_quiet {
         write!(text, ", lost {lost}, calls refused {refused}")?;
-        push_late(&mut text, tally)?;
+        push_late(text, tally)?;
     }
     match told.end {
-        Some(end) => write!(text, ", ends: {end}")?,
-        None => {}
+        Some(end) => {
+            text.push_str(", ends: ")?;
+            text.push_str(end)
+        }
+        None => Ok(()),
     }
-    Ok(text)
 }
 
 /// The name of each process over its lane, and a line of dots down to the end.
@@ -107,8 +108,8 @@ pub(crate) fn draw_lanes(pen: &mut Pen, page: &Page, names: &[&str]) -> Result<(
         let pid = lane.saturating_add(4);
         let left = page.lane_of(pid);
         let top = page.top.saturating_sub(12);
-        let number = format!(in pen.alloc; "{pid}")?;
-        pen.text("b c", Place { left, top }, number.as_str())?;
+        let mut digits = Buffer::new();
+        pen.text("b c", Place { left, top }, digits.format(pid))?;
         if let Some(name) = names.get(lane) {
             let top = page.top.saturating_sub(24);
             pen.text("b c", Place { left, top }, name)?;

@@ -8,8 +8,8 @@ ghost use Rattle.picture_svg.specs.Titles.{IsDrawn, ShowsRows, IsPicture};
 use crate::drawing::{draw_activations, draw_curves, draw_gifts, draw_lives, draw_words};
 use crate::grounds::grounds_of;
 use crate::head::{
-    Told, below, draw_difference, draw_ground, draw_head, draw_lanes, draw_legend, style_of,
-    tally_text,
+    Told, below, draw_difference, draw_ground, draw_head, draw_lanes, draw_legend, push_style,
+    push_tally,
 };
 use crate::markup::{Attribute, Content, Element, Tag};
 use crate::page::memory_columns::{draw_heap, draw_managed};
@@ -19,7 +19,7 @@ use crate::page::{Columns, Page};
 use crate::strip::{draw_strip, height_of};
 use crate::timer_lines::draw_timers;
 use picture_facts::marks::{Marks, marks_of};
-use picture_facts::memory::{Sizes, Stays};
+use picture_facts::memory::Sizes;
 use picture_facts::rows::{Row, Shown, rows_of, shown_of};
 use std::alloc::{AllocError, Global};
 use transcript_lines::{Ending, Line, read_line};
@@ -54,25 +54,16 @@ fn end_of(lines: &[&str]) -> &'static str {
     }
 }
 
-/// The columns that the memory of a run takes.
-fn columns_of(stays: &Stays) -> Columns {
-    Columns::new(
-        !stays.managed.is_empty(),
-        !stays.heap.is_empty(),
-        Pools::of(stays.used.as_slice()).count(),
-    )
-}
-
 /// The places of the parts of a picture with these rows, whose overview begins there.
 fn page_of(rows: &[Row], marks: &Marks, names: usize, strip: usize) -> Page {
     let lanes = names.max(marks.processes.saturating_sub(4)).min(16);
-    Page::new(
-        lanes,
-        rows.len(),
-        strip,
-        height_of(lanes),
-        columns_of(&marks.stays),
-    )
+    let stays = &marks.stays;
+    let columns = Columns::new(
+        !stays.managed.is_empty(),
+        !stays.heap.is_empty(),
+        Pools::of(stays.used.as_slice()).count(),
+    );
+    Page::new(lanes, rows.len(), strip, height_of(lanes), columns)
 }
 
 /// What a picture is drawn from: what its rows show together, the words above them, and the positions of its parts.
@@ -99,16 +90,6 @@ fn told_of<'a>(lines: &[&str], shown: Shown, marks: &Marks) -> Told<'a> {
     }
 }
 
-/// What stands above the picture.
-fn title_of(alloc: Global, title: &str, is_quiet: bool) -> Result<String, AllocError> {
-    let kind = if is_quiet {
-        " (a quiet transcript)"
-    } else {
-        ""
-    };
-    format!(in alloc; "{title}{kind}")
-}
-
 /// Draws the head, and answers where the overview may begin.
 fn draw_title(
     pen: &mut Pen,
@@ -116,8 +97,12 @@ fn draw_title(
     marks: &Marks,
     told: &Told<'_>,
 ) -> Result<usize, AllocError> {
-    let title = title_of(pen.alloc, settings.title, marks.is_quiet)?;
-    let tally = tally_text(pen.alloc, &marks.tally, told)?;
+    let mut title = String::from_str(pen.alloc, settings.title)?;
+    if marks.is_quiet {
+        title.push_str(" (a quiet transcript)")?;
+    }
+    let mut tally = String::new(pen.alloc);
+    push_tally(&mut tally, &marks.tally, told)?;
     let stays = &marks.stays;
     let top = draw_head(pen, title.as_str(), tally.as_str())?;
     let top = draw_difference(pen, "managed memory", stays.managed_differs, top)?;
@@ -142,17 +127,8 @@ fn layout_of(
     Ok(Layout { marks, head, page })
 }
 
-/// Draws what happens in the lanes.
-fn draw_marks(pen: &mut Pen, page: &Page, marks: &Marks) -> Result<(), AllocError> {
-    draw_lives(pen, page, marks.lives.as_slice())?;
-    draw_timers(pen, page, marks.armings.as_slice(), marks.clocks.as_slice())?;
-    draw_activations(pen, page, marks.activations.as_slice())?;
-    draw_gifts(pen, page, marks.gifts.as_slice())?;
-    draw_curves(pen, page, marks.curves.as_slice())
-}
-
-/// Draws all that stands over the grounds of the rows, but for the head.
-fn draw_rest(
+/// Draws all that stands over the grounds of the rows.
+fn draw_over(
     pen: &mut Pen,
     layout: &Layout,
     lines: &[&str],
@@ -160,43 +136,29 @@ fn draw_rest(
     settings: &Settings<'_>,
 ) -> Result<(), AllocError> {
     let (marks, page) = (&layout.marks, &layout.page);
+    pen.content.append(&layout.head)?;
     draw_legend(pen, page, marks.is_quiet)?;
     draw_strip(pen, page, marks)?;
     draw_lanes(pen, page, settings.names)?;
-    draw_marks(pen, page, marks)?;
+    draw_lives(pen, page, marks.lives.as_slice())?;
+    draw_timers(pen, page, marks.armings.as_slice(), marks.clocks.as_slice())?;
+    draw_activations(pen, page, marks.activations.as_slice())?;
+    draw_gifts(pen, page, marks.gifts.as_slice())?;
+    draw_curves(pen, page, marks.curves.as_slice())?;
     draw_words(pen, page, lines, rows, marks)?;
-    draw_memory(pen, page, &marks.stays, settings.sizes)
-}
-
-/// All that stands over the grounds of the rows.
-fn draw_over(
-    alloc: Global,
-    layout: &Layout,
-    lines: &[&str],
-    rows: &[Row],
-    settings: &Settings<'_>,
-) -> Result<Content, AllocError> {
-    let mut pen = Pen::new(alloc);
-    pen.content.append(&layout.head)?;
-    draw_rest(&mut pen, layout, lines, rows, settings)?;
-    Ok(pen.content)
-}
-
-/// The columns of memory.
-fn draw_memory(pen: &mut Pen, page: &Page, stays: &Stays, sizes: Sizes) -> Result<(), AllocError> {
+    let (stays, sizes) = (&marks.stays, settings.sizes);
     draw_managed(pen, page, stays.managed.as_slice(), sizes.managed)?;
     draw_heap(pen, page, stays.heap.as_slice(), stays.most, sizes)?;
     draw_pools(pen, page, stays.used.as_slice(), stays.linked.as_slice())
 }
 
 /// The ground and the style of a picture.
-fn draw_behind(alloc: Global, page: &Page) -> Result<Content, AllocError> {
-    let mut pen = Pen::new(alloc);
-    let style = style_of(alloc, page.lanes)?;
-    pen.content
-        .hold(&Element::new(alloc, Tag::Style).saying(style.as_str())?)?;
-    draw_ground(&mut pen, page)?;
-    Ok(pen.content)
+fn draw_behind(pen: &mut Pen, page: &Page) -> Result<(), AllocError> {
+    let mut style = String::new(pen.alloc);
+    push_style(&mut style, page.lanes)?;
+    let style = Element::new(pen.alloc, Tag::Style).saying(style.as_str())?;
+    pen.content.hold(&style)?;
+    draw_ground(pen, page)
 }
 
 /// The element that a picture is, with nothing inside.
@@ -250,10 +212,12 @@ fn draw_rows(
     ensures shows_rows { IfOk result (λ picture. ShowsRows (bytes_of lines.now) rows.now picture.items) }
 {
     let page = &layout.page;
-    let behind = draw_behind(alloc, page)?;
     let grounds = grounds_of(alloc, page, lines, rows)?;
-    let over = draw_over(alloc, layout, lines, rows, settings)?;
-    document_of(alloc, page, &behind, &grounds, &over)
+    let mut behind = Pen::new(alloc);
+    draw_behind(&mut behind, page)?;
+    let mut over = Pen::new(alloc);
+    draw_over(&mut over, layout, lines, rows, settings)?;
+    document_of(alloc, page, &behind.content, &grounds, &over.content)
 }
 
 /// A picture: its text, and its height in units of a pixel.

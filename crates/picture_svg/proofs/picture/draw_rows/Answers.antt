@@ -10,9 +10,9 @@ pub returns-clause-shows_rows : goal.returns-clause-shows_rows
 returns-clause-shows_rows c =
     IfOk-weaker c.document_of.result _ _
     (λ picture drawn. record {
-      behind = c.in_ok-behind.behind;
+      behind = c.draw_behind.new.pen.content;
       grounds = c.in_ok-grounds.grounds;
-      over = c.in_ok-over.over;
+      over = c.draw_over.new.pen.content;
       are_grounds = c.in_ok-grounds.ensures;
       is_drawn = drawn;
     })
