@@ -1,5 +1,6 @@
 """The memory of a mote in plain lists, after docs/managed-memory.md, heap-memory.md and pools.md: the reply that each call must have."""
 
+import re
 from dataclasses import dataclass, field
 from typing import Callable
 
@@ -10,6 +11,7 @@ LARGEST_SPLINTER = 16
 USABLE = (12, 28, 60, 124)
 BLOCKS = 16
 MOST_READ = 64
+TURN = re.compile(r"(\d+) (\w+) (.*) -> (.*)")
 
 
 class Refused(Exception):
@@ -318,3 +320,21 @@ class Memory:
             return carry_out(pid, *values)
         except Refused as why:
             return f"refused {why.args[0]}"
+
+
+def wrong_lines(transcript: str, memory: Memory) -> list[str]:
+    """The replies to calls on memory that the replay doesn't have, each below its call."""
+    awaited: dict[str, tuple[str, str | None]] = {}
+    wrong = []
+    for line in transcript.splitlines():
+        turn = TURN.fullmatch(line)
+        if turn is None:
+            continue
+        process, origin, stimulus, call = turn.groups()
+        if origin == "answer":
+            asked, reply = awaited.pop(process)
+            if reply not in (None, stimulus):
+                wrong.append(f"{asked}\n{line}, and not {reply}")
+        if call not in ("wait", "exit"):
+            awaited[process] = line, memory.reply(int(process), call)
+    return wrong

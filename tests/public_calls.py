@@ -1,8 +1,12 @@
-"""Compares interface/public-calls.md with the sources: each public call and type that a list there names is declared in its crate, under
-exactly this signature. A list of a type's or trait's calls follows its name."""
+"""Compares interface/public-calls.md with the sources of its crates: each public call and type that a list there names is declared in its
+crate, under exactly this signature, and no other is public. A list of a type's or trait's calls follows its name.
+
+Public is what a public module declares, what lib.rt exports from another one, and the public methods of these types, wherever they are.
+"""
 
 import functools
 import re
+from collections import defaultdict
 from typing import Iterator, NamedTuple
 
 from tools import ROOT
@@ -15,12 +19,16 @@ ROW = re.compile(r"^- `([^`]+)`$", re.M)
 # What has methods: its kind, its name, and all between its braces.
 BLOCK = re.compile(r"^(?:pub )?(impl|trait)(?:<[^>\n]*>)? (\w+)(?:<[^>\n]*>)?[^{}\n]*\{\n(.*?)^\}", re.M | re.S)
 # A signature ends where a contract or a body begins.
-END = r"(?=\s+(?:requires|ensures)\b|\s*\{|;)"
+END = r"(?=\s+(?:requires|ensures)\b|\s*\{|;$)"
 METHOD = re.compile(rf"^    (pub )?(fn \w+.*?){END}", re.M | re.S)
 FUNCTION = re.compile(rf"^pub (fn \w+.*?){END}", re.M | re.S)
 ENUM = re.compile(r"^pub (enum \w+(?:<[^>\n]*>)? \{.*?^\})", re.M | re.S)
 STRUCT = re.compile(r"^pub (struct \w+)", re.M)
 NAMED = re.compile(r"^pub ((?:type|use) [^;]+);", re.M)
+# What names a declaration: `fn NAME`, `enum NAME`, `struct NAME`, `type NAME`.
+NAME = re.compile(r"(?:fn|enum|struct|type) (\w+)")
+TRAIT = re.compile(r"^pub trait (\w+)", re.M)
+MODULE = re.compile(r"^(pub )?mod (\w+);", re.M)
 COMMENT_OR_ATTRIBUTE = re.compile(r"//.*|^\s*#\[.*\]$", re.M)
 
 
@@ -36,7 +44,8 @@ def in_one_line(text: str) -> str:
     """A signature in one line, with no blank or comma that only its layout has."""
     text = " ".join(text.split())
     text = re.sub(r"([(<]) ", r"\1", text)
-    return re.sub(r",? ([)>}])", lambda end: end[1] if end[1] != "}" else " }", text)
+    text = re.sub(r",? ([)>}])", lambda end: end[1] if end[1] != "}" else " }", text)
+    return re.sub(r"::\{ (.*) \}$", r"::{\1}", text)
 
 
 def declared(source: str) -> Iterator[tuple[str, str]]:
@@ -51,11 +60,49 @@ def declared(source: str) -> Iterator[tuple[str, str]]:
             yield "", in_one_line(signature)
 
 
+def sources_of(crate: str) -> dict[str, str]:
+    """The sources of a crate, by the names of their modules; a module within another one counts as that one."""
+    folder = ROOT / "crates" / crate / "src"
+    found: dict[str, str] = defaultdict(str)
+    for path in folder.glob("**/*.rt"):
+        found[path.relative_to(folder).parts[0].removesuffix(".rt")] += path.read_text(encoding="utf-8")
+    return found
+
+
 @functools.lru_cache(maxsize=None)
 def declared_in(crate: str) -> set[tuple[str, str]]:
-    found: set[tuple[str, str]] = set()
-    for path in (ROOT / "crates" / crate / "src").glob("**/*.rt"):
-        found.update(declared(path.read_text(encoding="utf-8")))
+    return {row for source in sources_of(crate).values() for row in declared(source)}
+
+
+def names_in(source: str) -> set[str]:
+    """The public functions, types and traits that a source declares."""
+    found = {name[1] for owner, signature in declared(source) if not owner and (name := NAME.match(signature))}
+    return found | set(TRAIT.findall(source))
+
+
+def exported(signature: str) -> tuple[str, list[str]]:
+    """The module or crate that `use MODULE::..::NAME` or `use MODULE::{NAME, NAME}` names, and the names."""
+    path = signature.removeprefix("use ")
+    names = path.partition("{")[2].strip(" }") or path.rpartition("::")[2]
+    return path.partition("::")[0], names.split(", ")
+
+
+def public_in(crate: str) -> set[tuple[str, str]]:
+    """The public calls and types of a crate, and what it exports of others."""
+    sources = sources_of(crate)
+    modules = {name: bool(is_public) for is_public, name in MODULE.findall(sources["lib"])}
+    public = {name for module, is_public in modules.items() if is_public for name in names_in(sources[module])}
+    found = set()
+    for _, signature in declared(sources["lib"]):
+        module, names = exported(signature)
+        if module in modules:
+            public.update(names)
+        else:
+            found.add(("", signature))
+    for owner, signature in declared_in(crate):
+        name = NAME.match(signature)
+        if owner in public if owner else name and name[1] in public:
+            found.add((owner, signature))
     return found
 
 
@@ -69,10 +116,21 @@ def missing(rows: list[Row]) -> list[Row]:
     return [row for row in rows if (row.owner, in_one_line(row.signature)) not in declared_in(row.crate)]
 
 
+def unlisted(rows: list[Row]) -> list[Row]:
+    listed = {(row.crate, row.owner, in_one_line(row.signature)) for row in rows}
+    crates = dict.fromkeys(row.crate for row in rows)
+    return [Row(crate, *found) for crate in crates for found in sorted(public_in(crate)) if (crate, *found) not in listed]
+
+
+def told(row: Row) -> str:
+    return f"{row.owner + ': ' if row.owner else ''}{row.signature}"
+
+
 def faults() -> list[str]:
-    """What is wrong with the page, one line each: a row that the sources don't declare, or that it has no rows at all."""
+    """What is wrong with the page, one line each: a row that the sources don't declare, what is public and has no row, or that it has no
+    rows at all."""
     text = PAGE.read_text(encoding="utf-8")
     rows = rows_of(text)
     if not rows or len(rows) != len(ROW.findall(text)):
         return ["not every row is in a list of a crate"]
-    return [f"{row.crate} has no {row.owner + ': ' if row.owner else ''}{row.signature}" for row in missing(rows)]
+    return [*(f"{row.crate} has no {told(row)}" for row in missing(rows)), *(f"no row: {row.crate}, {told(row)}" for row in unlisted(rows))]

@@ -7,7 +7,7 @@ from pathlib import Path
 import pytest
 
 from call_rules import CALLS
-from plain_memory import Memory
+from plain_memory import Memory, wrong_lines
 from random_calls import random_call
 from run_laws import broken_laws
 from tools import succeed, told
@@ -23,7 +23,6 @@ ON_MEMORY = [rule for name, rule in CALLS.items() if name.startswith(("mmem-", "
 ALLOCATING = [CALLS[name] for name in ("mmem-alloc", "heap-alloc", "memb-alloc", "list-add")]
 OTHERS = [rule for name, rule in CALLS.items() if rule not in ON_MEMORY and name not in ("wait", "exit", "kill")]
 ENDING = [CALLS[name] for name in ("wait", "exit", "kill")]
-TURN = re.compile(r"(\d+) (\w+) (.*) -> (.*)")
 
 
 def random_sizes(chance: random.Random) -> dict[str, int]:
@@ -46,24 +45,6 @@ def scenario_of(seed: int) -> tuple[str, dict[str, int]]:
     lists = ("calls " + ", ".join(busy_call(chance) for _ in range(LONGEST_LIST)) for _ in range(APPLICATIONS))
     lines = [f"== {seed}", *(f"{name} {size}" for name, size in sizes.items()), *lists, "times 20 tick 7"]
     return "\n".join(lines) + "\n", sizes
-
-
-def wrong_lines(transcript: str, memory: Memory) -> list[str]:
-    """The replies to calls on memory that the replay doesn't have, each below its call."""
-    awaited: dict[str, tuple[str, str | None]] = {}
-    wrong = []
-    for line in transcript.splitlines():
-        turn = TURN.fullmatch(line)
-        if turn is None:
-            continue
-        process, origin, stimulus, call = turn.groups()
-        if origin == "answer":
-            asked, reply = awaited.pop(process)
-            if reply not in (None, stimulus):
-                wrong.append(f"{asked}\n{line}, and not {reply}")
-        if call not in ("wait", "exit"):
-            awaited[process] = line, memory.reply(int(process), call)
-    return wrong
 
 
 @pytest.mark.parametrize("first", range(0, RUNS, PART))

@@ -5,9 +5,7 @@ use Rattle.std.proofs.Math.Seq.{take-append-add, drop-append-add}
 use Rattle.std.proofs.lemmas.Slice.{drop-put_mid}
 use borrow.Rule.Slice.PartMut.{put_mid}
 use Rattle.arena_core.specs.Code.Written.{written}
-
-pub length-written : (xs : List ℕ) (at : ℕ) (ws : List ℕ) → length (written xs at ws) ≡ length xs
-length-written xs at ws = grind (arith, length-take, length-append, length-drop)
+pub use Rattle.arena_core.specs.Code.Lending.{length-written}
 
 -- if ws fits, it is between the bytes before and after the range
 module _ (xs : List ℕ) (at : ℕ) (ws : List ℕ) (fits : at + length ws ≤ length xs) where

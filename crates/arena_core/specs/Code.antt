@@ -2,6 +2,7 @@
 pub mod ArenaLending
 pub mod Contents
 pub mod Extents
+pub mod Lending
 pub mod Outside
-pub mod PairLending
+pub mod Ownership
 pub mod Written

@@ -7,36 +7,37 @@ ghost use Rattle.arena_core.specs.Code.Contents.{contents};
 ghost use Rattle.arena_core.specs.Code.Written.{written};
 ghost use mir.Syntax.{w32};
 
+use crate::block::Block;
 use crate::bytes::{fill_bytes, put_bytes, slide_bytes, word_of};
-use crate::pair::pair_mut;
 use crate::span::Span;
 use std::alloc::{AllocError, Global};
 use std::marker::Model;
+use std::slice;
 
 /// One block of memory that contracts see as a list of bytes. A prefix of it is handed out.
 ///
 /// The bytes keep their address and number until the arena is dropped; then the block is freed. That all memory of the
 /// mote is in one block is this project's profile (Contiki-NG has a static array for each pool and heap).
-#[derive(Drop)]
 pub struct Arena {
-    block: Vec<u8>,
+    block: Block,
+    alloc: Global,
     size: u32,
     carved: u32,
 }
 
 impl Model for Arena {
-    ghost use Rattle.std.specs.Prelude.{◌≡◌, ◌≤◌, vec_len};
+    ghost use Rattle.std.specs.Prelude.{◌≡◌, ◌≤◌, length};
     ghost use Rattle.arena_core.specs.Code.Contents.{Contents, contents};
 
     ghost Value = { Contents };
 
-    ghost view = { λ a. contents a.block.items a.carved };
+    ghost view = { λ a. contents a.block.bytes a.carved };
 
-    ghost invariant = { λ a. (a.size ≡ vec_len a.block) × (a.carved ≤ a.size) };
+    ghost invariant = { λ a. (a.size ≡ length a.block.bytes) × (a.carved ≤ a.size) };
 }
 
 impl Arena {
-    ghost use Rattle.arena_core.specs.Code.ArenaLending.{lends_bytes};
+    ghost use Rattle.arena_core.specs.Code.ArenaLending.{lends_bytes, lends_pair};
 
     /// An arena of `size` bytes, all 0, of which none is handed out.
     ///
@@ -46,9 +47,10 @@ impl Arena {
         requires { 1 ≤ size }
         ensures { IfOk result (λ arena. arena ≡ contents (replicate size 0) 0) }
     {
-        let block = vec![in alloc; 0; size as usize]?;
+        let block = Block::new(&alloc, size as usize)?;
         Ok(Arena {
             block,
+            alloc,
             size,
             carved: 0,
         })
@@ -75,7 +77,7 @@ impl Arena {
         requires { span.at + span.len ≤ length self.now.bytes }
         ensures { result.now ≡ slice_range self.now.bytes span.at (span.at + span.len) }
     {
-        &self.block[span.at as usize..(span.at + span.len) as usize]
+        self.block.bytes(span.at as usize, span.len as usize)
     }
 
     /// Lends a range for writing. Once that ends, the range has what was last written, and no other byte changed.
@@ -84,18 +86,25 @@ impl Arena {
         ensures* writes_back { sem 𝓛 (lends_bytes self.entry span.at result) }
         ensures value { result.now ≡ slice_range self.old.bytes span.at (span.at + span.len) }
     {
-        let at = span.at as usize;
-        self.block.slice_mut(at..at + span.len as usize)
+        self.block.bytes_mut(span.at as usize, span.len as usize)
     }
 
-    /// Lends all bytes for writing. Once that ends, they are what was last written.
-    pub fn all_mut(&mut self) -> &mut [u8]
-        ensures* writes_back { sem 𝓛 (lends_bytes self.entry 0 result) }
-        ensures value { result.now ≡ self.old.bytes }
-        ensures few { length self.old.bytes < 2 ^ 32 }
-        ensures whole { (ws : List ℕ) → length ws ≡ length self.old.bytes → written self.old.bytes 0 ws ≡ ws }
+    /// Lends two ranges that do not meet, for writing at once. Once that ends, each has what was last written, and no other
+    /// byte changed.
+    pub fn pair_mut(&mut self, a: Span, b: Span) -> (&mut [u8], &mut [u8])
+        requires first { a.at + a.len ≤ length self.old.bytes }
+        requires second { b.at + b.len ≤ length self.old.bytes }
+        requires disjoint { (a.at + a.len ≤ b.at) ⊎ (b.at + b.len ≤ a.at) }
+        ensures* writes_back { sem 𝓛 (lends_pair self.entry a.at b.at result) }
+        ensures first { result.0.now ≡ slice_range self.old.bytes a.at (a.at + a.len) }
+        ensures second { result.1.now ≡ slice_range self.old.bytes b.at (b.at + b.len) }
     {
-        &mut self.block
+        unsafe {
+            (
+                slice::from_raw_parts_mut(self.block.ptr.add(a.at as usize), a.len as usize),
+                slice::from_raw_parts_mut(self.block.ptr.add(b.at as usize), b.len as usize),
+            )
+        }
     }
 
     /// Writes one byte over a whole range.
@@ -115,8 +124,9 @@ impl Arena {
             self.old.carved }
         ensures size { length self.new.bytes ≡ length self.old.bytes }
     {
+        let size = self.size as usize;
         slide_bytes(
-            self.all_mut(),
+            self.block.bytes_mut(0, size),
             source as usize,
             target as usize,
             len as usize,
@@ -132,12 +142,7 @@ impl Arena {
             self.old.carved }
         ensures size { length self.new.bytes ≡ length self.old.bytes }
     {
-        let (from, to) = pair_mut(
-            self.all_mut(),
-            Span { at: source, len },
-            Span { at: target, len },
-        );
-        to.copy_from_slice(from);
+        self.slide(source, target, len);
     }
 
     /// The number in the 4 bytes from `at` on, the low byte first.
@@ -145,7 +150,7 @@ impl Arena {
         requires { at + 4 ≤ length self.now.bytes }
         ensures { result ≡ from_le_bytes w32 (slice_range self.now.bytes at (at + 4)) }
     {
-        word_of(&self.block[at as usize..at as usize + 4])
+        word_of(self.block.bytes(at as usize, 4))
     }
 
     /// Writes a number into the 4 bytes from `at` on, the low byte first.
@@ -154,6 +159,18 @@ impl Arena {
         ensures bytes { self.new ≡ contents (written self.old.bytes at (to_le_bytes w32 word)) self.old.carved }
         ensures size { length self.new.bytes ≡ length self.old.bytes }
     {
-        put_bytes(&mut self.block[at as usize..at as usize + 4], word);
+        put_bytes(self.block.bytes_mut(at as usize, 4), word);
+    }
+}
+
+impl Drop for Arena {
+    fn drop(self) {
+        let Arena {
+            block,
+            alloc,
+            size: _,
+            carved: _,
+        } = self;
+        block.free(&alloc);
     }
 }

@@ -1,13 +1,12 @@
-//! The arena: one block of bytes, read and written by ranges.
+//! The arena: one raw block of bytes, read and written by ranges.
 //!
-//! Everything above sees a list of bytes. Its only raw pointers are those of `pair_mut`.
+//! Everything above sees a list of bytes. Raw pointers are in `block.rt` and `Arena::pair_mut`.
 #![tactic(auto)]
 
 mod arena;
+mod block;
 mod bytes;
-mod pair;
 mod span;
 
 pub use arena::Arena;
-pub use pair::pair_mut;
 pub use span::Span;

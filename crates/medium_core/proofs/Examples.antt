@@ -1,13 +1,13 @@
 -- Worked examples: the generator, what is lost, the order of arrival, room, and what breaks a law.
-use Rattle.std.proofs.Common.{◌≡◌, ℕ, ◌+◌, true, false, List, [], ◌∷◌, map, refl, ap, None, Some}
+use Rattle.std.proofs.Common.{◌≡◌, ℕ, ◌+◌, ◌≤◌, true, false, List, [], ◌∷◌, length, map, refl, ap, arith, None, Some}
 use Rattle.arrayvec.specs.ArrayVec.{ArrayVec}
 use Rattle.medium_core.specs.declared.flight.Flight.{Flight}
 use Rattle.medium_core.specs.declared.link.Fate.{Fate}
 use Rattle.medium_core.specs.declared.link.Link.{Link}
 use Rattle.medium_core.specs.declared.link.Loss.{Loss}
 use Rattle.medium_core.specs.Air.{are_links, arrival, gone_on, landed, links_from, sent, still_air}
-use Rattle.medium_core.specs.Flights.{with_flights}
-use Rattle.medium_core.specs.Laws.{Deed, Frame, all_done, but_every_nth, carried, flights_landed, landings, over, sent_by, through}
+use Rattle.medium_core.specs.Flights.{IsSeenAs, with_flights}
+use Rattle.medium_core.specs.Laws.{Deed, Frame, KeepsFaith, LosesEveryNth, all_done, but_every_nth, carried, flights_landed, landings, over, sent_by, through}
 use Rattle.medium_core.specs.Links.{after_frame, fate, free_after, is_link, is_lost, next_draw}
 
 abbrev link : ℕ → ℕ → Loss → Link
@@ -128,3 +128,26 @@ second_lost : (but_every_nth 2 1 three_sent ≡ record { at = 0; bytes = frame 5
     × (through (link 1 3 (Loss.EveryNth 2 1)) three_sent ≡ record { at = 0; bytes = frame 5; free = 8 } ∷ [])
     × (through (link 1 3 (Loss.EveryNth 2 0)) three_sent ≡ record { at = 1; bytes = frame 6; free = 8 } ∷ [])
 second_lost = (refl, refl, refl)
+
+-- ---- each field of the laws holds what it says
+
+-- with room for one there is never more than one in flight
+at_most_one : KeepsFaith 1 pair deeds → length (all_done deeds (still_air 1 pair)).flights ≤ 1
+at_most_one law = law.within
+
+-- `every 1` loses each frame
+each_lost : LosesEveryNth 1 (link 1 3 (Loss.EveryNth 1 0)) three_sent → through (link 1 3 (Loss.EveryNth 1 0)) three_sent ≡ []
+each_lost law = law (omega arith) refl
+
+-- a receiver sees the moment, the sender, itself and the bytes of a flight, no others
+seen_later : IsSeenAs 4 0 1 (frame 5) (over_first 0 5) → ⊥
+seen_later seen = let e = seen.is_due in absurd (cc)
+
+seen_from_another : IsSeenAs 3 1 1 (frame 5) (over_first 0 5) → ⊥
+seen_from_another seen = let e = seen.is_of in absurd (cc)
+
+seen_for_another : IsSeenAs 3 0 2 (frame 5) (over_first 0 5) → ⊥
+seen_for_another seen = let e = seen.is_for in absurd (cc)
+
+seen_of_other_bytes : IsSeenAs 3 0 1 (frame 6) (over_first 0 5) → ⊥
+seen_of_other_bytes seen = let e = ap (λ (v : ArrayVec ℕ). v.items) seen.holds in absurd (cc)

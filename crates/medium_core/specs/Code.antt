@@ -1,3 +1,4 @@
 -- The code's invariants.
 pub mod Airs
+pub mod Heap
 pub mod Queue

@@ -1,10 +1,13 @@
 //! The frames in flight, in the order of their arrival.
 
-ghost use Rattle.std.specs.Prelude.{◌≡◌, ◌≤◌, ◌<◌, ◌-◌, [], ◌∷◌, IfNone, IfSome, IfOk, IsSomeAnd, None, drop, insert, length};
-ghost use Rattle.medium_core.specs.Code.Queue.{InOrder};
-ghost use Rattle.medium_core.specs.Flights.{IsSeenAs, first_flight, next_due, with_flight};
+ghost use Rattle.std.specs.Prelude.{◌≡◌, ◌≤◌, ◌<◌, ◌+◌, ◌-◌, [], ◌∷◌, IfNone, IfSome, IfOk, IsSomeAnd, None, Some, drop, insert, length};
+ghost use Rattle.std.specs.VecDeque.{deque_capacity};
+ghost use Rattle.medium_core.specs.Code.Heap.{Pile};
+ghost use Rattle.medium_core.specs.Code.Queue.{InOrder, is_overtaken, last_due};
+ghost use Rattle.medium_core.specs.Flights.{IsSeenAs, first_flight, next_due, with_flight, with_flights};
 
 use crate::flight::Flight;
+use crate::flight_heap::FlightHeap;
 use arrayvec::ArrayVec;
 use std::alloc::{AllocError, Global};
 use std::collections::VecDeque;
@@ -22,14 +25,7 @@ pub struct Arriving<'a> {
     pub bytes: &'a ArrayVec<u8, 127>,
 }
 
-/// The frames in flight, and room for `room` of them, which is allocated once.
-#[derive(Drop)]
-pub(crate) struct Flights {
-    queue: VecDeque<Flight>,
-    room: usize,
-}
-
-/// The position after all that arrive no later than `due`. It is searched from the back: with few different delays that is short.
+/// The position after all that arrive no later than `due`.
 fn position_after(queue: &VecDeque<Flight>, due: u64) -> usize
     requires { InOrder queue.now.items }
     ensures bound { result ≤ length queue.now.items }
@@ -46,15 +42,88 @@ fn position_after(queue: &VecDeque<Flight>, due: u64) -> usize
     0
 }
 
+/// Adds one, after all that arrive no later.
+fn insert_in_order(queue: &mut VecDeque<Flight>, flight: Flight)
+    requires order { InOrder queue.old.items }
+    requires room { length queue.old.items < deque_capacity queue.old }
+    ensures items { queue.new.items ≡ with_flight flight queue.old.items }
+    ensures capacity { deque_capacity queue.old ≤ deque_capacity queue.new }
+{
+    let at = position_after(queue, flight.due);
+    let _ = queue.insert(at, flight);
+}
+
+/// Moves all of the heap into the queue.
+fn empty_heap(queue: &mut VecDeque<Flight>, heap: &mut FlightHeap)
+    requires order { InOrder queue.old.items }
+    requires room { length heap.old.flights + length queue.old.items ≤ deque_capacity queue.old }
+    ensures items { queue.new.items ≡ with_flights heap.old.flights queue.old.items }
+    ensures empty { heap.new.flights ≡ [] }
+    ensures capacity { deque_capacity queue.old ≤ deque_capacity queue.new }
+    ensures room { heap.new.room ≡ heap.old.room }
+{
+    while let Some(flight) = heap.take_next() {
+        insert_in_order(queue, flight);
+    }
+}
+
+/// When the last one arrives; 0 where there is none.
+fn last_arrival(queue: &VecDeque<Flight>) -> u64
+    ensures { result ≡ last_due 0 queue.now.items }
+{
+    match queue.back() {
+        Some(last) => last.due,
+        None => 0,
+    }
+}
+
+/// Whether one of the heap arrives before all of the queue.
+fn overtakes(heap: &FlightHeap, queue: &VecDeque<Flight>) -> bool
+    ensures { result ≡ is_overtaken heap.now.flights queue.now.items }
+{
+    let Some(overtaking) = heap.first() else {
+        return false;
+    };
+    match queue.front() {
+        Some(first) => overtaking.due < first.due,
+        None => true,
+    }
+}
+
+/// The one of both that arrives next.
+fn first_of<'a>(heap: &'a FlightHeap, queue: &'a VecDeque<Flight>) -> Option<&'a Flight>
+    requires { InOrder heap.now.flights }
+    ensures some { IfSome result (λ flight. first_flight (with_flights heap.now.flights queue.now.items) ≡ Some flight.now) }
+    ensures none { IfNone result (with_flights heap.now.flights queue.now.items ≡ []) }
+{
+    if overtakes(heap, queue) {
+        heap.first()
+    } else {
+        queue.front()
+    }
+}
+
+/// The frames in flight, and room for `room` of them, which is allocated once.
+///
+/// Where all delays are alike, each frame arrives after those that were sent before it, and goes to the end of the queue. Only one
+/// that overtakes the last of the queue goes into the heap.
+#[derive(Drop)]
+pub(crate) struct Flights {
+    queue: VecDeque<Flight>,
+    overtaking: FlightHeap,
+    room: usize,
+}
+
 impl Model for Flights {
     ghost use Rattle.medium_core.specs.Code.Queue.{HasRoom, Queue};
+    ghost use Rattle.medium_core.specs.Flights.{with_flights};
     ghost use Rattle.std.specs.VecDeque.{deque_capacity};
 
     ghost Value = { Queue };
 
-    ghost view = { λ f. record { room = f.room; flights = f.queue.items } };
+    ghost view = { λ f. record { room = f.room; flights = with_flights f.overtaking.flights f.queue.items } };
 
-    ghost invariant = { λ f. HasRoom f.room (deque_capacity f.queue) f.queue.items };
+    ghost invariant = { λ f. HasRoom f.room (deque_capacity f.queue) f.overtaking f.queue.items };
 }
 
 impl Flights {
@@ -63,14 +132,19 @@ impl Flights {
         ensures { IfOk result (λ flights. (flights.room ≡ room) × (flights.flights ≡ [])) }
     {
         let queue = VecDeque::with_capacity(alloc, room)?;
-        Ok(Flights { queue, room })
+        let overtaking = FlightHeap::new(alloc, room)?;
+        Ok(Flights {
+            queue,
+            overtaking,
+            room,
+        })
     }
 
     /// The number of further frames that find room.
     pub(crate) fn free(&self) -> usize
         ensures { result ≡ self.now.room - length self.now.flights }
     {
-        self.room - self.queue.len()
+        self.room - self.overtaking.len() - self.queue.len()
     }
 
     /// Adds one, after all that arrive no later.
@@ -78,15 +152,22 @@ impl Flights {
         requires { length self.old.flights < self.old.room }
         ensures { self.new ≡ record self.old { flights = with_flight flight self.old.flights } }
     {
-        let at = position_after(&self.queue, flight.due);
-        let _ = self.queue.insert(at, flight);
+        if last_arrival(&self.queue) <= flight.due {
+            self.queue.push_back_reserved(flight);
+        } else if self.overtaking.number() < u64::MAX {
+            self.overtaking.add(flight);
+        } else {
+            // The heap has no number for it: from now on such a frame goes into the queue.
+            empty_heap(&mut self.queue, &mut self.overtaking);
+            insert_in_order(&mut self.queue, flight);
+        }
     }
 
     /// When the next one arrives, if any is in flight.
     pub(crate) fn next_due(&self) -> Option<u64>
         ensures { result ≡ next_due self.now.flights }
     {
-        match self.queue.front() {
+        match first_of(&self.overtaking, &self.queue) {
             Some(flight) => Some(flight.due),
             None => None,
         }
@@ -97,7 +178,7 @@ impl Flights {
         ensures some { IfSome result (λ next. IsSomeAnd (first_flight self.now.flights) (IsSeenAs next.due next.from next.to next.bytes.now)) }
         ensures none { IfNone result (first_flight self.now.flights ≡ None) }
     {
-        match self.queue.front() {
+        match first_of(&self.overtaking, &self.queue) {
             Some(flight) => Some(Arriving {
                 due: flight.due,
                 from: flight.from,
@@ -116,6 +197,10 @@ impl Flights {
         ensures empty { IfNone result (self.new.flights ≡ []) }
         ensures room { self.new.room ≡ self.old.room }
     {
-        self.queue.pop_front()
+        if overtakes(&self.overtaking, &self.queue) {
+            self.overtaking.take_next()
+        } else {
+            self.queue.pop_front()
+        }
     }
 }

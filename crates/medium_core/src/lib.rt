@@ -5,9 +5,11 @@
 
 pub mod fault;
 pub mod flight;
+mod flight_heap;
 mod flights;
 pub mod laws;
 pub mod link;
 pub mod medium;
+mod numbered;
 
 pub use flights::Arriving;

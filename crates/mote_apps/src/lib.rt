@@ -4,6 +4,7 @@
 pub mod blink;
 pub mod bundled;
 mod calls;
+pub mod chaos;
 pub mod churn;
 pub mod echo;
 pub mod hello;

@@ -1,6 +1,6 @@
 //! The page of a run: one HTML file in which the run's transcript stands as data, beside a script that lays it out.
 //!
-//! The files of `web/` are the page without its data; `src/page/template` is made of them by `scripts/page-template`.
+//! The files of `crates/mote_picture/web` are the page without its data; `src/page/template` is made of them by `scripts/page-template`.
 
 ghost use Rattle.std.specs.Prelude.{◌≡◌, ◌-◌, ◌++◌, string_bytes, IfOk};
 ghost use Rattle.mote_picture.specs.Page as spec;

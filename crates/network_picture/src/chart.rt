@@ -4,12 +4,13 @@ ghost use Rattle.std.specs.Prelude.{◌≡◌, IfOk};
 ghost use Rattle.picture_svg.specs.Markup.{IsDocument};
 
 use crate::flying::{draw_flights, draw_outside};
+use crate::names::name_of;
 use crate::options::Wish;
-use crate::place::{CLOCK, Layout, MOST_LANES, ROW};
+use crate::place::{CHARACTER, CLOCK, Layout, MOST_LANES, MOTES, ROW, ROWS_TO_HEAD};
 use crate::reading::Run;
-use crate::rows::{MOST_ROWS, Rows};
+use crate::rows::{MOST_ROWS, Row, Rows};
 use crate::style::STYLE;
-use crate::words::{Words, clipped, words_of};
+use crate::words::{Words, clipped, lane_of, length_of, words_of};
 use network_facts::{Fate, Flights, Link, NetworkLine, flights_of};
 use picture_svg::markup::{Attribute, Content, Element, Tag};
 use picture_svg::page::pen::{Area, Pen, Place};
@@ -75,7 +76,7 @@ struct Chart {
 impl Chart {
     fn of(alloc: Global, run: &Run<'_>, wish: Wish) -> Result<Self, AllocError> {
         let lines = run.lines.as_slice();
-        let rows = Rows::of(alloc, lines, wish)?;
+        let rows = Rows::of(alloc, lines, run.texts.as_slice(), wish)?;
         let motes = motes_of(lines, run.links.as_slice());
         Ok(Chart {
             layout: Layout::new(motes, rows.count()),
@@ -154,24 +155,62 @@ fn draw_head(pen: &mut Pen, chart: &Chart, run: &Run<'_>) -> Result<(), AllocErr
     )
 }
 
-/// Draws the lanes.
-fn draw_lanes(pen: &mut Pen, layout: &Layout) -> Result<(), AllocError> {
-    let (top, bottom) = (layout.top_of(0), layout.top_of(layout.rows));
-    let place = Place {
-        left: CLOCK,
-        top: top.saturating_sub(8),
-    };
-    pen.text("g e", place, "clock")?;
+/// Draws the numbers of all motes at their lanes.
+fn draw_numbers(pen: &mut Pen, layout: &Layout, top: usize) -> Result<(), AllocError> {
     for before in 0..layout.lanes {
         let mote = (before as u64).saturating_add(1);
         let left = layout.left_of(mote);
-        let name = format!(in pen.alloc; "{mote}")?;
-        let top = top.saturating_sub(8);
-        pen.text("b c", Place { left, top }, name.as_str())?;
-        let commands = format!(in pen.alloc; "M{left},{}V{bottom}", layout.top_of(0))?;
-        pen.line("d", commands.as_str(), "")?;
+        let number = format!(in pen.alloc; "{mote}")?;
+        pen.text("b c", Place { left, top }, number.as_str())?;
     }
     Ok(())
+}
+
+/// Draws what the motes run, below their numbers.
+fn draw_names(pen: &mut Pen, layout: &Layout, run: &Run<'_>) -> Result<(), AllocError> {
+    let top = layout.top_of(0).saturating_sub(8);
+    for before in 0..layout.lanes {
+        let mote = (before as u64).saturating_add(1);
+        let left = layout.left_of(mote);
+        let name = name_of(run.names.as_slice(), mote);
+        let name = clipped(pen.alloc, name, layout.characters().saturating_sub(1))?;
+        pen.text("g c", Place { left, top }, name.as_str())?;
+    }
+    Ok(())
+}
+
+/// Draws the lanes, with a line of numbers above the first row and before each fiftieth one.
+fn draw_lanes(pen: &mut Pen, layout: &Layout, run: &Run<'_>) -> Result<(), AllocError> {
+    let (first, bottom) = (layout.top_of(0), layout.top_of(layout.rows));
+    for before in 0..layout.lanes {
+        let left = layout.left_of((before as u64).saturating_add(1));
+        let commands = format!(in pen.alloc; "M{left},{first}V{bottom}")?;
+        pen.line("d", commands.as_str(), "")?;
+    }
+    let top = first.saturating_sub(21);
+    pen.text("g e", Place { left: CLOCK, top }, "clock")?;
+    pen.text("g e", Place { left: MOTES, top }, "mote")?;
+    draw_numbers(pen, layout, top)?;
+    draw_names(pen, layout, run)?;
+    for head in 1..=layout.rows / ROWS_TO_HEAD {
+        draw_head_again(pen, layout, head.saturating_mul(ROWS_TO_HEAD))?;
+    }
+    Ok(())
+}
+
+/// Draws the line of numbers before a row.
+fn draw_head_again(pen: &mut Pen, layout: &Layout, row: usize) -> Result<(), AllocError> {
+    let below = layout.top_of(row);
+    let area = Area {
+        place: Place {
+            left: LEFT,
+            top: below.saturating_sub(ROW),
+        },
+        width: layout.width().saturating_sub(2 * LEFT),
+        height: ROW,
+    };
+    pen.area("m", area, "")?;
+    draw_numbers(pen, layout, below.saturating_sub(5))
 }
 
 /// Draws the clock before the first row of a moment.
@@ -182,27 +221,20 @@ fn draw_clock(pen: &mut Pen, layout: &Layout, at: usize, clock: u64) -> Result<(
     let text = format!(in pen.alloc; "{clock}")?;
     let place = Place {
         left: CLOCK,
-        top: top.saturating_add(ROW - 5),
+        top: layout.words_of(at),
     };
     pen.text("e", place, text.as_str())
 }
 
-/// What is drawn of a row: its words are above the frames, its area below them, so that one can point at a frame.
-#[derive(Clone, Copy, Drop)]
-enum Layer {
-    Area,
-    Words,
-}
-
-/// Draws the area of a row, with the whole line as its title, and the dot of its mote.
+/// Draws the area of a line in its row, with the whole line as its title.
 fn draw_area(
     pen: &mut Pen,
     layout: &Layout,
     at: usize,
-    words: &Words,
+    line: &NetworkLine<'_>,
     text: &str,
 ) -> Result<(), AllocError> {
-    let left = layout.left_of(words.mote.unwrap_or(1));
+    let left = layout.left_of(lane_of(line));
     let area = Area {
         place: Place {
             left: left.saturating_sub(3),
@@ -211,49 +243,86 @@ fn draw_area(
         width: layout.lane.saturating_sub(8),
         height: ROW,
     };
-    pen.area("t", area, text)?;
-    if words.mote.is_some() {
-        draw_dot(pen, left, layout.middle_of(at))?;
-    }
-    Ok(())
+    pen.area("t", area, text)
 }
 
-/// Draws the words of a row, as many characters as the lane has room for.
+/// Draws words where the row has room for them: after the lane of their mote, or before it if there is more room.
 fn draw_words(pen: &mut Pen, layout: &Layout, at: usize, words: &Words) -> Result<(), AllocError> {
-    let short = clipped(pen.alloc, words.text.as_str(), layout.characters())?;
-    let left = layout.left_of(words.mote.unwrap_or(1));
-    let place = Place {
-        left: left.saturating_add(if words.has_cross { 18 } else { 14 }),
-        top: layout.top_of(at).saturating_add(ROW - 5),
+    let lane = layout.left_of(words.mote.unwrap_or(1));
+    let after = lane.saturating_add(if words.has_cross { 18 } else { 14 });
+    let before = lane.saturating_sub(14);
+    let (room, other) = (
+        layout.characters_after(after),
+        layout.characters_before(before),
+    );
+    let is_before = room < length_of(words.text.as_str()) && room < other;
+    let short = clipped(
+        pen.alloc,
+        words.text.as_str(),
+        if is_before { other } else { room },
+    )?;
+    let width = length_of(short.as_str()).saturating_mul(CHARACTER);
+    let left = if is_before { before } else { after };
+    let area = Area {
+        place: Place {
+            left: if is_before {
+                before.saturating_sub(width)
+            } else {
+                after.saturating_sub(1)
+            },
+            top: layout.top_of(at).saturating_add(2),
+        },
+        width,
+        height: ROW - 4,
     };
-    pen.text(if words.is_red { "r" } else { "n" }, place, short.as_str())
+    let class = match (words.is_red, is_before) {
+        (false, false) => "n",
+        (false, true) => "n e",
+        (true, false) => "r",
+        (true, true) => "r e",
+    };
+    pen.area("v", area, "")?;
+    let place = Place {
+        left,
+        top: layout.words_of(at),
+    };
+    pen.text(class, place, short.as_str())
 }
 
-/// Draws a layer of what a line says beside the lane of its mote.
-fn draw_row(
+/// Draws of which mote a row is, or of how many.
+fn draw_motes(
+    pen: &mut Pen,
+    layout: &Layout,
+    at: usize,
+    row: Row,
+    mote: Option<u64>,
+) -> Result<(), AllocError> {
+    let place = Place {
+        left: MOTES,
+        top: layout.words_of(at),
+    };
+    let text = match mote {
+        Some(mote) if row.lines < 2 => format!(in pen.alloc; "{mote}")?,
+        Some(_) => format!(in pen.alloc; "{} motes", row.lines)?,
+        None => String::new(pen.alloc),
+    };
+    pen.text("g e", place, text.as_str())
+}
+
+/// Draws that a mote does something: the end of the run is of none.
+fn draw_dot(
     pen: &mut Pen,
     layout: &Layout,
     at: usize,
     line: &NetworkLine<'_>,
-    text: &str,
-    layer: Layer,
 ) -> Result<(), AllocError> {
-    let words = words_of(pen.alloc, line)?;
-    if !layout.has_lane(words.mote.unwrap_or(1)) {
+    if matches!(*line, NetworkLine::Clock(_) | NetworkLine::Ending(_)) {
         return Ok(());
     }
-    match layer {
-        Layer::Area => draw_area(pen, layout, at, &words, text),
-        Layer::Words => draw_words(pen, layout, at, &words),
-    }
-}
-
-/// Draws that a mote does something.
-fn draw_dot(pen: &mut Pen, left: usize, middle: usize) -> Result<(), AllocError> {
     let area = Area {
         place: Place {
-            left: left.saturating_sub(2),
-            top: middle.saturating_sub(2),
+            left: layout.left_of(lane_of(line)).saturating_sub(2),
+            top: layout.middle_of(at).saturating_sub(2),
         },
         width: 5,
         height: 5,
@@ -276,17 +345,41 @@ fn draw_moment(
     Ok(())
 }
 
-/// Draws a layer of all rows that aren't left out.
-fn draw_rows(pen: &mut Pen, chart: &Chart, run: &Run<'_>, layer: Layer) -> Result<(), AllocError> {
+/// Draws the areas of all lines that aren't left out.
+fn draw_areas(pen: &mut Pen, chart: &Chart, run: &Run<'_>) -> Result<(), AllocError> {
     let (lines, texts) = (run.lines.as_slice(), run.texts.as_slice());
-    for (number, row) in chart.rows.rows.iter().enumerate() {
-        let shown = (
-            chart.rows.shown_at(number),
-            lines.get(row.line),
-            texts.get(row.line),
+    for shown in chart.rows.shown.as_slice() {
+        let found = (
+            chart.rows.shown_at(shown.row),
+            lines.get(shown.line),
+            texts.get(shown.line),
         );
-        if let (Some(at), Some(line), Some(text)) = shown {
-            draw_row(pen, &chart.layout, at, line, text, layer)?;
+        if let (Some(at), Some(line), Some(text)) = found {
+            draw_area(pen, &chart.layout, at, line, text)?;
+        }
+    }
+    Ok(())
+}
+
+/// Draws the words of all rows that aren't left out.
+fn draw_rows(pen: &mut Pen, chart: &Chart, run: &Run<'_>) -> Result<(), AllocError> {
+    let lines = run.lines.as_slice();
+    for (number, row) in chart.rows.rows.iter().enumerate() {
+        if let (Some(at), Some(line)) = (chart.rows.shown_at(number), lines.get(row.line)) {
+            let words = words_of(pen.alloc, line)?;
+            draw_motes(pen, &chart.layout, at, *row, words.mote)?;
+            draw_words(pen, &chart.layout, at, &words)?;
+        }
+    }
+    Ok(())
+}
+
+/// Draws the dots of all lines that aren't left out, above the words, which may be long.
+fn draw_dots(pen: &mut Pen, chart: &Chart, run: &Run<'_>) -> Result<(), AllocError> {
+    let (lines, layout) = (run.lines.as_slice(), &chart.layout);
+    for shown in chart.rows.shown.as_slice() {
+        if let (Some(at), Some(line)) = (chart.rows.shown_at(shown.row), lines.get(shown.line)) {
+            draw_dot(pen, layout, at, line)?;
         }
     }
     Ok(())
@@ -322,8 +415,8 @@ fn draw_fold(pen: &mut Pen, chart: &Chart) -> Result<(), AllocError> {
         chart.rows.folded
     )?;
     let place = Place {
-        left: CLOCK + 32,
-        top: top.saturating_add(ROW - 5),
+        left: MOTES + 32,
+        top: layout.words_of(MOST_ROWS / 2),
     };
     pen.text("b", place, words.as_str())
 }
@@ -364,11 +457,12 @@ fn drawn(alloc: Global, chart: &Chart, run: &Run<'_>) -> Result<Content, AllocEr
     let mut pen = Pen::new(alloc);
     draw_ground(&mut pen, &chart.layout)?;
     draw_head(&mut pen, chart, run)?;
-    draw_lanes(&mut pen, &chart.layout)?;
+    draw_lanes(&mut pen, &chart.layout, run)?;
     draw_moments(&mut pen, chart)?;
-    draw_rows(&mut pen, chart, run, Layer::Area)?;
+    draw_areas(&mut pen, chart, run)?;
     draw_frames(&mut pen, chart, run)?;
-    draw_rows(&mut pen, chart, run, Layer::Words)?;
+    draw_rows(&mut pen, chart, run)?;
+    draw_dots(&mut pen, chart, run)?;
     draw_fold(&mut pen, chart)?;
     Ok(pen.content)
 }

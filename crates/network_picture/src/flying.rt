@@ -1,6 +1,6 @@
 //! The frames of a chart on their way.
 
-use crate::place::Layout;
+use crate::place::{Layout, ROW};
 use crate::rows::Rows;
 use network_facts::{Fate, Flight, NetworkLine};
 use picture_svg::page::pen::Pen;
@@ -68,6 +68,12 @@ fn cross(pen: &Pen, from: usize, top: usize, to: usize) -> Result<String, AllocE
     }
 }
 
+/// The commands of a frame that is under way at the end: the beginning of its line.
+fn stub(pen: &Pen, from: usize, top: usize, to: usize) -> Result<String, AllocError> {
+    let end = beside(from, to, 28);
+    format!(in pen.alloc; "M{from},{top}L{end},{}", top.saturating_add(ROW - 2))
+}
+
 /// The commands of a flight's line between two rows.
 fn commands_of(
     pen: &Pen,
@@ -82,7 +88,7 @@ fn commands_of(
     match flight.fate {
         Fate::Lost | Fate::Full => cross(pen, from, bottom, to),
         Fate::Heard | Fate::Missed => arrow(pen, from, top, to, bottom),
-        Fate::UnderWay => format!(in pen.alloc; "M{from},{top}L{to},{bottom}"),
+        Fate::UnderWay => stub(pen, from, top, to),
     }
 }
 

@@ -1,4 +1,4 @@
-//! The links of a network, as the lines of its script say them. Other lines of the script say nothing that a picture needs.
+//! The links of a network, as the lines of its script say them.
 
 use crate::undrawn::Undrawn;
 use mote_text::script::read_number;
@@ -26,9 +26,16 @@ pub(crate) fn is_of_script(line: &str) -> bool {
 
 /// Motes whose numbers follow one another.
 #[derive(Clone, Copy, Drop)]
-struct Span {
+pub(crate) struct Span {
     first: u32,
     last: u32,
+}
+
+impl Span {
+    /// Whether a mote is one of these.
+    pub(crate) fn has(&self, mote: u64) -> bool {
+        self.first as u64 <= mote && mote <= self.last as u64
+    }
 }
 
 /// The number of a mote, or another that is at least 1.
@@ -40,7 +47,7 @@ fn positive(word: &str) -> Option<u32> {
 }
 
 /// The motes that a word says: `3` or `3..40`.
-fn read_span(word: &str) -> Option<Span> {
+pub(crate) fn read_span(word: &str) -> Option<Span> {
     let (first, last) = match word.split_once("..") {
         Some((first, last)) => (positive(first)?, positive(last)?),
         None => (positive(word)?, positive(word)?),

@@ -8,6 +8,7 @@
 mod chart;
 mod flying;
 mod links;
+mod names;
 mod options;
 mod place;
 mod reading;

@@ -1,6 +1,7 @@
 //! The lines on standard input: the script, where it is there, and the transcript.
 
 use crate::links::{is_of_script, read_links};
+use crate::names::{Name, read_names};
 use crate::undrawn::Undrawn;
 use network_facts::{Link, NetworkLine, read_network_line};
 use std::alloc::{AllocError, Global};
@@ -11,6 +12,7 @@ use std::str;
 pub(crate) struct Run<'a> {
     /// The links, where there is a script.
     pub(crate) links: Vec<Link>,
+    pub(crate) names: Vec<Name<'a>>,
     pub(crate) has_script: bool,
     pub(crate) texts: Vec<&'a str>,
     pub(crate) lines: Vec<NetworkLine<'a>>,
@@ -60,6 +62,7 @@ pub(crate) fn read_run(alloc: Global, bytes: &[u8]) -> Result<Run<'_>, Undrawn> 
     let (script, transcript) = parts.as_slice().split_at(end);
     let mut read = Run {
         links: read_links(alloc, script)?,
+        names: read_names(alloc, script)?,
         has_script: end > 0,
         texts: Vec::new(alloc),
         lines: Vec::new(alloc),

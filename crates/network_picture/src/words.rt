@@ -52,6 +52,11 @@ fn mote_of(line: &NetworkLine<'_>) -> Option<u64> {
     }
 }
 
+/// The mote in whose lane a line is: the first one where it is of none.
+pub(crate) fn lane_of(line: &NetworkLine<'_>) -> u64 {
+    mote_of(line).unwrap_or(1)
+}
+
 /// Whether a line says that something isn't heard, or that a mote or the run was halted.
 fn is_red(line: &NetworkLine<'_>) -> bool {
     !matches!(
@@ -81,6 +86,15 @@ pub(crate) fn words_of(alloc: Global, line: &NetworkLine<'_>) -> Result<Words, A
         is_red: is_red(line),
         has_cross: matches!(*line, NetworkLine::Lost(_, _) | NetworkLine::Full(_, _)),
     })
+}
+
+/// The number of characters.
+pub(crate) fn length_of(text: &str) -> usize {
+    let mut length: usize = 0;
+    for _character in text.chars() {
+        length = length.saturating_add(1);
+    }
+    length
 }
 
 /// The first characters of a text, with `…` after them where that isn't all.

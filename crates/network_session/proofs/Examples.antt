@@ -1,14 +1,22 @@
--- Worked examples: when motes are told the time, what is due, and what counts as a round.
-use Rattle.std.proofs.Common.{◌≡◌, ℕ, true, false, List, [], ◌∷◌, refl, None, Some}
+-- Worked examples: when motes are told the time, what is due, what counts as a round, and what a network promises.
+use Rattle.std.proofs.Common.{◌≡◌, ◌≤◌, ℕ, true, false, List, [], ◌∷◌, append-nil, arith, length, refl, slice_get, sym, ◌∙◌, None, Some}
+use Rattle.arrayvec.specs.ArrayVec.{ArrayVec}
+use Rattle.medium_core.specs.Air.{still_air}
+use Rattle.medium_core.specs.Laws.{all_done}
+use Rattle.medium_core.specs.declared.link.Link.{Link}
 use Rattle.medium_core.specs.declared.flight.Flight.{Flight}
 use Rattle.kernel_core.specs.declared.config.Config.{Config}
 use Rattle.kernel_core.specs.Machine.{booted}
-use Rattle.mote_session.specs.SessionView.{AwaitedCall, SessionView}
+use Rattle.mote_session.specs.Answered.{AnswersAs, replayed}
+use Rattle.mote_session.specs.SessionView.{AwaitedCall, SessionView, is_settled}
+use Rattle.network_session.specs.Happenings.{AreArrivals, Happening, all_deeds, history_of}
 use Rattle.network_session.specs.Network.{NetworkView}
+use Rattle.network_session.specs.Promise.{IsLogOf, NetworkPromise}
 use Rattle.mote_session.specs.declared.refusal.SessionRefusal.{SessionRefusal}
 use Rattle.mote_types.specs.declared.entry.Input.{Input}
 use Rattle.network_session.specs.Refusals.{catch_up_refusal, feed_refusal, pass_refusal, step_refusal, submit_refusal}
 use Rattle.network_session.specs.Schedule.{due_step, is_unheard}
+use Rattle.network_session.specs.Time.{IsTimely}
 use Rattle.network_session.specs.Waking.{due_ticks, never, wake}
 use Rattle.network_session.specs.declared.fault.NetworkFault.{NetworkFault}
 use Rattle.network_session.specs.declared.outcome.Outcome.{Outcome}
@@ -119,3 +127,36 @@ awaits turn = refl
 
 works_on : step_refusal (record (net (told 3) [] 3 9) { active = Some 1 }) ≡ None
 works_on = refl
+
+-- ---- time
+
+-- a mote that wasn't started has the network's clock; none is ahead of it; one that works has got the time; and none slept too long
+fresh : IsTimely 5 None 0 0 (told 3) → ⊥
+fresh timely = absurd (omega (arith, timely.fresh (omega arith)))
+
+ahead : IsTimely 2 None 1 0 (told 3) → ⊥
+ahead timely = absurd (omega (arith, timely.not_ahead))
+
+late_at_work : IsTimely 5 (Some 0) 1 0 (told 3) → ⊥
+late_at_work timely = absurd (omega (arith, timely.at_work refl))
+
+asleep : IsTimely 4294967296 None 1 0 (told 0) → ⊥
+asleep timely = absurd (omega (arith, timely.awake refl (λ same. absurd (cc))))
+
+-- ---- what is promised
+
+-- nobody hears what nobody sent
+unsent : (configs : ℕ → Config) (links : List (List Link)) (bytes : ArrayVec ℕ) (some : NetworkView) →
+    IsLogOf configs 8 links (Happening.Hears 0 bytes ∷ []) some → ⊥
+unsent configs links bytes some log = log.heard.0
+
+module _ (configs : ℕ → Config) (room : ℕ) (links : List (List Link)) (log : List Happening) (some : NetworkView)
+    (promise : NetworkPromise configs room links log some) where
+  -- each mote's entries are those of a run of its own machine
+  own_entries : (m : ℕ) (mote : SessionView) → slice_get some.motes m ≡ Some mote →
+      AnswersAs (replayed (history_of (configs m) m log).entries) (history_of (configs m) m log).entries
+  own_entries m mote there = (promise.motes m mote there).answered
+
+  -- no more frames fly than find room
+  with_room : length (all_done (all_deeds log) (still_air room links)).flights ≤ room
+  with_room = promise.medium.within

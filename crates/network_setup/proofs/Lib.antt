@@ -2,6 +2,7 @@ pub mod Asking
 pub mod Booting
 pub mod Cutting
 pub mod Examples
+mod CounterExamples
 pub mod Linking
 pub mod MoteWords
 pub mod Malformed

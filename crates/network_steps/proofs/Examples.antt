@@ -1,5 +1,5 @@
 -- Worked examples: lines of what happened, losses that are still to be reported, and refusals.
-use Rattle.std.proofs.Common.{◌≡◌, ℕ, [], ◌∷◌, codes, refl, None, Some}
+use Rattle.std.proofs.Common.{◌≡◌, ℕ, [], ◌∷◌, arith, codes, refl, None, Some}
 use Rattle.std.specs.Fmt.{digits}
 use Rattle.medium_core.specs.Air.{still_air}
 use Rattle.medium_core.specs.declared.link.Fate.{Fate}
@@ -11,7 +11,7 @@ use Rattle.network_session.specs.Network.{NetworkView}
 use Rattle.network_steps.specs.Lines.{came_line, losses_left}
 use Rattle.network_steps.specs.Refusals.{due_refusal, link_refusal, tick_refusal}
 use Rattle.network_steps.specs.StepsView.{StepsView, opened_net, opened_steps, unlinked}
-use Rattle.network_steps.specs.Works.{came_of, last_after, phase_after}
+use Rattle.network_steps.specs.Works.{TakesLink, came_of, last_after, phase_after}
 use Rattle.network_steps.specs.declared.came.Came.{Came}
 use Rattle.network_steps.specs.declared.came.Phase.{Phase}
 use Rattle.network_steps.specs.declared.fault.StepsFault.{StepsFault}
@@ -73,3 +73,8 @@ no_mote = refl
 
 unlinked_lists : unlinked 2 ≡ [] ∷ [] ∷ []
 unlinked_lists = refl
+
+-- each link takes one of those that can be added
+for_nothing : (from : ℕ) (link : Link) (new : StepsView) → new.free_links ≡ 2 → TakesLink from link empty new → ⊥
+unfolding empty
+for_nothing from link new free takes = absurd (omega (arith, free, takes.one))

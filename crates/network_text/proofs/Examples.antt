@@ -1,5 +1,5 @@
 -- Worked examples: what lines of a network's script say, and the lines of what happens.
-use Rattle.std.proofs.Common.{◌≡◌, ℕ, true, false, List, [], ◌∷◌, codes, refl, None, Some}
+use Rattle.std.proofs.Common.{◌≡◌, ◌∙◌, ◌<◌, ℕ, true, false, List, [], ◌∷◌, IsSomeAnd, ap, arith, codes, is_some, refl, slice_get, sym, None, Option, Some}
 use Rattle.std.specs.Fmt.{digits}
 use Rattle.medium_core.specs.Air.{still_air}
 use Rattle.medium_core.specs.declared.link.Fate.{Fate}
@@ -17,10 +17,12 @@ use Rattle.mote_types.specs.declared.event.Origin.{Origin}
 use Rattle.mote_types.specs.declared.event.Stimulus.{Stimulus}
 use Rattle.mote_types.specs.declared.reply.Reply.{Reply}
 use Rattle.mote_text.proofs.Common.{decode_pairs, encode_with}
+use Rattle.mote_session.specs.SessionView.{SessionView}
 use Rattle.network_session.specs.Happenings.{Happening}
 use Rattle.network_session.specs.Network.{NetworkView}
 use Rattle.network_session.specs.declared.outcome.Outcome.{Outcome}
-use Rattle.network_text.specs.NetworkRuns.{Move, inputs_of, moves_text}
+use Rattle.network_session.specs.Schedule.{due_step}
+use Rattle.network_text.specs.NetworkRuns.{DoesStep, HandsInput, MissesInput, Move, PassesTime, TellsTime, inputs_of, moves_text}
 use Rattle.network_text.specs.NetworkScript.{parted, read_network_input, read_network_line, read_network_lines}
 use Rattle.network_text.specs.NetworkText.{clock_line, fate_line, last_line, log_text, mote_line, unheard_line}
 use Rattle.network_text.specs.declared.input.NetworkInput.{NetworkInput}
@@ -136,3 +138,33 @@ module _ (net : NetworkView) where
   inputs : inputs_of (Move.Tick 3 net ∷ Move.Step Outcome.Passed net ∷ Move.Miss 1 (Input.Tick 0) net ∷ [])
       ≡ NetworkInput.Tick 3 ∷ NetworkInput.ForMote 2 (Input.Tick 0) ∷ []
   inputs = refl
+
+module _ (old new : NetworkView) where
+  -- no step is done that isn't due
+  not_due : due_step old ≡ Outcome.Passed → old.active ≡ None → DoesStep Outcome.Rest old new → ⊥
+  not_due due idle does = let e : Outcome.Rest ≡ Outcome.Passed = does.due idle ∙ due in absurd (cc)
+
+  -- a mote works only where it is at work, and nothing else is done then
+  nobody_at_work : old.active ≡ None → DoesStep (Outcome.Made 0) old new → ⊥
+  nobody_at_work idle does = let e : true ≡ false = does.work ∙ ap is_some idle in absurd (cc)
+
+  at_work : old.active ≡ Some 0 → DoesStep Outcome.Passed old new → ⊥
+  at_work active does = let e : false ≡ true = does.work ∙ ap is_some active in absurd (cc)
+
+  -- no input comes before rest
+  before_rest : (input : Input) → old.active ≡ Some 0
+      → (PassesTime 3 old new → ⊥) × (TellsTime 1 old new → ⊥) × (HandsInput 1 input old new → ⊥) × (MissesInput 1 old new → ⊥)
+  before_rest input active = (
+    λ passes. let e : ◌≡◌ {A = Option ℕ} (Some 0) None = sym active ∙ passes.rested.idle in absurd (cc),
+    λ tells. let e : ◌≡◌ {A = Option ℕ} (Some 0) None = sym active ∙ tells.rested.idle in absurd (cc),
+    λ hands. let e : ◌≡◌ {A = Option ℕ} (Some 0) None = sym active ∙ hands.rested.idle in absurd (cc),
+    λ misses. let e : ◌≡◌ {A = Option ℕ} (Some 0) None = sym active ∙ misses.rested.idle in absurd (cc),
+  )
+
+  module _ (mote : SessionView) (there : slice_get old.motes 1 ≡ Some mote) where
+    -- a mote that is on time doesn't get it again, and one that works misses nothing
+    on_time : mote.machine.clock ≡ old.air.clock → TellsTime 1 old new → ⊥
+    on_time same tells = let late : mote.machine.clock < old.air.clock = rw there at tells.behind in absurd (omega (arith, same, late))
+
+    works : mote.machine.is_halted ≡ false → MissesInput 1 old new → ⊥
+    works runs misses = let halted : mote.machine.is_halted ≡ true = rw there at misses.halted in absurd (cc)

@@ -25,6 +25,9 @@ const BELOW: usize = 6;
 /// The most bytes of a line of the title: they take less than 500 units.
 const TITLE_BYTES: usize = 44;
 
+/// The width of a bold character.
+const CHARACTER: usize = 7;
+
 /// How many bytes a line of the run's numbers has at most, which are smaller.
 const TALLY_BYTES: usize = 72;
 
@@ -102,8 +105,19 @@ pub(crate) fn push_tally(
     }
 }
 
-/// The name of each process over its lane, and a line of dots down to the end.
+/// Whether a name is wider than a lane.
+fn has_wide_name(page: &Page, names: &[&str]) -> bool {
+    let mut is_wide = false;
+    for name in names {
+        is_wide |= name.len().saturating_mul(CHARACTER) > page.lane;
+    }
+    is_wide
+}
+
+/// The name of each process over its lane, and a line of dots down to the end. Where a name is wider than its lane, those of each second
+/// lane are higher.
 pub(crate) fn draw_lanes(pen: &mut Pen, page: &Page, names: &[&str]) -> Result<(), AllocError> {
+    let is_wide = has_wide_name(page, names);
     for lane in 0..page.lanes {
         let pid = lane.saturating_add(4);
         let left = page.lane_of(pid);
@@ -111,7 +125,9 @@ pub(crate) fn draw_lanes(pen: &mut Pen, page: &Page, names: &[&str]) -> Result<(
         let mut digits = Buffer::new();
         pen.text("b c", Place { left, top }, digits.format(pid))?;
         if let Some(name) = names.get(lane) {
-            let top = page.top.saturating_sub(24);
+            let top = page
+                .top
+                .saturating_sub(if is_wide && lane % 2 == 1 { 36 } else { 24 });
             pen.text("b c", Place { left, top }, name)?;
         }
         let commands = format!(in pen.alloc; "M{left},{}V{}", page.top, page.bottom())?;
@@ -194,10 +210,10 @@ pub(crate) fn draw_legend(pen: &mut Pen, page: &Page, is_quiet: bool) -> Result<
     let top = page.top.saturating_sub(12);
     let left = page.words();
     if is_quiet {
-        return pen.text("g", Place { left, top }, "told → call");
+        return pen.text("g", Place { left, top }, "event → call");
     }
     pen.text("g e", Place { left: CLOCK, top }, "clock")?;
-    pen.text("g", Place { left, top }, "told → call = answer")
+    pen.text("g", Place { left, top }, "event → call = reply")
 }
 
 /// The ground of the whole picture.

@@ -288,7 +288,8 @@ enum toarmuts_application_kind {
 };
 
 /* A bundled application between two turns: `struct toarmuts_application echo = {.kind = TOARMUTS_APPLICATION_ECHO};` is as before its
- * start. The library writes the other members; any numbers in them are safe. A copy is as good as the original. */
+ * start. The library writes the other members. With other numbers in them submit_bundled is safe, and returns NO_APPLICATION where no
+ * application has such a state. A copy is as good as the original. */
 struct toarmuts_application {
   uint32_t kind; /* enum toarmuts_application_kind */
   uint32_t numbers[4];
@@ -335,7 +336,8 @@ uint32_t toarmuts_close(struct toarmuts_mote *mote);
  * A network of motes step by step. The caller opens it and adds its links, asks what comes next, submits the call of each application whose
  * turn it is, and passes inputs at rest. Motes have the numbers 1, 2, .. in the order of their structs. The lines are those of the program
  * network, in its order (docs/network.md). Of several reasons CLOSED is returned first, then what the network awaits or must do
- * (AWAITS_CALL or NO_TURN, HALTED, NOT_AT_REST, IS_STARTED), then what is wrong with the arguments.
+ * (AWAITS_CALL or NO_TURN, HALTED, NOT_AT_REST), then what is wrong with the arguments. toarmuts_network_link returns IS_STARTED whatever
+ * the network awaits.
  */
 
 /* A network in hand. With all bytes 0 it is closed. Only the calls below write to it. */

@@ -71,6 +71,16 @@ stopped =
 told_though_stopped : TimersAreKept 1 stopped → ⊥
 told_though_stopped laws = omega (arith, laws.not_early 4 refl stopped [] 2 refl)
 
+-- two events of one arming are delivered
+abbrev armed_once : List Entry
+armed_once = started 4 (Call.TimerSet 2 5) ∷ told 4 Reply.Done Call.Wait ∷ Entry.Input (Input.Tick 9) ∷ []
+
+abbrev told_twice : List Entry
+told_twice = armed_once ++ given 4 (number_event TIMER 2) ∷ given 4 (number_event TIMER 2) ∷ []
+
+told_twice_of_one_arming : TimersAreKept 1 told_twice → ⊥
+told_twice_of_one_arming laws = omega (arith, laws.not_early 4 refl told_twice [] 2 refl)
+
 -- timers of process 19
 last_given_unarmed : TimersAreKept 16 (given 19 (number_event TIMER 2) ∷ []) → ⊥
 last_given_unarmed laws = omega (arith, laws.not_early 19 refl (given 19 (number_event TIMER 2) ∷ []) [] 2 refl)

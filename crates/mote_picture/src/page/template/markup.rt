@@ -1,4 +1,4 @@
-//! A page without its data, its style and its script: page.html of `web/`, as `scripts/page-template` writes it here.
+//! A page without its data, its style and its script: `crates/mote_picture/web/page.html`, as `scripts/page-template` writes it here.
 
 /// What stands before the style.
 pub(crate) const HEAD: &str = r#"<!doctype html>

@@ -1,4 +1,4 @@
-//! The page's script: page.js of `web/`, as `scripts/page-template` writes it here.
+//! The page's script: `crates/mote_picture/web/page.js`, as `scripts/page-template` writes it here.
 
 /// The whole script.
 pub(crate) const SCRIPT: &str = r#""use strict";

@@ -1,4 +1,4 @@
-//! The page's style: page.css of `web/`, as `scripts/page-template` writes it here.
+//! The page's style: `crates/mote_picture/web/page.css`, as `scripts/page-template` writes it here.
 
 /// The whole style.
 pub(crate) const STYLE: &str = r#":root {
