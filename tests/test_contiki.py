@@ -14,8 +14,6 @@ from tools import EXAMPLES, ROOT, once, run, succeed, told
 EXAMPLE_SOURCES = sorted((EXAMPLES / "contiki").glob("*.c"))
 # Each source beside a script and a transcript, or the text that it prints; `parts` is a folder of sources.
 FURTHER_SOURCES = sorted(script.with_suffix("" if script.with_suffix("").is_dir() else ".c") for script in SOURCES.glob("*.script"))
-# How many processes of a program end with callback timers set.
-LOST = {"bounds.c": 4}
 DEFAULTS = {"mmem": 4096, "heap": 4096, "header": 16, "has_quota": 0, "quota": 0, "quiet": 0}
 RUNS_OF_APPLICATION = 50
 RUNS_OF_LISTS = 200
@@ -28,8 +26,7 @@ def test_example(contiki: Contiki, sanitizing_compiler: str, source: Path) -> No
     is_text = source.with_suffix(".text").exists()
     ran = run(contiki.build(source, sanitizing_compiler, "--sanitize"), *(["--text"] if is_text else []), stdin=script_of(source))
     assert (ran.returncode, ran.stdout) == (0, source.with_suffix(".text").read_bytes() if is_text else transcript_of(source)), told(ran)
-    lost = ran.stderr.count(b"it ends with callback timers set, whose callbacks never run\n")
-    assert ran.stderr.count(b"\n") == lost == LOST.get(source.name, 0), told(ran)
+    assert ran.stderr == b"", told(ran)
 
 
 def test_each_source_is_tried() -> None:

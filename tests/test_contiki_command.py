@@ -195,7 +195,8 @@ def tree(toarmuts_library: Path, tmp_path: Path) -> Path:
     """A tree whose library is current, as its ./prove says: a stand-in."""
     place = tmp_path / "tree"
     (place / "crates/toarmuts").mkdir(parents=True)
-    shutil.copy2(ROOT / "contiki", place)
+    for name in ("contiki", "VERSION"):
+        shutil.copy2(ROOT / name, place)
     (place / "c").symlink_to(ROOT / "c")
     for name in ("include", "out"):
         (place / "crates/toarmuts" / name).symlink_to(toarmuts_library)
@@ -212,6 +213,15 @@ def test_library_of_a_tree(tree: Path, current: int, script: Path, case: Case) -
     """Without --library the command uses that of crates/toarmuts, if it is current. ./prove doesn't read the script."""
     write_program(tree / "prove", f'#!/bin/bash\n[[ "$*" == "--is-current toarmuts" && ! -d /dev/stdin ]] && exit {current}\nexit 1\n')
     check(run("bash", "-c", '"$0" "$1" < "$2"', tree / "contiki", HELLO, script), case)
+
+
+def test_unproved_library_of_a_tree(tree: Path, toarmuts_library: Path) -> None:
+    """Where the library isn't current one is built without a proof, by a stand-in here, and that is reported."""
+    write_program(tree / "prove", "#!/bin/bash\nexit 1\n")
+    write_program(tree / "scripts/unproved.py", f'#!/bin/bash\n[[ $* == toarmuts ]] && echo {toarmuts_library}/libtoarmuts.a\n')
+    ran = run(tree / "contiki", HELLO, stdin=script_of(HELLO))
+    assert (ran.returncode, ran.stdout) == (0, transcript_of(HELLO)), told(ran)
+    assert ran.stderr == b"contiki: this run is unproved; ./prove toarmuts proves and builds the library\n"
 
 
 def test_driver_that_a_release_keeps(tree: Path, toarmuts_library: Path, tmp_path: Path) -> None:
@@ -241,9 +251,12 @@ def test_picture(tree: Path, source: Path, name: str, status: int) -> None:
     assert (ran.returncode, ran.stdout.decode()) == (status, f"--heap=64 --mmem 128 -- {name}\n{2 - status}\n"), told(ran)
 
 
-# Makefiles of Contiki-NG's kind, one of them with CONTIKI elsewhere, and one of the old Contiki's that names a program as a target alone.
+# Makefiles of Contiki-NG's kind, one of them with CONTIKI elsewhere, one that asks for folders and target first, one with modules
+# that are started with the program, and one of the old Contiki's that names a program as a target alone.
 @needs("make")
-@pytest.mark.parametrize(("name", "wanted"), [("Makefile", "7 a b\n"), ("Makefile.quotes", "7 it's\n"), ("Makefile.old", "7 c\n")])
+@pytest.mark.parametrize(("name", "wanted"), [("Makefile", "7 a b\n"), ("Makefile.quotes", "7 it's\n"), ("Makefile.old", "7 c\n"),
+                                              ("Makefile.target-variables", "7 sky\n"),
+                                              ("Makefile.modules", "#0001.0001.0001.0001> 7 x\n")])
 def test_makefile(contiki: Contiki, tmp_path: Path, name: str, wanted: str) -> None:
     """A program's own Makefile builds it, by `make`, `make NAME.native` or `make NAME`, and has the targets of Contiki-NG's tutorials."""
     shutil.copytree(SOURCES / "makefiles", tmp_path, dirs_exist_ok=True)
@@ -255,7 +268,7 @@ def test_makefile(contiki: Contiki, tmp_path: Path, name: str, wanted: str) -> N
     assert outcome(make("savetarget")) == (0, "saving Makefile.target\n", "")
     assert (tmp_path / "Makefile.target").read_text(encoding="utf-8") == "TARGET = native\n"
     shown = make("viewconf")
-    for line in re.findall(r"^(?:CONTIKI_PROJECT|DEFINES) = .*\n", text, re.M):
+    for line in re.findall(r"^(?:CONTIKI_PROJECT|DEFINES) = [^$\n]*\n", text, re.M):
         assert shown.returncode == 0 and line in shown.stdout.decode(), told(shown)
     target = "node.native" if name == "Makefile.quotes" else "node"
     assert outcome(make() if name == "Makefile" else make(target)) == (0, "", "")
@@ -263,6 +276,17 @@ def test_makefile(contiki: Contiki, tmp_path: Path, name: str, wanted: str) -> N
     if name != "Makefile.old":
         make("distclean")
         assert {path.name for path in tmp_path.iterdir()} == {path.name for path in (SOURCES / "makefiles").iterdir()}
+
+
+@needs("make")
+@pytest.mark.parametrize(("kept", "words", "wanted"), [("", [], "native"), ("TARGET = sky\n", [], "sky"),
+                                                       ("TARGET = sky\n", ["TARGET=z1"], "z1")])
+def test_target_of_a_makefile(tmp_path: Path, kept: str, words: list[str], wanted: str) -> None:
+    """A Makefile may ask for the target, and name folders of modules: from make's arguments, from Makefile.target, or native."""
+    (tmp_path / "Makefile.target").write_text(kept, encoding="utf-8")
+    includes = "".join(f"include {ROOT}/c/contiki/Makefile.{name}\n" for name in ("dir-variables", "identify-target"))
+    (tmp_path / "Makefile").write_text(includes + "all:; @echo $(TARGET) $(CONTIKI_NG_APP_LAYER_DIR)\n", encoding="utf-8")
+    assert outcome(run("make", "-s", "-C", tmp_path, *words, settings=without("TARGET"))) == (0, f"{wanted} os/net/app-layer\n", "")
 
 
 # ---- The debugger ----

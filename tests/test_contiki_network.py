@@ -261,6 +261,23 @@ def test_malformed_setup(runner: Runner, setup: str) -> None:
     assert outcome(ran) == (2, f"bad line {number}\n", f"contiki: line {number} of {runner.folder / 'network.net'} is {why}\n")
 
 
+NOT_UTF8 = [b"\x80", b"\xbf", b"\xc1\xbf", b"\xc2", b"\xc2\x41", b"\xe0\x9f\xbf", b"\xe1\x80", b"\xed\xa0\x80", b"\xef\xbf\xc0",
+            b"\xf0\x8f\xbf\xbf", b"\xf0\x90\x80", b"\xf4\x90\x80\x80", b"\xf5\x80\x80\x80", b"\xff", b"caf\xe9"]
+UTF8 = "\x7f\x80\u07ff\u0800\ud7ff\ue000\uffff\U00010000\U0010ffff"
+
+
+@pytest.mark.parametrize("locale", ["C", "C.UTF-8"])
+def test_setup_that_is_no_text(contiki: Contiki, runner: Runner, locale: str) -> None:
+    """A line of the first file that isn't UTF-8 is malformed, in any locale; its end isn't taken for a part of a character."""
+    file, settings = runner.folder / "network.net", {"LC_ALL": locale}
+    for line in NOT_UTF8 if locale == "C" else [b"caf\xe9"]:
+        file.write_bytes(b"# " + line + b"\nmote 1 hello-world.c\n")
+        ran = contiki("--network", file, HELLO, settings=settings)
+        assert outcome(ran) == (2, "bad line 1\n", f"contiki: line 1 of {file} is malformed: it isn't UTF-8\n"), line
+    file.write_bytes(b"mote 1 hello-world.c\n# " + UTF8.encode() + b"\n")
+    assert outcome(contiki("--network", file, "--text", HELLO, settings=settings)) == (0, "1 Hello, world\n", "")
+
+
 def test_quotas_of_processes(runner: Runner) -> None:
     """Quotas that are too many with a program's processes are known when that is compiled: after all lines."""
     ran = runner(TWO_MOTES + "mote 3 hello-world.c --quota 4096\nmote 4 hello-world.c\n", [HELLO], "")

@@ -18,7 +18,8 @@ from tools import ROOT, SANITIZERS, needs, run, sanitizes, succeed, told
 
 FOLDER = SOURCES / "programs"
 # Programs that take modules in C alone.
-WITH_MODULES = ("checked/checked", "cipher", "energest/energest", "trickle", "unit_double_lists", "unit_lists", "unit_memory", "unit_rings")
+WITH_MODULES = ("checked/checked", "cipher", "energest/energest", "energest/radio", "sensors", "serial_shell", "simple_energest", "threads",
+                "trickle", "unit_double_lists", "unit_lists", "unit_memory", "unit_rings")
 PROGRAMS = [str(path.relative_to(FOLDER).with_suffix("")) for path in sorted(FOLDER.glob("**/*.c"))]
 UNIT_TESTS = FOLDER / "unit_rings.c"
 # What is told at the build of a program that takes a real-time timer.
@@ -82,31 +83,6 @@ def test_posted_local(contiki: Contiki, tmp_path: Path, sanitizing_compiler: str
     assert run(built, "--text", settings={"ASAN_OPTIONS": "detect_stack_use_after_return=0"}).returncode == 0
 
 
-def test_callback_timer_at_exit(contiki: Contiki, tmp_path: Path) -> None:
-    """A callback timer that is set in the EXIT event is reported as lost, each time, and uses no cell."""
-    source = write_source(tmp_path, program_of("""static int i;
-  for(i = 0; i < 6; i++) {
-    process_start(&ended, NULL);
-    process_exit(&ended);
-  }""", """static void call(CC_UNUSED void *ptr) { printf("called\\n"); }
-static struct ctimer timers[6];
-static int next;
-PROCESS(ended, "Ended");
-PROCESS_THREAD(ended, ev, data)
-{
-  PROCESS_EXITHANDLER(ctimer_set(&timers[next++], 3, call, NULL));
-  PROCESS_BEGIN();
-  while(1) {
-    PROCESS_WAIT_EVENT();
-  }
-  PROCESS_END();
-}"""))
-    ran = contiki("--text", source, stdin=b"tick 9\n")
-    lost = re.escape(place("4 (Ended)", "EXIT (131)", 0, 2)).replace("line\\ 0", r"line\ \d+")
-    assert (ran.returncode, ran.stdout) == (0, b""), told(ran)
-    assert re.fullmatch(f"({lost}it ends with callback timers set, whose callbacks never run\n){{6}}", ran.stderr.decode()), told(ran)
-
-
 def test_failed_assertion(contiki: Contiki, tmp_path: Path) -> None:
     """lib/assert.h prints as Contiki-NG does, and the program is stopped there; NDEBUG removes assertions."""
     source = write_source(tmp_path, program_of('assert(1 + 1 == 2); assert(1 + 1 == 3); printf("never\\n");', '#include "lib/assert.h"'))
@@ -127,6 +103,8 @@ SLIPS: dict[str, tuple[str, list[str]]] = {
     "a function": (program_of("wait();", "static void wait(void) { PROCESS_WAIT_EVENT(); }"), [NO_BEGIN]),
     "no end": (WAITS.replace("  PROCESS_END();\n", ""), ["a block isn't closed: look for a missing PROCESS_END()"]),
     "one line": (program_of("PROCESS_WAIT_EVENT(); PROCESS_PAUSE();"), ["two waits are on one line: write each on a separate line"]),
+    "radio": (program_of("int power; NETSTACK_RADIO.get_value(0, &power);"),
+              ["the mote's radio can only be turned on and off: NETSTACK_RADIO.on() and off()"]),
     # Two equal cases in a switch of the program's own are no slip with waits.
     "own switch": (program_of("switch(ev) { case 1: break; case 1: break; }"), []),
 }
@@ -153,6 +131,50 @@ def test_own_module(contiki: Contiki, tmp_path: Path) -> None:
     own.write_text('#include "dbl-list.h"\nint dbl_list_init(void) { return 7; }\n', encoding="utf-8")
     source = write_source(tmp_path, program_of('printf("%d\\n", dbl_list_init());', '#include "dbl-list.h"'))
     assert outcome(contiki("--text", source, own)) == (0, "7\n", "")
+
+
+# Copies of modules in a program, each with the value that its function returns.
+OWN_MODULES = {
+    "lib/random.h": "void random_init(unsigned short seed) { (void)seed; } unsigned short random_rand(void) { return 7; }",
+    "lib/crc16.h": ("unsigned short crc16_add(unsigned char b, unsigned short crc) { (void)b; (void)crc; return 7; } "
+                    "unsigned short crc16_data(const unsigned char *data, int length, unsigned short crc) "
+                    "{ (void)data; (void)length; (void)crc; return 7; }"),
+    "sys/stimer.h": ("void stimer_set(struct stimer *t, unsigned long i) { t->start = i; } "
+                     "void stimer_reset(struct stimer *t) { (void)t; } "
+                     "void stimer_restart(struct stimer *t) { (void)t; } bool stimer_expired(struct stimer *t) { (void)t; return true; } "
+                     "unsigned long stimer_remaining(struct stimer *t) { (void)t; return 7; } "
+                     "unsigned long stimer_elapsed(struct stimer *t) { (void)t; return 7; }"),
+    "dev/leds.h": ("void leds_init(void) {} void leds_on(leds_mask_t leds) { (void)leds; } void leds_off(leds_mask_t leds) { (void)leds; } "
+                   "void leds_toggle(leds_mask_t leds) { (void)leds; } void leds_set(leds_mask_t leds) { (void)leds; } "
+                   "leds_mask_t leds_get(void) { return 7; }"),
+    "lib/assert.h": "void _xassert(const char *file, int line) { (void)file; (void)line; exit(7); }",
+    "sys/node-id.h": "uint16_t node_id = 7;",
+    "lib/ringbuf.h": ("void ringbuf_init(struct ringbuf *r, uint8_t *d, uint8_t s) { (void)r; (void)d; (void)s; } "
+                      "int ringbuf_put(struct ringbuf *r, uint8_t c) { (void)r; (void)c; return 7; } "
+                      "int ringbuf_get(struct ringbuf *r) { (void)r; return 7; } "
+                      "int ringbuf_size(struct ringbuf *r) { (void)r; return 7; } "
+                      "int ringbuf_elements(struct ringbuf *r) { (void)r; return 7; }"),
+}
+OWN_VALUES = ("random_rand(), crc16_add(1, 2), crc16_data(NULL, 0, 0), (int)stimer_elapsed(&seconds), leds_get(), node_id, "
+              "ringbuf_get(&ring)")
+
+
+@pytest.mark.parametrize("is_network", [False, True], ids=["mote", "network"])
+def test_own_copies(contiki: Contiki, tmp_path: Path, sanitizing_compiler: str, is_network: bool) -> None:
+    """A program may have its own copies of all modules that are in C alone, in a network too, whose driver sets number and seed."""
+    includes = "".join(f'#include "{header}"\n' for header in OWN_MODULES)
+    own = []
+    for header, text in OWN_MODULES.items():
+        own.append(tmp_path / (Path(header).stem + ".c"))
+        own[-1].write_text(f'#include "contiki.h"\n#include <stdlib.h>\n#include "{header}"\n{text}\n', encoding="utf-8")
+    body = f'leds_init(); leds_single_on(LEDS_LED1); stimer_set(&seconds, 1); printf("%d %d %d %d %d %d %d\\n", {OWN_VALUES});'
+    source = write_source(tmp_path, program_of(body, includes + "static struct stimer seconds; static struct ringbuf ring;"))
+    words: list[Path | str] = []
+    if is_network:
+        (tmp_path / "own.net").write_text(f"mote 1 {' '.join(file.name for file in [source, *own])}\n", encoding="utf-8")
+        words = ["--network", tmp_path / "own.net"]
+    ran = contiki("--cc", sanitizing_compiler, "--text", *words, source, *own)
+    assert outcome(ran) == (0, ("1 7 7 7 7 7 1 7\n" if is_network else "7 7 7 7 7 7 7\n"), "")
 
 
 def test_table_of_missing_headers() -> None:

@@ -7,7 +7,7 @@ from pathlib import Path
 import pytest
 
 from tools import (EXAMPLES, ROOT, SANITIZERS, all_hold, current_library, library_for_aarch64, needs, once, run, succeed, told,
-                   with_sanitizers)
+                   with_sanitizers, write_program)
 
 MODULES = ROOT / "c/modules"
 SOURCES = ROOT / "tests/c/modules"
@@ -171,6 +171,22 @@ def test_program_of_one_module(modules_library: Path, tmp_path: Path) -> None:
     succeed("gcc", "-std=c11", f"-I{MODULES}/include", tmp_path / "one.c", modules, "-o", tmp_path / "one")
     succeed(tmp_path / "one")
     assert set(re.findall(rb"toarmuts_[a-z]+_", succeed("nm", tmp_path / "one").stdout)) == {b"toarmuts_memb_"}
+
+
+@needs("make")
+def test_archive_of_a_core(tmp_path: Path) -> None:
+    """What is built for a core stays for the next make; who builds it may say that it takes long. Here a stand-in builds it."""
+    shutil.copytree(MODULES, tmp_path / "c/modules", ignore=shutil.ignore_patterns("out"))
+    proved = tmp_path / "crates/modules_c/out"
+    (tmp_path / "scripts").mkdir()
+    (tmp_path / "VERSION").touch()
+    write_program(tmp_path / "prove", f"#!/bin/bash\nmkdir -p {proved} && touch {proved}/libmodules_c.a\n")
+    write_program(tmp_path / "scripts/for-cortex-m", (
+        f'#!/bin/bash\necho "$@" slow >&2\nmkdir -p {proved}/$2 && touch {proved}/$2/libmodules_c.a\n'))
+    for wanted in b"modules_c cortex-m3 slow\n", b"":
+        made = run("make", "-s", "-C", tmp_path / "c/modules", "CORE=cortex-m3", "CC=true", "AR=true")
+        assert (made.returncode, made.stderr) == (0, wanted), told(made)
+        assert (proved / "cortex-m3/libmodules_c.a").exists()
 
 
 @needs("make")

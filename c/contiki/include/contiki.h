@@ -4,6 +4,11 @@
 #ifndef CONTIKI_H
 #define CONTIKI_H
 
+/* What runs the program: the command contiki sets name and version. */
+#ifndef CONTIKI_VERSION_STRING
+#define CONTIKI_VERSION_STRING "Toarmuts"
+#endif
+
 #include "contiki-conf.h"
 
 #include "sys/cc.h"

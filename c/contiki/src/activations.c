@@ -8,9 +8,10 @@
 #include "driver.h"
 #include "sys/stack-check.h"
 
+#include <stdlib.h>
 #include <sys/resource.h>
 
-enum { STACK_REACH = 1 << 26, MOST_LATE_CALLS = 44 * MOST_PROCESSES };
+enum { STACK_REACH = 1 << 26 };
 
 struct activation *activation;
 uint64_t rounds_begun;
@@ -26,15 +27,15 @@ present_activation(void)
 static const struct toarmuts_call *errand;
 static struct toarmuts_turn errand_answer;
 
-/* Calls that processes make as soon as they have the reply that they await: others freed their blocks, or stopped their timers. Each
- * process has at most 44 of both. Few programs need this table. */
+/* Calls that processes make as soon as they have the reply that they await: others freed their blocks, or set or stopped their timers. Few
+ * programs need this table. */
 struct late_call {
   const struct process *owner;
-  uint32_t kind, number;
+  struct toarmuts_call call;
 };
 
 static struct late_call *late_calls;
-static unsigned late_count;
+static size_t late_count, late_room;
 
 static void
 hand_in(const struct toarmuts_call *call)
@@ -71,27 +72,37 @@ is_lost(const void *place, const void *frame)
   return is_on_stack(frame) && is_on_stack(place) && (uintptr_t)place < (uintptr_t)frame;
 }
 
-/* The end of an activation: `exit` if the process ends in it, otherwise `wait`. The last process that ends may stay in the mote for
- * frames. */
+/* Before a process ends: others have its callback timers, or it stays in the mote as the last one, for these or for frames. */
+static bool
+leaves(const struct process *p, bool ends)
+{
+  check_callbacks(p, __builtin_frame_address(0));
+  if(ends && (stays_for_frames(p) || stays_for_callbacks(p))) {
+    stop_event_timers(p);
+    return false;
+  }
+  pass_on_callbacks(p);
+  return true;
+}
+
+/* The end of an activation: `exit` if the process ends in it, otherwise `wait`. */
 static void
 end_activation(const struct activation *present, bool ends)
 {
   struct process *p = present->process;
-  bool stays = ends && stays_for_frames(p);
+  bool is_last = ends || present->turn.event == PROCESS_EVENT_EXIT, stays;
   if(!ends) {
     check_timers(__builtin_frame_address(0));
     check_blocks(p, __builtin_frame_address(0));
   }
   flush_console();
-  if(stays) {
-    stop_event_timers(p);
-  }
+  stays = is_last && !leaves(p, ends);
   hand_in(&(struct toarmuts_call){.kind = ends && !stays ? TOARMUTS_CALL_EXIT : TOARMUTS_CALL_WAIT});
   if(stays) {
     note_staying(p);
-  } else if(ends || present->turn.event == PROCESS_EVENT_EXIT) {
+  } else if(is_last) {
     note_ended(p);
-    forget_timers(p);
+    forget_event_timers(p);
     forget_receiver(p);
   }
 }
@@ -124,14 +135,14 @@ run_activation(const struct toarmuts_turn *turn)
 static bool
 take_late_call(const struct process *p, struct toarmuts_call *call)
 {
-  unsigned i = 0;
+  size_t i = 0;
   while(i < late_count && late_calls[i].owner != p) {
     i++;
   }
   if(i == late_count) {
     return false;
   }
-  *call = (struct toarmuts_call){.kind = late_calls[i].kind, .numbers = {late_calls[i].number}};
+  *call = late_calls[i].call;
   late_count--;
   memmove(late_calls + i, late_calls + i + 1, (late_count - i) * sizeof late_calls[0]);
   return true;
@@ -163,35 +174,48 @@ stack_check_get_reserved_size(void)
   return getrlimit(RLIMIT_STACK, &limit) == 0 && limit.rlim_cur < INT32_MAX ? (int32_t)limit.rlim_cur : INT32_MAX;
 }
 
-bool
-has_late_calls(void)
+/* Makes a call, and works on to the turn with its reply. */
+static void
+call_and_wait(const struct toarmuts_call *call, struct toarmuts_turn *answer)
 {
-  return late_count > 0;
+  hand_in(call);
+  while(next_turn(answer)) {
+    if(answer->stimulus == TOARMUTS_ANSWER) {
+      return;
+    }
+    run_activation(answer);
+  }
+  stop("the mote rests where a reply must follow");
+}
+
+/* The process has its reply: it makes the calls that were left for it. */
+static void
+make_late_calls(const struct process *p)
+{
+  struct toarmuts_call call;
+  while(take_late_call(p, &call)) {
+    struct toarmuts_turn answer;
+    call_and_wait(&call, &answer);
+    if(call.kind == TOARMUTS_CALL_TIMER_EXPIRED) {
+      note_settled(p, call.numbers[0], answer.number != 0);
+    }
+  }
 }
 
 const struct toarmuts_turn *
 mote_call(const struct toarmuts_call *call)
 {
   static struct toarmuts_turn answer;
-  struct toarmuts_call late;
+  struct toarmuts_turn reply;
   if(activation == NULL) {
     stop("a call of the mote is made outside of any process");
   }
   note_frame(__builtin_frame_address(0));
   flush_console();
-  hand_in(call);
-  while(next_turn(&answer)) {
-    if(answer.stimulus == TOARMUTS_ANSWER) {
-      if(take_late_call(activation->process, &late)) {
-        struct toarmuts_turn kept = answer;
-        mote_call(&late);
-        answer = kept;
-      }
-      return &answer;
-    }
-    run_activation(&answer);
-  }
-  stop("the mote rests where a reply must follow");
+  call_and_wait(call, &reply);
+  make_late_calls(activation->process);
+  answer = reply;
+  return &answer;
 }
 
 const struct toarmuts_turn *
@@ -210,6 +234,24 @@ static bool
 is_of_blocks(uint32_t kind)
 {
   return kind >= TOARMUTS_CALL_MMEM_ALLOC && kind <= TOARMUTS_CALL_HEAP_STATS;
+}
+
+/* Whether a block that was freed stays in the mote until its owner has a reply. */
+bool
+has_late_blocks(void)
+{
+  size_t i = 0;
+  while(i < late_count && !is_of_blocks(late_calls[i].call.kind)) {
+    i++;
+  }
+  return i < late_count;
+}
+
+/* Whether it awaits a reply, so that it can't make a call for another process. */
+bool
+awaits_reply(const struct process *p)
+{
+  return activation != NULL && p != activation->process && is_active(p);
 }
 
 /*
@@ -234,17 +276,27 @@ ask_for(struct process *owner, const struct toarmuts_call *call)
   return &errand_answer;
 }
 
-/* Frees a process's block, or stops its timer. If another process asks for that while the owner awaits a reply, the owner does it after
- * the reply; meanwhile no time passes. */
-void
-give_back(struct process *owner, uint32_t kind, uint32_t number)
+static void
+leave_call(const struct process *owner, const struct toarmuts_call *call)
 {
-  if(activation != NULL && owner != activation->process && is_active(owner)) {
+  if(late_count == late_room) {
+    late_room = late_room == 0 ? 16 : 2 * late_room;
+    late_calls = realloc(late_calls, late_room * sizeof *late_calls);
     if(late_calls == NULL) {
-      late_calls = take_bytes(MOST_LATE_CALLS * sizeof *late_calls);
+      give_up(STATUS_NO_MEMORY, "out of memory");
     }
-    late_calls[late_count++] = (struct late_call){owner, kind, number};
+  }
+  late_calls[late_count++] = (struct late_call){owner, *call};
+}
+
+/* Makes a call that is never refused, for a process. If that one is busy, it makes the call as soon as it has its reply; meanwhile no time
+ * passes. */
+void
+order(struct process *owner, const struct toarmuts_call *call)
+{
+  if(awaits_reply(owner)) {
+    leave_call(owner, call);
   } else {
-    ASK_FOR(owner, kind, number);
+    ask_for(owner, call);
   }
 }

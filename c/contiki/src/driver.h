@@ -69,8 +69,12 @@ unsigned refusal_of(const struct toarmuts_turn *answer);
 const struct toarmuts_turn *ask_for(struct process *owner, const struct toarmuts_call *call);
 #define ASK_FOR(owner, call_kind, ...) ask_for(owner, &(struct toarmuts_call){.kind = (call_kind), .numbers = {__VA_ARGS__}})
 
-void give_back(struct process *owner, uint32_t kind, uint32_t number);
-bool has_late_calls(void);
+/* The same without a reply, also for a process that awaits one. */
+bool awaits_reply(const struct process *p);
+void order(struct process *owner, const struct toarmuts_call *call);
+#define ORDER(owner, call_kind, ...) order(owner, &(struct toarmuts_call){.kind = (call_kind), .numbers = {__VA_ARGS__}})
+
+bool has_late_blocks(void);
 
 /* mote.c: the one mote. For the motes of a network, network/motes.c and network/member.c have these calls. */
 
@@ -102,6 +106,8 @@ unsigned index_of(const struct process *p);
 void note_ended(const struct process *p);
 void note_staying(struct process *p);
 bool runs_alone(const struct process *p);
+bool is_in_mote(const struct process *p);
+struct process *heir_of(const struct process *p);
 bool is_active(const struct process *p);
 void start_for_errand(struct process *p);
 bool activate(struct activation *present);
@@ -109,12 +115,19 @@ bool activate(struct activation *present);
 /* timers.c */
 void make_cells(void);
 struct etimer *etimer_told(struct process *p, unsigned slot);
-bool ctimer_told(struct process *p, unsigned slot);
+void note_settled(const struct process *owner, unsigned slot, bool has_expired);
 void stop_event_timers(const struct process *p);
-void forget_timers(const struct process *p);
+void forget_event_timers(const struct process *p);
 void check_timers(const void *frame);
 
-/* memory.c */
+/* callbacks.c */
+bool ctimer_told(struct process *p, unsigned slot);
+bool stays_for_callbacks(const struct process *p);
+void pass_on_callbacks(const struct process *p);
+void check_callbacks(const struct process *p, const void *frame);
+
+/* memory.c, and heap.c */
+void make_heap_tables(void);
 void *take_bytes(size_t size);
 void make_block_tables(void);
 unsigned free_handle(void);
@@ -163,7 +176,6 @@ bool delays_signal(int number);
 
 /* faults.c */
 void watch_for_faults(void);
-void tell_now(const char *what);
 void tell_halt(void);
 CC_NORETURN void halt(void);
 CC_NORETURN void finish(int status);

@@ -111,7 +111,7 @@ write_report(const struct report *report)
 }
 
 /* Says what happens where. */
-void
+static void
 tell_now(const char *what)
 {
   struct report report = {.length = 0};

@@ -1,10 +1,29 @@
-/* The parts of Contiki-NG's library that don't use the mote: assert.h, random.h, crc16.h, leds.h, node-id.h. */
+/*
+ * The parts of Contiki-NG's library that don't use the mote: assert.h, random.h, crc16.h, leds.h, node-id.h. All names are weak: a program
+ * may have its own copies of these modules.
+ */
 #include "driver.h"
 
 #include "dev/leds.h"
 #include "lib/assert.h"
 #include "lib/crc16.h"
 #include "sys/node-id.h"
+
+#pragma weak node_id
+#pragma weak _xassert
+#pragma weak random_init
+#pragma weak random_rand
+#pragma weak crc16_add
+#pragma weak crc16_data
+#pragma weak leds_init
+#pragma weak leds_on
+#pragma weak leds_off
+#pragma weak leds_toggle
+#pragma weak leds_set
+#pragma weak leds_get
+#pragma weak leds_single_on
+#pragma weak leds_single_off
+#pragma weak leds_single_toggle
 
 process_event_t serial_line_event_message = TOARMUTS_EVENT_SERIAL_LINE;
 
@@ -59,6 +78,11 @@ crc16_data(const unsigned char *data, int datalen, unsigned short acc)
 /* leds.h: bits that nobody sees. */
 
 static leds_mask_t lit;
+
+void
+leds_init(void)
+{
+}
 
 void
 leds_on(leds_mask_t leds)

@@ -28,9 +28,11 @@ struct words {
 static uint32_t
 read_number(const char *option, const char *text)
 {
-  char *end;
-  unsigned long number = text == NULL || *text < '0' || *text > '9' ? 0 : strtoul(text, &end, 10);
-  if(text == NULL || *text < '0' || *text > '9' || *end != '\0' || number > UINT32_MAX) {
+  const char *digits = text != NULL && *text == '+' ? text + 1 : text;
+  bool has_digits = digits != NULL && *digits >= '0' && *digits <= '9';
+  char *end = NULL;
+  unsigned long number = has_digits ? strtoul(digits, &end, 10) : 0;
+  if(!has_digits || *end != '\0' || number > UINT32_MAX) {
     give_up(STATUS_BAD_WORDS, "%s needs a number", option);
   }
   return (uint32_t)number;

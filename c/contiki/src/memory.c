@@ -1,5 +1,5 @@
 /*
- * Memory: memb.h, heapmem.h and mmem.h.
+ * Memory: memb.h and mmem.h; heapmem.h is in heap.c.
  *
  * The mote decides which block is allocated, whether there is room, and what is refused. The bytes are in the program's memory: an
  * array for a pool, and blocks of malloc for the other two, which a sanitizer watches. They may replace the mote's bytes since only the
@@ -40,7 +40,7 @@ take_bytes(size_t size)
 bool
 check_late(bool depends)
 {
-  if(depends && has_late_calls()) {
+  if(depends && has_late_blocks()) {
     stop("a block was freed during an activation of its owner, and stays allocated until that continues: the mote has no figures now");
   }
   return depends;
@@ -70,31 +70,61 @@ memb_block(const struct memb *m, const void *ptr)
   return i;
 }
 
-/* `memb-free` */
+/* For each block of the mote 0, or the one that has the bytes before its own: of a longer block all but the last have 124 bytes. */
+static unsigned char before[1 + POOLS * POOL_BLOCKS];
+
+/* `memb-free` of a block of the mote, and of those before it. */
+static void
+give_mote_blocks_back(unsigned char last)
+{
+  while(last != 0) {
+    unsigned block = last - 1u;
+    MOTE_ASK(TOARMUTS_CALL_MEMB_FREE, block / POOL_BLOCKS, block % POOL_BLOCKS);
+    last = before[last];
+  }
+}
+
 static void
 give_block_back(struct memb *m, unsigned i)
 {
-  unsigned block = m->used[i] - 1u;
-  MOTE_ASK(TOARMUTS_CALL_MEMB_FREE, block / POOL_BLOCKS, block % POOL_BLOCKS);
+  give_mote_blocks_back(m->used[i]);
   m->used[i] = 0;
   ASAN_POISON_MEMORY_REGION(memb_place(m, i), m->size);
 }
 
-/* `memb-alloc`, in the first pool with an unused block that is long enough: the numbers of the pool and the block, as in memb.h. */
+/* `memb-alloc`, in the first pool with an unused block that is long enough: the numbers of the pool and the block, as in memb.h; 0 if there is
+ * none. */
 static unsigned char
-take_block(const struct memb *m)
+take_mote_block(unsigned size)
 {
   for(unsigned pool = 0; pool < POOLS; pool++) {
-    if(usable[pool] >= m->size) {
+    if(usable[pool] >= size) {
       const struct toarmuts_turn *answer = MOTE_ASK(TOARMUTS_CALL_MEMB_ALLOC, pool);
       if(refusal_of(answer) == 0) {
         return (unsigned char)(1 + pool * POOL_BLOCKS + answer->number);
       }
     }
   }
-  stop("no block of %u bytes is left: all MEMBs share four pools of 16 blocks, of 12, 28, 60 and 124 bytes; free one before this "
-       "memb_alloc, or use arrays or heapmem.h",
-       m->size);
+  return 0;
+}
+
+/* Blocks of the mote for one of a pool: as many of 124 bytes as it fills, and one for the rest. */
+static unsigned char
+take_block(const struct memb *m)
+{
+  unsigned char last = 0;
+  for(unsigned left = m->size; left > 0; left -= MIN(left, usable[POOLS - 1])) {
+    unsigned char next = take_mote_block(MIN(left, usable[POOLS - 1]));
+    if(next == 0) {
+      stop("no block of %u bytes is left: all MEMBs share four pools of 16 blocks, of 12, 28, 60 and 124 bytes, and longer blocks take "
+           "several; "
+           "free one before this memb_alloc, or use arrays or heapmem.h",
+           m->size);
+    }
+    before[next] = last;
+    last = next;
+  }
+  return last;
 }
 
 /* `memb-free` for each block that is used. */
@@ -153,134 +183,6 @@ memb_numfree(struct memb *m)
     unused += m->used[i] == 0;
   }
   return unused;
-}
-
-/* heapmem.h */
-
-enum { HEAP_BLOCKS = 16 };
-
-struct heap_block {
-  void *bytes; /* NULL where there is no block */
-  size_t size;
-};
-
-/* Those of each process. */
-static struct heap_block (*heap_blocks)[HEAP_BLOCKS];
-
-/* A slot in the table for a block of the active process. */
-static unsigned
-free_heap_block(void)
-{
-  const struct heap_block *blocks;
-  unsigned slot = 0;
-  if(activation == NULL) {
-    stop("heap memory is allocated outside of any process");
-  }
-  blocks = heap_blocks[index_of(activation->process)];
-  while(slot < HEAP_BLOCKS && blocks[slot].bytes != NULL) {
-    slot++;
-  }
-  if(slot == HEAP_BLOCKS) {
-    stop("more than 16 blocks of heap memory in one process: free one before this heapmem_alloc, have another process allocate some, or "
-         "use one block for several items");
-  }
-  return slot;
-}
-
-/* The block at this address, of any process, or NULL. */
-static struct heap_block *
-find_heap_block(const void *ptr, struct process **owner, unsigned *slot)
-{
-  for(unsigned i = 0; i < process_count * HEAP_BLOCKS; i++) {
-    struct heap_block *block = &heap_blocks[i / HEAP_BLOCKS][i % HEAP_BLOCKS];
-    if(block->bytes == ptr) {
-      *owner = processes[i / HEAP_BLOCKS];
-      *slot = i % HEAP_BLOCKS;
-      return block;
-    }
-  }
-  return NULL;
-}
-
-/* `heap-alloc` */
-void *
-heapmem_alloc(size_t size)
-{
-  unsigned slot;
-  struct heap_block *block;
-  if(size == 0 || size > UINT32_MAX) {
-    return NULL;
-  }
-  slot = free_heap_block();
-  if(check_late(refusal_of(MOTE_ASK(TOARMUTS_CALL_HEAP_ALLOC, slot, (uint32_t)size)) != 0)) {
-    return NULL;
-  }
-  block = &heap_blocks[index_of(activation->process)][slot];
-  block->size = size;
-  block->bytes = take_bytes(size);
-  return block->bytes;
-}
-
-void *
-heapmem_calloc(size_t num, size_t size)
-{
-  return size != 0 && num > UINT32_MAX / size ? NULL : heapmem_alloc(num * size);
-}
-
-/* `heap-realloc`. The bytes always move, so that a sanitizer finds a pointer to the old ones. */
-void *
-heapmem_realloc(void *ptr, size_t size)
-{
-  struct process *owner;
-  unsigned slot;
-  struct heap_block *block;
-  void *bytes;
-  if(ptr == NULL) {
-    return heapmem_alloc(size);
-  }
-  if(size == 0) {
-    heapmem_free(ptr);
-    return NULL;
-  }
-  block = find_heap_block(ptr, &owner, &slot);
-  if(block == NULL || size > UINT32_MAX || check_late(refusal_of(ASK_FOR(owner, TOARMUTS_CALL_HEAP_REALLOC, slot, (uint32_t)size)) != 0)) {
-    return NULL;
-  }
-  bytes = take_bytes(size);
-  memcpy(bytes, block->bytes, MIN(size, block->size));
-  free(block->bytes);
-  block->bytes = bytes;
-  block->size = size;
-  return bytes;
-}
-
-/* `heap-free` */
-bool
-heapmem_free(void *ptr)
-{
-  struct process *owner;
-  unsigned slot;
-  struct heap_block *block = ptr == NULL ? NULL : find_heap_block(ptr, &owner, &slot);
-  if(block == NULL) {
-    return false;
-  }
-  give_back(owner, TOARMUTS_CALL_HEAP_FREE, slot);
-  free(block->bytes);
-  block->bytes = NULL;
-  return true;
-}
-
-/* `heap-stats` */
-void
-heapmem_stats(heapmem_stats_t *stats)
-{
-  const struct toarmuts_heap_stats *told = &MOTE_ASK(TOARMUTS_CALL_HEAP_STATS, 0)->stats;
-  check_late(true);
-  stats->allocated = told->allocated;
-  stats->overhead = told->overhead;
-  stats->available = told->available;
-  stats->footprint = told->footprint;
-  stats->chunks = told->chunks;
 }
 
 /* mmem.h */
@@ -375,7 +277,7 @@ mmem_free(struct mmem *m)
   if(*place == NULL || i == process_count * HANDLES) {
     stop("mmem_free of a struct mmem that has no block");
   }
-  give_back(processes[i / HANDLES], TOARMUTS_CALL_MMEM_FREE, i % HANDLES);
+  ORDER(processes[i / HANDLES], TOARMUTS_CALL_MMEM_FREE, i % HANDLES);
   handles[i / HANDLES][i % HANDLES] = NULL;
   *place = m->next;
   free(m->ptr);
@@ -393,6 +295,6 @@ mmem_init(void)
 void
 make_block_tables(void)
 {
-  heap_blocks = take_bytes(process_count * sizeof *heap_blocks);
+  make_heap_tables();
   handles = take_bytes(process_count * sizeof *handles);
 }

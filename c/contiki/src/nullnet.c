@@ -27,6 +27,9 @@ linkaddr_set_node_addr(linkaddr_t *addr)
   linkaddr_node_addr = *addr;
 }
 
+/* Whether the radio is on, if the program names it: a module of its own (modules/mote-radio.c). */
+extern const bool mote_radio_is_on __attribute__((weak));
+
 uint8_t *nullnet_buf;
 uint16_t nullnet_len;
 
@@ -145,11 +148,16 @@ call_back(const uint8_t *bytes, size_t length)
   }
 }
 
-/* `packet-read`, `packet-done`: reads and frees the frame, and then calls the callback. */
+/* `packet-read`, `packet-done`: reads and frees the frame, and then calls the callback. While the radio is off, it only frees the frame. */
 void
 take_frame(size_t length)
 {
-  uint8_t *bytes = malloc(length + 1);
+  uint8_t *bytes;
+  if(&mote_radio_is_on != NULL && !mote_radio_is_on) {
+    MOTE_ASK(TOARMUTS_CALL_PACKET_DONE, 0);
+    return;
+  }
+  bytes = malloc(length + 1);
   if(bytes == NULL) {
     give_up(STATUS_NO_MEMORY, "out of memory");
   }

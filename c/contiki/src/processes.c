@@ -7,7 +7,7 @@ extern const struct process_entry __start_process_entries[] __attribute__((weak)
 extern const struct process_entry __stop_process_entries[] __attribute__((weak));
 extern struct process *const autostart_processes[] __attribute__((weak));
 
-struct process *process_current;
+struct process *process_current, *process_list;
 struct process *processes[MOST_PROCESSES];
 unsigned process_count;
 
@@ -27,7 +27,7 @@ static unsigned running_count;
 static bool has_left[MOST_PROCESSES];
 static struct process *leaving;
 
-/* The process whose thread has ended, and that stays in the mote since frames need its activations; or NULL. */
+/* The process whose thread has ended, and that stays in the mote since frames or callbacks need its activations; or NULL. */
 static struct process *staying;
 
 /* The data that process_start passes to the thread of that one, to start it again; and whether it does so now. */
@@ -208,6 +208,20 @@ data_of(uint64_t number)
 
 /* Who runs. */
 
+/* Makes the list of the program: those that run, and haven't ended themselves. */
+static void
+link_processes(void)
+{
+  struct process **last = &process_list;
+  for(unsigned i = 0; i < running_count; i++) {
+    if(!has_left[index_of(running[i])]) {
+      *last = running[i];
+      last = &running[i]->next;
+    }
+  }
+  *last = NULL;
+}
+
 void
 note_ended(const struct process *p)
 {
@@ -218,6 +232,7 @@ note_ended(const struct process *p)
     }
   }
   running_count = kept;
+  link_processes();
 }
 
 /* Whether no other process runs. */
@@ -225,6 +240,17 @@ bool
 runs_alone(const struct process *p)
 {
   return running_count == 0 || (running_count == 1 && running[0] == p);
+}
+
+/* A process that has the callback timers of one that ends: one that runs, or the one that stays. NULL if there is none. */
+struct process *
+heir_of(const struct process *p)
+{
+  unsigned i = 0;
+  while(i < running_count && running[i] == p) {
+    i++;
+  }
+  return i < running_count ? running[i] : staying;
 }
 
 /* The thread of the last process that ran has ended. Nobody is left to receive that, and later processes don't. */
@@ -247,6 +273,7 @@ note_started(struct process *p)
   running[0] = p;
   running_count++;
   has_left[index_of(p)] = false;
+  link_processes();
 }
 
 /* Whether it is in an activation. */
@@ -258,6 +285,17 @@ is_active(const struct process *p)
     open = open->outer;
   }
   return open != NULL;
+}
+
+/* Whether it can have timers in the mote: it runs, is in its EXIT event, or stays. */
+bool
+is_in_mote(const struct process *p)
+{
+  unsigned i = 0;
+  while(i < running_count && running[i] != p) {
+    i++;
+  }
+  return i < running_count || is_active(processes[index_of(p)]) || p == staying;
 }
 
 /* Whether it has ended itself, and continues to its next wait. */
@@ -329,7 +367,7 @@ static void
 note_killed(struct process *p)
 {
   note_ended(p);
-  forget_timers(p);
+  forget_event_timers(p);
   forget_receiver(p);
 }
 
@@ -535,6 +573,7 @@ leave(struct process *p)
   unsigned count = running_count;
   activation->is_ending = true;
   has_left[index_of(p)] = true;
+  link_processes();
   memcpy(others, running, sizeof others);
   leaving = p;
   for(unsigned i = 0; i < count; i++) {

@@ -1,27 +1,19 @@
 /*
- * Clock and timers: clock.h, timer.h, etimer.h and ctimer.h.
+ * Clock and timers: clock.h, timer.h and etimer.h.
  *
  * A struct etimer has one of its process's eight event timers in the mote, until another timer needs it. The mote decides when it runs
  * out. The struct has start and interval as in Contiki-NG. If the mote's timer has the same two numbers, a reset and a restart are calls
- * of the mote; otherwise the timer is set for the ticks that are left. Callback timers work the same way.
+ * of the mote; otherwise the timer is set for the ticks that are left. Callback timers work the same way (callbacks.c).
+ *
+ * A process that awaits a reply can't make a call for another one: what that one changes of its timers, it does after the reply. Meanwhile
+ * no time passes, and no timer runs out.
  */
-#include "driver.h"
+#include "timers.h"
 
-enum { EVENT_TIMERS = 8, CALLBACK_TIMERS = 4, MOST_QUESTIONS = 1000000 };
-
-/* What the driver knows of a timer in the mote. */
-struct cell {
-  const void *timer;     /* the struct etimer or ctimer that has it, or NULL */
-  clock_time_t start;    /* as the mote has it */
-  clock_time_t interval; /* as the mote has it */
-  uint64_t set_in;       /* the round in which it was armed last */
-  bool is_armed;         /* and neither stopped nor received since */
-  unsigned waiting;      /* events in the queue from before it was armed last */
-};
+enum { EVENT_TIMERS = 8, MOST_QUESTIONS = 1000000 };
 
 /* Those of each process. */
 static struct cell (*event_cells)[EVENT_TIMERS];
-static struct cell (*callback_cells)[CALLBACK_TIMERS];
 
 /* Whether a timer on the stack was ever set. Few programs have one, and only then all timers are checked before each wait. */
 static bool has_any_on_stack;
@@ -31,7 +23,7 @@ void
 make_cells(void)
 {
   event_cells = take_bytes(process_count * sizeof *event_cells);
-  callback_cells = take_bytes(process_count * sizeof *callback_cells);
+  make_callbacks();
 }
 
 /* The clock, by the call `clock`, so that a program that waits for it in an endless loop is halted. */
@@ -87,7 +79,7 @@ timer_remaining(struct timer *t)
 /* Cells: which of the mote's timers a timer has. */
 
 /* The ticks that an interval has left, as in Contiki-NG: 0 if it is over, also if it began before the clock did. */
-static clock_time_t
+clock_time_t
 left_of(clock_time_t start, clock_time_t interval)
 {
   clock_time_t now = clock_now();
@@ -111,13 +103,20 @@ is_due(const struct cell *cell)
  * Whether an armed timer has run out, as far as the driver knows: a round removes due timers from the list, as many as the event queue
  * has room for.
  */
-static bool
+bool
 has_run_out(const struct cell *cell)
 {
   return is_due(cell) && cell->set_in < rounds_begun;
 }
 
-static uint32_t
+/* Whether it runs out later, and its event wasn't received. */
+static bool
+is_pending(const struct cell *cell)
+{
+  return cell->is_armed && !has_run_out(cell);
+}
+
+uint32_t
 checked_interval(clock_time_t interval)
 {
   if(interval > UINT32_MAX) {
@@ -127,7 +126,7 @@ checked_interval(clock_time_t interval)
 }
 
 /* The index of a timer among a process's cells, or their number. */
-static unsigned
+unsigned
 slot_of(const void *timer, const struct cell *cells, unsigned count)
 {
   unsigned slot = 0;
@@ -143,9 +142,9 @@ is_free(const struct cell *cell)
   return !cell->is_armed && cell->waiting == 0;
 }
 
-/* The timer's cell; otherwise one that no timer had; otherwise one whose timer isn't set. If all are set, the message says what to do. */
-static unsigned
-take_slot(const void *timer, struct cell *cells, unsigned count, const char *what, const char *way_round)
+/* The timer's cell; otherwise one that no timer had; otherwise one whose timer isn't set; their number if all are set. */
+unsigned
+free_slot(const void *timer, const struct cell *cells, unsigned count)
 {
   unsigned slot = slot_of(timer, cells, count);
   if(slot == count) {
@@ -156,15 +155,11 @@ take_slot(const void *timer, struct cell *cells, unsigned count, const char *wha
       slot = i;
     }
   }
-  if(slot == count) {
-    stop("more than %u %s timers of one process are set: %s", count, what, way_round);
-  }
-  cells[slot].timer = timer;
   return slot;
 }
 
 /* Notes that the mote's timer starts again. */
-static void
+void
 note_armed(struct cell *cell, clock_time_t start, clock_time_t interval)
 {
   cell->start = start;
@@ -175,7 +170,7 @@ note_armed(struct cell *cell, clock_time_t start, clock_time_t interval)
 }
 
 /* Counts the questions whether a timer ran out. An endless loop of them waits for it without a call of the mote. */
-static void
+void
 note_question(void)
 {
   static uint64_t line, count;
@@ -204,10 +199,32 @@ static void
 settle(struct process *owner, unsigned slot)
 {
   struct cell *cell = &event_cells[index_of(owner)][slot];
-  if(cell->is_armed && is_due(cell) && ASK_FOR(owner, TOARMUTS_CALL_TIMER_EXPIRED, slot)->number != 0) {
+  if(cell->is_armed && is_due(cell) && !awaits_reply(owner) && ASK_FOR(owner, TOARMUTS_CALL_TIMER_EXPIRED, slot)->number != 0) {
     note_expired(cell);
     cell->waiting++;
   }
+}
+
+/* The same before the timer changes. An owner that awaits a reply is asked later, and stops the timer then: until it replies, the event counts as one in
+ * the queue. */
+static void
+settle_for_change(struct process *owner, unsigned slot)
+{
+  struct cell *cell = &event_cells[index_of(owner)][slot];
+  settle(owner, slot);
+  if(cell->is_armed && is_due(cell) && awaits_reply(owner)) {
+    ORDER(owner, TOARMUTS_CALL_TIMER_EXPIRED, slot);
+    ORDER(owner, TOARMUTS_CALL_TIMER_STOP, slot);
+    note_expired(cell);
+    cell->waiting++;
+  }
+}
+
+/* The reply to the question that was asked later. */
+void
+note_settled(const struct process *owner, unsigned slot, bool has_expired)
+{
+  event_cells[index_of(owner)][slot].waiting -= !has_expired;
 }
 
 /* Stops the mote's timer, if the timer is armed for a process. An event that is already in the queue is still delivered. */
@@ -219,9 +236,9 @@ disarm(const struct etimer *et, struct process *owner)
   if(slot == EVENT_TIMERS) {
     return;
   }
-  settle(owner, slot);
+  settle_for_change(owner, slot);
   if(cells[slot].is_armed) {
-    give_back(owner, TOARMUTS_CALL_TIMER_STOP, slot);
+    ORDER(owner, TOARMUTS_CALL_TIMER_STOP, slot);
     note_expired(&cells[slot]);
   }
 }
@@ -231,13 +248,19 @@ static unsigned
 take_timer(struct etimer *et)
 {
   struct process *owner = process_current;
+  struct cell *cells = event_cells[index_of(owner)];
   unsigned slot;
   if(et->p != owner && is_process(et->p)) {
     disarm(et, et->p);
   }
-  slot = take_slot(et, event_cells[index_of(owner)], EVENT_TIMERS, "event",
-                   "stop one before this etimer_set, set some for another process (PROCESS_CONTEXT_BEGIN), or use one for several times");
-  settle(owner, slot);
+  slot = free_slot(et, cells, EVENT_TIMERS);
+  if(slot == EVENT_TIMERS) {
+    stop("more than %u event timers of one process are set: stop one before this etimer_set, set some for another process "
+         "(PROCESS_CONTEXT_BEGIN), or use one for several times",
+         EVENT_TIMERS);
+  }
+  cells[slot].timer = et;
+  settle_for_change(owner, slot);
   return slot;
 }
 
@@ -246,7 +269,7 @@ static void
 arm_to_end(struct etimer *et, unsigned slot)
 {
   uint32_t interval = checked_interval(left_of(et->timer.start, et->timer.interval));
-  ASK_FOR(process_current, TOARMUTS_CALL_TIMER_SET, slot, interval);
+  ORDER(process_current, TOARMUTS_CALL_TIMER_SET, slot, interval);
   note_armed(&event_cells[index_of(process_current)][slot], clock_now(), interval);
   et->p = process_current;
 }
@@ -279,7 +302,7 @@ etimer_reset(struct etimer *et)
   }
   et->timer.start += et->timer.interval;
   if(is_same) {
-    ASK_FOR(process_current, TOARMUTS_CALL_TIMER_RESET, slot);
+    ORDER(process_current, TOARMUTS_CALL_TIMER_RESET, slot);
     note_armed(cell, et->timer.start, et->timer.interval);
     et->p = process_current;
   } else {
@@ -307,7 +330,7 @@ etimer_restart(struct etimer *et)
   struct cell *cell = &event_cells[index_of(process_current)][slot];
   et->timer.start = clock_now();
   if(cell->interval == et->timer.interval) {
-    ASK_FOR(process_current, TOARMUTS_CALL_TIMER_RESTART, slot);
+    ORDER(process_current, TOARMUTS_CALL_TIMER_RESTART, slot);
     note_armed(cell, et->timer.start, et->timer.interval);
     et->p = process_current;
   } else {
@@ -327,8 +350,9 @@ etimer_adjust(struct etimer *et, int td)
   }
   slot = slot_of(et, event_cells[index_of(owner)], EVENT_TIMERS);
   if(slot < EVENT_TIMERS) {
+    const struct cell *cell = &event_cells[index_of(owner)][slot];
     settle(owner, slot);
-    if(event_cells[index_of(owner)][slot].is_armed) {
+    if(awaits_reply(owner) ? is_pending(cell) : cell->is_armed) {
       process_current = owner;
       arm_to_end(et, slot);
       process_current = caller;
@@ -348,22 +372,25 @@ etimer_stop(struct etimer *et)
 
 /*
  * By the flag in the struct, as in Contiki-NG. It is cleared when the event is received; before that the mote is asked by
- * `timer-expired`, if the timer may have run out. If the timer's process has ended, the flag is unchanged.
+ * `timer-expired`, if the timer may have run out. An owner that awaits a reply isn't asked: the timer ran out if it was due in a round before. If the
+ * timer's process has ended, the flag is unchanged.
  */
 bool
 etimer_expired(struct etimer *et)
 {
+  struct process *owner;
   unsigned slot;
   note_question();
   /* The struct may be uninitialised: then it isn't expired, as in Contiki-NG. */
   if(!is_process(et->p)) {
     return et->p == PROCESS_NONE;
   }
-  slot = slot_of(et, event_cells[index_of(et->p)], EVENT_TIMERS);
+  owner = et->p;
+  slot = slot_of(et, event_cells[index_of(owner)], EVENT_TIMERS);
   if(slot < EVENT_TIMERS) {
-    settle(et->p, slot);
+    settle(owner, slot);
   }
-  return et->p == PROCESS_NONE;
+  return et->p == PROCESS_NONE || (slot < EVENT_TIMERS && awaits_reply(owner) && has_run_out(&event_cells[index_of(owner)][slot]));
 }
 
 clock_time_t
@@ -391,129 +418,10 @@ etimer_told(struct process *p, unsigned slot)
   return (struct etimer *)(uintptr_t)cell->timer;
 }
 
-/* ctimer.h */
-
-/* `callback-stop`, if the timer is set for a process. */
-static void
-disarm_callback(const struct ctimer *c, struct process *owner)
-{
-  struct cell *cells = callback_cells[index_of(owner)];
-  unsigned slot = slot_of(c, cells, CALLBACK_TIMERS);
-  if(slot < CALLBACK_TIMERS && cells[slot].is_armed) {
-    give_back(owner, TOARMUTS_CALL_CALLBACK_STOP, slot);
-    cells[slot].is_armed = false;
-  }
-}
-
-/* `callback-set`, to the timer's end. */
-static void
-arm_callback(struct ctimer *c)
-{
-  uint32_t interval = checked_interval(left_of(c->etimer.timer.start, c->etimer.timer.interval));
-  unsigned slot = take_slot(c, callback_cells[index_of(c->p)], CALLBACK_TIMERS, "callback",
-                            "stop one before this ctimer_set, set some for another process (ctimer_set_with_process), or use etimers");
-  ASK_FOR(c->p, TOARMUTS_CALL_CALLBACK_SET, slot, interval);
-  note_armed(&callback_cells[index_of(c->p)][slot], clock_now(), interval);
-  c->etimer.p = c->p;
-}
-
-/* `callback-set` */
-void
-ctimer_set_with_process(struct ctimer *c, clock_time_t t, void (*f)(void *), void *ptr, struct process *p)
-{
-  if(c->etimer.p != p && is_process(c->etimer.p)) {
-    disarm_callback(c, c->etimer.p);
-  }
-  c->p = p;
-  c->f = f;
-  c->ptr = ptr;
-  c->etimer.timer.interval = t;
-  c->etimer.timer.start = clock_now();
-  arm_callback(c);
-}
-
-void
-ctimer_set(struct ctimer *c, clock_time_t t, void (*f)(void *), void *ptr)
-{
-  ctimer_set_with_process(c, t, f, ptr, process_current);
-}
-
-/* `callback-set` for the interval that follows the last one, if that is over. */
-void
-ctimer_reset(struct ctimer *c)
-{
-  if(is_over(&c->etimer)) {
-    c->etimer.timer.start += c->etimer.timer.interval;
-  } else if(c->etimer.p != PROCESS_NONE) {
-    return;
-  }
-  arm_callback(c);
-}
-
-/* `callback-set` */
-void
-ctimer_restart(struct ctimer *c)
-{
-  c->etimer.timer.start = clock_now();
-  arm_callback(c);
-}
-
-/* `callback-stop`, if it is set. */
-void
-ctimer_stop(struct ctimer *c)
-{
-  if(is_process(c->etimer.p)) {
-    disarm_callback(c, c->etimer.p);
-  }
-  c->etimer.p = PROCESS_NONE;
-}
-
-/* The mote has no call for this question, so the driver answers it from its own notes. */
-bool
-ctimer_expired(struct ctimer *c)
-{
-  const struct cell *cells;
-  unsigned slot;
-  note_question();
-  if(!is_process(c->etimer.p)) {
-    return c->etimer.p == PROCESS_NONE;
-  }
-  cells = callback_cells[index_of(c->etimer.p)];
-  slot = slot_of(c, cells, CALLBACK_TIMERS);
-  return slot < CALLBACK_TIMERS && cells[slot].is_armed && has_run_out(&cells[slot]);
-}
-
-/*
- * A callback timer has run out. The mote reports only one that was neither set nor stopped since. For a timer that was set by mote.h the
- * thread is called; true if that has ended.
- */
-bool
-ctimer_told(struct process *p, unsigned slot)
-{
-  struct cell *cell = &callback_cells[index_of(p)][slot];
-  struct ctimer *c = (struct ctimer *)(uintptr_t)cell->timer;
-  cell->is_armed = false;
-  if(c == NULL) {
-    return !PT_SCHEDULE(p->thread(&p->pt, PROCESS_EVENT_NONE, (process_data_t)(uintptr_t)slot));
-  }
-  c->etimer.p = PROCESS_NONE;
-  if(c->f != NULL) {
-    c->f(c->ptr);
-  }
-  return false;
-}
-
 /* All timers. */
 
-/* Whether it runs out later, and its event wasn't received. */
-static bool
-is_pending(const struct cell *cell)
-{
-  return cell->is_armed && !has_run_out(cell);
-}
-
 /* The least end of the pending timers among these, if it is below another one. */
-static clock_time_t
+clock_time_t
 least_end(const struct cell *cells, unsigned count, clock_time_t least)
 {
   for(unsigned i = 0; i < count; i++) {
@@ -524,8 +432,6 @@ least_end(const struct cell *cells, unsigned count, clock_time_t least)
   return least;
 }
 
-static const clock_time_t NEVER = (clock_time_t)-1;
-
 static clock_time_t
 next_end(void)
 {
@@ -533,7 +439,7 @@ next_end(void)
   note_question();
   for(unsigned i = 0; i < process_count; i++) {
     least = least_end(event_cells[i], EVENT_TIMERS, least);
-    least = least_end(callback_cells[i], CALLBACK_TIMERS, least);
+    least = least_callback(i, least);
   }
   return least;
 }
@@ -551,29 +457,31 @@ etimer_next_expiration_time(void)
   return end == NEVER ? 0 : end;
 }
 
-/* A timer that is set must not be on the stack of a thread or a callback: it would be lost at the wait. */
+/* None of these timers, if it is set, may be on the stack below the frame. */
 void
-check_timers(const void *frame)
+check_cells(const struct cell *cells, unsigned count, const void *frame, const char *what)
 {
-  if(!has_any_on_stack) {
-    return;
-  }
-  for(unsigned i = 0; i < process_count * EVENT_TIMERS; i++) {
-    const struct cell *cell = &event_cells[i / EVENT_TIMERS][i % EVENT_TIMERS];
-    if(cell->is_armed && is_lost(cell->timer, frame)) {
-      stop("a struct etimer on the stack is set, and is lost at this wait: make it static");
-    }
-  }
-  for(unsigned i = 0; i < process_count * CALLBACK_TIMERS; i++) {
-    const struct cell *cell = &callback_cells[i / CALLBACK_TIMERS][i % CALLBACK_TIMERS];
-    if(cell->is_armed && is_lost(cell->timer, frame)) {
-      stop("a struct ctimer on the stack is set, and is lost at this wait: make it static");
+  for(unsigned i = 0; has_any_on_stack && i < count; i++) {
+    if(cells[i].is_armed && is_lost(cells[i].timer, frame)) {
+      stop("a struct %s on the stack is set, and is lost at this wait: make it static", what);
     }
   }
 }
 
+/* A timer that is set must not be on the stack of a thread or a callback: it would be lost at the wait. */
+void
+check_timers(const void *frame)
+{
+  for(unsigned i = 0; has_any_on_stack && i < process_count; i++) {
+    check_cells(event_cells[i], EVENT_TIMERS, frame, "etimer");
+  }
+  for(unsigned i = 0; has_any_on_stack && i < process_count; i++) {
+    check_callbacks(processes[i], frame);
+  }
+}
+
 /* The event timers of a process that has ended are stopped. The flags of those that hadn't run out stay, as in Contiki-NG. */
-static void
+void
 forget_event_timers(const struct process *p)
 {
   for(unsigned slot = 0; slot < EVENT_TIMERS; slot++) {
@@ -595,20 +503,4 @@ stop_event_timers(const struct process *p)
     }
   }
   forget_event_timers(p);
-}
-
-/* A process has ended, and the mote has stopped its timers. */
-void
-forget_timers(const struct process *p)
-{
-  unsigned index = index_of(p);
-  bool is_lost_callback = false;
-  forget_event_timers(p);
-  for(unsigned slot = 0; slot < CALLBACK_TIMERS; slot++) {
-    is_lost_callback |= callback_cells[index][slot].is_armed;
-    callback_cells[index][slot].is_armed = false;
-  }
-  if(is_lost_callback) {
-    tell_now("it ends with callback timers set, whose callbacks never run");
-  }
 }

@@ -27,11 +27,7 @@ typedef uint8_t leds_mask_t;
 #define LEDS_NUM_RED 2
 #define LEDS_NUM_BLUE 3
 
-static inline void
-leds_init(void)
-{
-}
-
+void leds_init(void);
 void leds_on(leds_mask_t leds);
 void leds_off(leds_mask_t leds);
 void leds_toggle(leds_mask_t leds);

@@ -1,5 +1,5 @@
 /*
- * Heap memory: blocks of any size. The mote decides whether there is room, in one heap for all processes; a process has at most 16
+ * Heap memory: blocks of any size. The mote decides whether there is room, in one heap for all processes; a process has at most 64
  * blocks at once. Their bytes are in the program's memory.
  */
 #ifndef HEAPMEM_H_
@@ -42,12 +42,17 @@ typedef unsigned char heapmem_zone_t;
 
 #define HEAPMEM_ZONE_GENERAL 0
 #define HEAPMEM_ZONE_INVALID 255
+#define HEAPMEM_MAX_ZONES 8
 
-CC_REFUSED("the mote's heap has no zones: use heapmem_alloc") heapmem_zone_t heapmem_zone_register(const char *name, size_t zone_size);
-CC_REFUSED("the mote's heap has no zones: use heapmem_alloc") void *heapmem_zone_alloc(heapmem_zone_t zone, size_t size);
-CC_REFUSED("the mote's heap has no zones: use heapmem_calloc")
+/* Reserves a part of the heap under a name; HEAPMEM_ZONE_INVALID if there is no room for it, or the name or all zones are used. */
+heapmem_zone_t heapmem_zone_register(const char *name, size_t zone_size);
+
+/* The same as heapmem_alloc and heapmem_calloc, in a zone. Each block takes 16 bytes more of it. */
+void *heapmem_zone_alloc(heapmem_zone_t zone, size_t size);
 void *heapmem_zone_calloc(heapmem_zone_t zone, size_t nmemb, size_t size);
-CC_REFUSED("the mote has only figures: use heapmem_stats") void heapmem_print_debug_info(bool print_chunks);
+
+/* Prints the figures in a line, and if asked for one with the size of each block of the program. */
+void heapmem_print_debug_info(bool print_chunks);
 
 /* Blocks begin at multiples of this. */
 static inline size_t

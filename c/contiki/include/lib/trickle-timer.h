@@ -1,5 +1,5 @@
 /*
- * Trickle timers (RFC 6206): each uses one of the process's four callback timers. In each interval the protocol's callback is called
+ * Trickle timers (RFC 6206): each uses a callback timer of the process. In each interval the protocol's callback is called
  * once, at a random time in the second half, with whether to send. Then the interval doubles, up to the greatest one.
  */
 #ifndef TRICKLE_TIMER_H_

@@ -1,4 +1,4 @@
-/* The layers of the network. There is one, NullNet. */
+/* The layers of the network: NullNet, and below it a radio that can be turned off. */
 #ifndef NETSTACK_H_
 #define NETSTACK_H_
 
@@ -19,18 +19,24 @@ struct network_driver {
 extern const struct network_driver nullnet_driver;
 #define NETSTACK_NETWORK nullnet_driver
 
-/* The other layers: a source that names one gets a compile error with the reason. */
+/* The radio. It is on from the start. While it is off, frames that arrive are dropped; sending works all the same. In a program that names it,
+ * ENERGEST_TYPE_LISTEN is on while the radio is. */
+struct radio_driver {
+  /* Both return 1. */
+  int (*on)(void);
+  int (*off)(void);
+};
+
+extern const struct radio_driver mote_radio_driver;
+#define NETSTACK_RADIO mote_radio_driver
+
+/* The MAC layer: a source that names it gets a compile error with the reason. */
 struct no_layer {
   int (*on)(void);
   int (*off)(void);
-  int (*get_value)(int, int *);
-  int (*set_value)(int, int);
 };
 
-CC_REFUSED("the mote has no radio that can be asked: send and receive by net/nullnet/nullnet.h")
-const struct no_layer *netstack_radio(void);
 CC_REFUSED("the mote has no MAC layer: send and receive by net/nullnet/nullnet.h") const struct no_layer *netstack_mac(void);
-#define NETSTACK_RADIO (*netstack_radio())
 #define NETSTACK_MAC (*netstack_mac())
 
 #endif

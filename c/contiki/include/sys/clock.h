@@ -8,6 +8,14 @@
 /* A number that #if may use, too. */
 #define CLOCK_SECOND ((CLOCK_CONF_SECOND) + 0UL)
 
+/* The same for modules that are compiled once for all programs: the program's sources, which the linker sees first, define it. For the
+ * driver only. */
+#ifdef CONTIKI_MODULE
+extern const clock_time_t contiki_clock_second;
+#else
+__attribute__((weak)) const clock_time_t contiki_clock_second = CLOCK_SECOND;
+#endif
+
 /* Whether a is before b. */
 #define CLOCK_LT(a, b) ((long)((clock_time_t)(a) - (clock_time_t)(b)) < 0)
 

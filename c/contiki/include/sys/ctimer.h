@@ -1,6 +1,5 @@
 /*
- * Callback timers: one that runs out calls a function, with the process that set it as the current one. A process has at most four
- * set at once.
+ * Callback timers: one that runs out calls a function, with the process that set it as the current one, also if that has ended.
  */
 #ifndef CTIMER_H_
 #define CTIMER_H_

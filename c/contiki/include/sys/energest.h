@@ -12,9 +12,13 @@
 #include "sys/clock.h"
 #include "sys/rtimer.h"
 
-/* 0, the default: nothing is counted, and all times are 0. */
+/* 0, the default without simple-energest: nothing is counted, and all times are 0. */
 #ifndef ENERGEST_CONF_ON
+#if BUILD_WITH_SIMPLE_ENERGEST
+#define ENERGEST_CONF_ON 1
+#else
 #define ENERGEST_CONF_ON 0
+#endif
 #endif
 
 typedef enum energest_type {

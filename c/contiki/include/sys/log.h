@@ -7,6 +7,7 @@
 
 #include <stdio.h>
 
+#include "net/ipv6/uiplib.h"
 #include "net/linkaddr.h"
 #include "sys/cc.h"
 #include "sys/log-conf.h"
@@ -35,6 +36,17 @@
         log_lladdr(lladdr);         \
       }                             \
     }                               \
+  } while(0)
+
+#define LOG_6ADDR(level, ipaddr)   \
+  do {                             \
+    if((level) <= (LOG_LEVEL)) {   \
+      if(LOG_WITH_COMPACT_ADDR) {  \
+        log_6addr_compact(ipaddr); \
+      } else {                     \
+        log_6addr(ipaddr);         \
+      }                            \
+    }                              \
   } while(0)
 
 #define LOG_BYTES(level, data, length) \
@@ -81,12 +93,11 @@
     }                          \
   } while(0)
 
-#define LOG_PRINT_6ADDR(...) log_6addr(__VA_ARGS__)
-#define LOG_ERR_6ADDR(...) log_6addr(__VA_ARGS__)
-#define LOG_WARN_6ADDR(...) log_6addr(__VA_ARGS__)
-#define LOG_INFO_6ADDR(...) log_6addr(__VA_ARGS__)
-#define LOG_DBG_6ADDR(...) log_6addr(__VA_ARGS__)
-CC_REFUSED("the mote has no IPv6: use LOG_INFO_LLADDR and the like") void log_6addr(const void *address);
+#define LOG_PRINT_6ADDR(...) LOG_6ADDR(0, __VA_ARGS__)
+#define LOG_ERR_6ADDR(...) LOG_6ADDR(LOG_LEVEL_ERR, __VA_ARGS__)
+#define LOG_WARN_6ADDR(...) LOG_6ADDR(LOG_LEVEL_WARN, __VA_ARGS__)
+#define LOG_INFO_6ADDR(...) LOG_6ADDR(LOG_LEVEL_INFO, __VA_ARGS__)
+#define LOG_DBG_6ADDR(...) LOG_6ADDR(LOG_LEVEL_DBG, __VA_ARGS__)
 CC_REFUSED("levels are those of the source: define LOG_LEVEL") void log_set_level(const char *module, int level);
 CC_REFUSED("levels are those of the source: ask LOG_LEVEL") int log_get_level(const char *module);
 
@@ -114,6 +125,26 @@ log_lladdr_compact(const linkaddr_t *lladdr)
     LOG_OUTPUT("LL-NULL");
   } else {
     LOG_OUTPUT("LL-%02x%02x", lladdr->u8[LINKADDR_SIZE - 2], lladdr->u8[LINKADDR_SIZE - 1]);
+  }
+}
+
+/* Prints an IPv6 address as fd00::201:1:1:1. */
+static inline void
+log_6addr(const uip_ipaddr_t *ipaddr)
+{
+  char text[UIPLIB_IPV6_MAX_STR_LEN];
+  uiplib_ipaddr_snprint(text, sizeof text, ipaddr);
+  LOG_OUTPUT("%s", text);
+}
+
+/* The same as 6G-0001: 6L for a link-local address, 6M for one of a group. */
+static inline void
+log_6addr_compact(const uip_ipaddr_t *ipaddr)
+{
+  if(ipaddr == NULL) {
+    LOG_OUTPUT("6A-NULL");
+  } else {
+    LOG_OUTPUT("6%c-%02x%02x", uip_is_addr_mcast(ipaddr) ? 'M' : uip_is_addr_linklocal(ipaddr) ? 'L' : 'G', ipaddr->u8[14], ipaddr->u8[15]);
   }
 }
 

@@ -45,6 +45,8 @@ typedef unsigned char process_num_events_t;
 #define PROCESS_EVENT_MAX 138
 
 struct process {
+  /* The next one on PROCESS_LIST(). */
+  struct process *next;
   const char *name;
   PT_THREAD((*thread)(struct pt *, process_event_t, process_data_t));
   struct pt pt;
@@ -70,7 +72,7 @@ struct process_entry {
   PROCESS_NAME(name);                                                                                                \
   static const struct process_entry process_entry_##name                                                             \
     __attribute__((used, section("process_entries"), aligned(sizeof(void *)))) = {&name, __FILE__, __LINE__, #name}; \
-  struct process name = {strname, process_thread_##name, {0}, 0}
+  struct process name = {NULL, strname, process_thread_##name, {0}, 0}
 
 #define PROCESS_NAME_STRING(process) ((process)->name)
 
@@ -104,6 +106,11 @@ struct process_entry {
 extern struct process *process_current;
 #define PROCESS_CURRENT() process_current
 
+/* The processes of the program that run, the one that was started last first. Those of the kernel aren't in this list, nor is one that ends,
+ * from when the others receive EXITED. */
+extern struct process *process_list;
+#define PROCESS_LIST() process_list
+
 /* Between the two, timers are set for process p. */
 #define PROCESS_CONTEXT_BEGIN(p)                     \
   {                                                  \
@@ -136,7 +143,5 @@ process_event_t process_alloc_event(void);
 CC_REFUSED("the mote runs the processes: leave this call out") void process_init(void);
 CC_REFUSED("the mote runs the processes: leave this call out") int process_run(void);
 CC_REFUSED("the mote does not report the number of events in the queue") int process_nevents(void);
-CC_REFUSED("the mote does not report its list of processes") struct process *process_list_head(void);
-#define PROCESS_LIST() process_list_head()
 
 #endif

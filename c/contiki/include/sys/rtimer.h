@@ -60,7 +60,7 @@ int rtimer_set_after(struct rtimer *task, rtimer_clock_t time, clock_time_t left
 
 /*
  * Calls func(task, ptr) at that time, or right after this activation if that time has passed. Returns RTIMER_OK. The duration is
- * ignored, as in Contiki-NG. It uses one of the process's four callback timers, and is lost when that process ends.
+ * ignored, as in Contiki-NG. It uses a callback timer of the process.
  */
 static inline int
 rtimer_set(struct rtimer *task, rtimer_clock_t time, rtimer_clock_t duration, rtimer_callback_t func, void *ptr)

@@ -75,6 +75,42 @@ read_setup_line(FILE *file, char *line, size_t *length)
   return *length > 0 || c == '\n';
 }
 
+/* The bytes of the character of UTF-8 that begins there, or 0 if none does: no surrogate, none beyond 10FFFF, none in more bytes than it
+ * needs. */
+static size_t
+character_length(const unsigned char *text)
+{
+  unsigned char first = text[0],
+                least = first == 0xe0   ? 0xa0
+                        : first == 0xf0 ? 0x90
+                                        : 0x80,
+                most = first == 0xed   ? 0x9f
+                       : first == 0xf4 ? 0x8f
+                                       : 0xbf;
+  size_t length = first < 0x80 ? 1 : first < 0xc2 ? 0 : first < 0xe0 ? 2 : first < 0xf0 ? 3 : first < 0xf5 ? 4 : 0;
+  if(length > 1 && (text[1] < least || text[1] > most)) {
+    return 0;
+  }
+  for(size_t i = 2; i < length; i++) {
+    if((text[i] & 0xc0) != 0x80) {
+      return 0;
+    }
+  }
+  return length;
+}
+
+/* Whether a text is UTF-8. It ends with a byte 0, which no character has in it. */
+static bool
+is_utf8(const char *text)
+{
+  size_t length = 1;
+  while(*text != '\0' && length > 0) {
+    length = character_length((const unsigned char *)text);
+    text += length;
+  }
+  return length > 0;
+}
+
 /* Reads a line; NULL, or why it is malformed. */
 static const char *
 take_line(struct network_setup *setup, uint64_t number, char *line, size_t length)
@@ -84,8 +120,11 @@ take_line(struct network_setup *setup, uint64_t number, char *line, size_t lengt
   if(length > LINE_LIMIT) {
     return "malformed: it has more than 1,024 bytes";
   }
-  if(strlen(line) != length) {
+  if(strlen(line) != length && *line != '#') {
     return "malformed: it has a byte 0";
+  }
+  if(!is_utf8(line)) {
+    return "malformed: it isn't UTF-8";
   }
   why = take_setup_line(setup, number, line);
   return why == NULL     ? NULL
@@ -188,7 +227,7 @@ run_script(int script, size_t motes)
   for(uint64_t number = 1; (reading = read_line(script, line, &length)) == READ_LINE; number++) {
     line[length] = '\0';
     memcpy(copy, line, length + 1);
-    if(length > LINE_LIMIT || strlen(line) != length || !take_input(copy, motes)) {
+    if(length > LINE_LIMIT || (strlen(line) != length && *line != '#') || !take_input(copy, motes)) {
       end_at_bad_line(number, line, length, "tick N, N serial HEX and N frame HEX, where N is a mote");
     }
     run_network();

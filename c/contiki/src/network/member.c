@@ -38,12 +38,6 @@ flush_console(void)
 }
 
 void
-tell_now(const char *what)
-{
-  network->tell_now(what);
-}
-
-void
 stop(const char *format, ...)
 {
   char what[REPORT_ROOM];

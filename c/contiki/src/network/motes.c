@@ -371,7 +371,7 @@ give_up_with(int status, const char *what)
 }
 
 static const struct network_host host = {
-  next_happening, answer_turn, clock_now, shown_lines, flush_console, tell_now, stop_with, give_up_with,
+  next_happening, answer_turn, clock_now, shown_lines, flush_console, stop_with, give_up_with,
 };
 
 /* Inputs, and the start. */

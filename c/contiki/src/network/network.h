@@ -14,7 +14,6 @@ struct network_host {
   clock_time_t (*clock_now)(void);
   uint64_t (*shown_lines)(void);
   void (*flush_console)(void);
-  void (*tell_now)(const char *what);
   CC_NORETURN void (*stop)(const char *what);
   CC_NORETURN void (*give_up)(int status, const char *what);
 };

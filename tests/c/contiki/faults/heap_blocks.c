@@ -1,4 +1,4 @@
-/* Takes seventeen blocks of heap memory. */
+/* Takes 65 blocks of heap memory. */
 #include "contiki.h"
 #include "net/netstack.h"
 #include "net/nullnet/nullnet.h"
@@ -10,7 +10,7 @@ PROCESS_THREAD(greedy, ev, data)
 {
   PROCESS_BEGIN();
 
-  for(int i = 0; i < 17; i++) {
+  for(int i = 0; i < 65; i++) {
     heapmem_alloc(1);
   }
 
