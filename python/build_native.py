@@ -6,6 +6,7 @@ mode with Python's stable interface (abi3): it is faster, and taken wherever cff
 """
 from __future__ import annotations
 
+import functools
 import hashlib
 import json
 import os
@@ -24,8 +25,8 @@ HEADER = CRATE / "include" / "toarmuts.h"
 PROVE = "./prove toarmuts"
 NO_SDIST = ("there is no source distribution: it would lack the proved library, which `./prove toarmuts` in the repository makes; "
             "`pip wheel ./python` there makes a wheel that can be handed on")
-SOURCES = ["native/transcript_table.c", "native/advance.c", "native/advance_network.c", "native/stack.c"]
-HEADERS = ("transcript_table.h", "advance.h", "advance_network.h", "stack.h")
+SOURCES = ["native/transcript_table.c", "native/advance.c", "native/advance_network.c", "native/network_script.c", "native/stack.c"]
+HEADERS = ("transcript_table.h", "advance.h", "advance_network.h", "network_script.h", "stack.h")
 
 # The headers for cffi, which reads no preprocessor's lines. The compiler compares it with them.
 DECLARED = """
@@ -55,8 +56,8 @@ struct toarmuts_link { ...; };
 struct network_advance { ...; };
 uint32_t open_network(const struct toarmuts_network_sizes *sizes, const struct toarmuts_network_mote *motes, uint64_t count,
                       const struct toarmuts_link *links, uint64_t links_count, struct toarmuts_network *network);
-uint32_t tick_network(struct toarmuts_network *network, uint32_t ticks);
-uint32_t feed_network(struct toarmuts_network *network, uint32_t mote, uint32_t kind, const uint8_t *bytes, uint64_t length);
+void advance_network_script(struct toarmuts_network *network, const uint8_t *script, uint64_t first, uint64_t length,
+                            struct network_advance *advance);
 void advance_network(struct toarmuts_network *network, const struct toarmuts_call *call, struct network_advance *advance);
 void advance_network_bundled(struct toarmuts_network *network, struct toarmuts_application *application, struct network_advance *advance);
 uint32_t toarmuts_network_clock(struct toarmuts_network *network, uint64_t *clock);
@@ -66,14 +67,14 @@ uint32_t toarmuts_network_close(struct toarmuts_network *network);
 
 
 class NotBuilt(SystemExit):
-    """The library isn't there, or isn't that of the sources. The message has the command that makes it."""
+    """The library isn't there, or isn't that of the sources, and none can be built. The message has the command that makes it."""
 
 
-def missing_calls() -> list[str]:
+def missing_calls(library: pathlib.Path) -> list[str]:
     """The calls of the header that the library lacks: it was made of older sources."""
     names = re.findall(r"\b(toarmuts_\w+)\(", HEADER.read_text(encoding="utf-8"))
-    library = LIBRARY.read_bytes()
-    return [name for name in dict.fromkeys(names) if name.encode() + b"\0" not in library]
+    content = library.read_bytes()
+    return [name for name in dict.fromkeys(names) if name.encode() + b"\0" not in content]
 
 
 def is_stale() -> bool:
@@ -84,16 +85,32 @@ def is_stale() -> bool:
     return subprocess.run([str(prove), "--is-current", "toarmuts"], check=False, capture_output=True).returncode == 1
 
 
-def check_library() -> None:
-    """Ends with the reason where there is no library that can be used."""
+def unproved_library() -> pathlib.Path | None:
+    """The library as scripts/unproved.py of the repository builds it without a proof, once; None where that can't be done."""
+    script = ROOT / "scripts" / "unproved.py"
+    if not script.exists():
+        return None
+    built = subprocess.run([str(script), "toarmuts"], check=False, stdin=subprocess.DEVNULL, stdout=subprocess.PIPE, text=True)
+    return pathlib.Path(built.stdout.rstrip("\n")) if built.returncode == 0 else None
+
+
+@functools.lru_cache(maxsize=None)
+def library_file() -> pathlib.Path:
+    """The proved library. Where that is missing, or older than its sources, it is one that is built without a proof; and where that can't
+    be built NotBuilt is raised, with the reason."""
     if not LIBRARY.exists():
-        raise NotBuilt(f"toarmuts: there is no {LIBRARY}: `{PROVE}` in {ROOT} proves and builds it")
-    lacking = missing_calls()
-    if lacking:
-        raise NotBuilt(f"toarmuts: {LIBRARY} lacks {lacking[0]}, it is older than its header: `{PROVE}` in {ROOT} makes it anew")
-    if "TOARMUTS_STALE" not in os.environ and is_stale():
-        raise NotBuilt(f"toarmuts: {LIBRARY} is older than its sources: `{PROVE}` in {ROOT} makes it anew "
-                       "(TOARMUTS_STALE=1 takes it as it is)")
+        why = f"there is no {LIBRARY}: `{PROVE}` in {ROOT} proves and builds it"
+    elif lacking := missing_calls(LIBRARY):
+        why = f"{LIBRARY} lacks {lacking[0]}, it is older than its header: `{PROVE}` in {ROOT} makes it anew"
+    elif "TOARMUTS_STALE" not in os.environ and is_stale():
+        why = f"{LIBRARY} is older than its sources: `{PROVE}` in {ROOT} makes it anew (TOARMUTS_STALE=1 takes it as it is)"
+    else:
+        return LIBRARY
+    unproved = unproved_library()
+    if unproved is None:
+        raise NotBuilt(f"toarmuts: {why}")
+    print(f"toarmuts: the library is unproved: {why}", file=sys.stderr)
+    return unproved
 
 
 def write_call_words(folder: pathlib.Path) -> str:
@@ -142,9 +159,9 @@ def build_arguments(folder: pathlib.Path) -> dict[str, Any]:
     return {
         "sources": [*SOURCES, write_call_words(folder), write_source(folder, "memory.c", '#include "toarmuts_memory.c"\n')],
         "include_dirs": [str(HERE / "native"), str(CRATE / "include")],
-        "depends": [str(LIBRARY), str(HEADER), *(str(HERE / "native" / name) for name in HEADERS)],
+        "depends": [str(library_file()), str(HEADER), *(str(HERE / "native" / name) for name in HEADERS)],
         "extra_compile_args": ["-std=c11", "-O3"],
-        "extra_link_args": ["-Wl,--whole-archive", str(LIBRARY), "-Wl,--no-whole-archive"],
+        "extra_link_args": ["-Wl,--whole-archive", str(library_file()), "-Wl,--no-whole-archive"],
         "py_limited_api": True,
     }
 
@@ -153,7 +170,7 @@ def extensions() -> list[Any]:
     """The modules that are compiled: the library for ctypes, that for cffi, and what makes entries, where these can be built."""
     from setuptools import Extension
 
-    check_library()
+    library_file()
     arguments = build_arguments(HERE / "build" / "native")
     entries = Extension("toarmuts._entries", sources=["native/entries.c"], include_dirs=[str(HERE / "native")],
                         depends=["native/transcript_table.h"], extra_compile_args=["-std=c11", "-O3"], py_limited_api=True)
@@ -169,7 +186,8 @@ def extensions() -> list[Any]:
     return [builder.distutils_extension(str(HERE / "build" / "native")), shared, entries]
 
 
-def built() -> dict[str, str]:
+def built() -> dict[str, Any]:
     """What the package records of its build: the repository, which TOARMUTS_REPOSITORY may name, and which library it was."""
-    repository = os.environ.get("TOARMUTS_REPOSITORY", str(ROOT))
-    return {"repository": repository, "library": hashlib.sha256(LIBRARY.read_bytes()).hexdigest(), "backend": backend()}
+    repository, library = os.environ.get("TOARMUTS_REPOSITORY", str(ROOT)), library_file()
+    return {"repository": repository, "library": hashlib.sha256(library.read_bytes()).hexdigest(), "is_proved": library == LIBRARY,
+            "backend": backend()}

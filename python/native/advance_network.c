@@ -3,6 +3,9 @@
  */
 #include "advance_network.h"
 
+#include <string.h>
+
+#include "network_script.h"
 #include "stack.h"
 
 /* Writes the line of what happened last, with a line end, after those that are there. */
@@ -25,6 +28,7 @@ begin_step(struct network_advance *advance)
 {
   advance->length = 0;
   advance->submitted = 0;
+  advance->executed = 0;
   advance->status = has_stack(STACK_OF_A_STEP) ? TOARMUTS_DONE : STACK_TOO_SMALL;
   return advance->status == TOARMUTS_DONE;
 }
@@ -66,13 +70,58 @@ step(struct toarmuts_network *network, struct network_advance *advance)
   advance->status = put_line(network, advance);
 }
 
+/* Whether there is room for one more line. */
+static bool
+has_room(const struct network_advance *advance)
+{
+  return sizeof advance->lines - advance->length > MOST_OF_A_LINE;
+}
+
 /* Works on to the next turn, to rest or to the halt, or until the lines fill the room. */
 static void
 go_on(struct toarmuts_network *network, struct network_advance *advance)
 {
   do {
     step(network, advance);
-  } while(advance->status == 0 && advance->step == TOARMUTS_ENTRY && sizeof advance->lines - advance->length > MOST_OF_A_LINE);
+  } while(advance->status == 0 && advance->step == TOARMUTS_ENTRY && has_room(advance));
+}
+
+/* Passes what a line says to the network, and returns the status. */
+static uint32_t
+feed(struct toarmuts_network *network, enum network_line line, const struct network_input *input)
+{
+  switch(line) {
+  case NETWORK_LINE_NOTHING:
+    return TOARMUTS_DONE;
+  case NETWORK_LINE_TICK:
+    return toarmuts_network_tick(network, input->ticks);
+  case NETWORK_LINE_BYTES:
+    return toarmuts_network_feed(network, input->mote, input->kind, input->bytes, input->length);
+  default:
+    return TOARMUTS_BAD_LINE;
+  }
+}
+
+/* Executes a line of a script, and works on. Returns whether it was an input. */
+static bool
+execute_line(struct toarmuts_network *network, const uint8_t *line, size_t length, struct network_advance *advance)
+{
+  struct network_input input;
+  enum network_line says = read_network_line(line, length, &input);
+
+  advance->status = feed(network, says, &input);
+  if(advance->status == TOARMUTS_NO_MOTE) {
+    advance->status = TOARMUTS_BAD_LINE;
+  }
+  if(advance->status != TOARMUTS_DONE) {
+    return false;
+  }
+  advance->executed += length + 1;
+  if(says == NETWORK_LINE_NOTHING) {
+    return false;
+  }
+  go_on(network, advance);
+  return true;
 }
 
 void
@@ -88,6 +137,25 @@ advance_network_bundled(struct toarmuts_network *network, struct toarmuts_applic
 {
   if(begin_step(advance) && end_turn(network, toarmuts_network_submit_bundled(network, application), advance)) {
     go_on(network, advance);
+  }
+}
+
+void
+advance_network_script(struct toarmuts_network *network, const uint8_t *script, uint64_t first, uint64_t length,
+                       struct network_advance *advance)
+{
+  const uint8_t *line = script + first, *last = script + length;
+  unsigned inputs = 0;
+
+  if(!begin_step(advance)) {
+    return;
+  }
+  advance->step = TOARMUTS_REST;
+  while(advance->status == TOARMUTS_DONE && advance->step == TOARMUTS_REST && line < last && inputs < MOST_INPUTS && has_room(advance)) {
+    const uint8_t *end = memchr(line, '\n', (size_t)(last - line));
+
+    inputs += execute_line(network, line, (size_t)(end - line), advance);
+    line = end + 1;
   }
 }
 
@@ -113,16 +181,4 @@ open_network(const struct toarmuts_network_sizes *sizes, const struct toarmuts_n
   uint32_t status = has_stack(STACK_OF_A_STEP) ? toarmuts_network_open(sizes, motes, count, network) : STACK_TOO_SMALL;
 
   return status == 0 ? add_links(network, links, links_count) : status;
-}
-
-uint32_t
-tick_network(struct toarmuts_network *network, uint32_t ticks)
-{
-  return has_stack(STACK_OF_A_STEP) ? toarmuts_network_tick(network, ticks) : STACK_TOO_SMALL;
-}
-
-uint32_t
-feed_network(struct toarmuts_network *network, uint32_t mote, uint32_t kind, const uint8_t *bytes, uint64_t length)
-{
-  return has_stack(STACK_OF_A_STEP) ? toarmuts_network_feed(network, mote, kind, bytes, length) : STACK_TOO_SMALL;
 }

@@ -1,5 +1,6 @@
 /*
- * Steps of a network in one call: the call that a turn awaits is submitted, and the network works on to the next turn or to rest.
+ * Steps of a network in one call: the call that a turn awaits is submitted, or lines of a script are executed, and the network works on to
+ * the next turn or to rest.
  */
 #ifndef ADVANCE_NETWORK_H
 #define ADVANCE_NETWORK_H
@@ -18,6 +19,7 @@ struct network_advance {
   struct toarmuts_turn turn;
   uint32_t mote; /* whose turn it is */
   uint32_t unused;
+  uint64_t executed; /* the bytes of the script whose lines were executed, with their line ends */
   uint8_t lines[4096];
 };
 
@@ -27,11 +29,15 @@ void advance_network(struct toarmuts_network *network, const struct toarmuts_cal
 /* The same, where a bundled application makes the call. */
 void advance_network_bundled(struct toarmuts_network *network, struct toarmuts_application *application, struct network_advance *advance);
 
-/* toarmuts_network_open and all its links, toarmuts_network_tick and toarmuts_network_feed, and the status STACK_TOO_SMALL. A network
- * with a link that is refused is closed. */
+/* Executes the lines of a script from this offset on, each to rest, up to the next turn or the halt, until the lines that were made fill
+ * the room, or until MOST_INPUTS inputs were executed, so that the caller can look at signals. Each line has its line end. BAD_LINE where
+ * the line after those that were executed is malformed, or for a mote that there isn't. */
+#define MOST_INPUTS 1000
+void advance_network_script(struct toarmuts_network *network, const uint8_t *script, uint64_t first, uint64_t length,
+                            struct network_advance *advance);
+
+/* toarmuts_network_open and all its links, and the status STACK_TOO_SMALL. A network with a link that is refused is closed. */
 uint32_t open_network(const struct toarmuts_network_sizes *sizes, const struct toarmuts_network_mote *motes, uint64_t count,
                       const struct toarmuts_link *links, uint64_t links_count, struct toarmuts_network *network);
-uint32_t tick_network(struct toarmuts_network *network, uint32_t ticks);
-uint32_t feed_network(struct toarmuts_network *network, uint32_t mote, uint32_t kind, const uint8_t *bytes, uint64_t length);
 
 #endif

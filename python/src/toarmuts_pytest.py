@@ -21,6 +21,7 @@ import pytest
 
 if TYPE_CHECKING:
     from toarmuts.coverage import Coverage
+    from toarmuts.network_runs import NetworkRun
     from toarmuts.runs import Run
     from toarmuts.scenario import Scenario
 
@@ -121,10 +122,9 @@ class ScenarioItem(pytest.Item):
             return f"{type(fault).__name__}: {fault}"
         return super().repr_failure(excinfo, style)
 
-    def _page_words(self, run: "Run | None") -> str:
+    def _page_words(self, run: "Run | NetworkRun | None") -> str:
         folder = self.config.getoption(_PAGES)
-        # The run of a network has no page.
-        if not folder or run is None or not hasattr(run, "page"):
+        if not folder or run is None:
             return ""
         place = pathlib.Path(folder) / (re.sub(r"[^A-Za-z0-9]+", "-", f"{self.path.stem}-{self.name}")[:80] + ".html")
         place.parent.mkdir(parents=True, exist_ok=True)

@@ -28,8 +28,9 @@ def run_python(code, folder=ROOT / "python", **environment):
     return (done.stdout + done.stderr).strip()
 
 
-def check_library(crate):
-    return run_python("import build_native; build_native.check_library()", TOARMUTS_CRATE=str(crate))
+def check_library(crate, **environment):
+    """What is told of the library that a build takes."""
+    return run_python("import build_native; build_native.library_file()", TOARMUTS_CRATE=str(crate), **environment)
 
 
 def test_a_missing_library_is_told_before_it_is_built(tmp_path):
@@ -147,15 +148,36 @@ def test_a_stale_library_may_be_taken_without_the_program_that_tells(tmp_path):
     assert check_library(crate) == ""
     (tmp_path / "prove").write_text("#!/bin/sh\ntouch asked\nexit 1\n")
     (tmp_path / "prove").chmod(0o755)
-    told = run_python("import build_native; build_native.check_library()", TOARMUTS_CRATE=str(crate), TOARMUTS_STALE="1")
-    assert told == "" and "older than its sources" in check_library(crate)
+    assert check_library(crate, TOARMUTS_STALE="1") == "" and "older than its sources" in check_library(crate)
 
 
-def copied(folder, note):
+@pytest.mark.parametrize("status", [0, 1])
+def test_an_unproved_library_is_built_where_there_is_no_proved_one(tmp_path, status):
+    """By scripts/unproved.py, for which there is a stand-in. Where it fails the reason is that of the proved one."""
+    (tmp_path / "scripts").mkdir()
+    script = tmp_path / "scripts/unproved.py"
+    script.write_text(f"#!/bin/sh\necho /unproved/$1.a\nexit {status}\n")
+    script.chmod(0o755)
+    told = run_python("import build_native; print(build_native.library_file())", TOARMUTS_CRATE=str(tmp_path / "crates/toarmuts"))
+    assert ("/unproved/toarmuts.a" in told) == (status == 0)
+    assert f"toarmuts: {'the library is unproved: ' * (status == 0)}there is no {tmp_path}/crates/toarmuts/out/libtoarmuts.a: " in told
+
+
+@pytest.mark.parametrize("is_proved", [True, False])
+def test_an_unproved_library_is_told(tmp_path, is_proved):
+    """A warning, once, where the package was built with an unproved library."""
+    settings = copied(tmp_path, "/nowhere", is_proved=is_proved)
+    if "TOARMUTS_LIBRARY" in os.environ:
+        return
+    told = run_python("import toarmuts; toarmuts.run(['hello'])", tmp_path, **settings)
+    assert told.count("the library of toarmuts is unproved; `./prove toarmuts`") == (not is_proved)
+
+
+def copied(folder, repository, **note):
     """The installed package in another place, with this note of its build."""
     place = folder / "toarmuts"
     shutil.copytree(HERE, place, ignore=shutil.ignore_patterns("__pycache__"))
-    (place / "built.json").write_text(json.dumps({"repository": note}))
+    (place / "built.json").write_text(json.dumps({"repository": repository, **note}))
     return {"PYTHONPATH": str(folder), "PATH": "/nowhere", "TOARMUTS_PICTURE": ""}
 
 

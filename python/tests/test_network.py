@@ -4,11 +4,13 @@ import itertools
 import math
 import pathlib
 import pickle
+import random
 import shutil
 import struct
 import subprocess
 import sys
 import threading
+import time
 
 import pytest
 from common import ROOT
@@ -60,7 +62,8 @@ def test_a_frame_is_lost_or_finds_no_room(loss, line):
     assert texts(network.start()) == [*STARTED[:4], line, *STARTED[4:]]
     entry = network.transcript[4]
     assert (entry.kind.value, entry.sender, entry.mote, entry.entry) == (line.partition(" ")[0], 1, 2, None)
-    assert [lost.text for lost in network.lost()] == ([line] if loss else []) and texts(network.tick(9)) == ["= 9"]
+    assert texts(network.lost()) == ([line] if loss else []) and texts(network.full()) == ([] if loss else [line])
+    assert texts(network.tick(9)) == ["= 9"] and network.so_far().full() == network.full() and network.so_far().lost() == network.lost()
 
 
 def test_a_halted_mote_misses_what_comes():
@@ -387,6 +390,94 @@ def test_many_lines_of_one_input():
     assert len(network.tick(1000)) == 100 * (1 + 3 * 4) and network.printed(2) == b"on\noff\n" * 50
 
 
+def test_what_a_network_did_goes_on_from_where_it_was():
+    """Each reading of a long run takes as long as what is new. By all lines it would take minutes."""
+    begun = time.process_time()
+    network = Network(["relay", "relay", "blink"]).link(1, 2).link(2, 1)
+    network.frame(1, b"a")
+    network.until(lambda network: len(network.sent()) == 1000 and network.sent(2) and network.frames()[-1].clock == network.clock)
+    network.until(lambda network: len(network.printed(3)) > 700 and not network.lost() and not network.full(), most=20_000)
+    mote = Mote(["blink"])
+    mote.until(lambda mote: mote.printed(4).count(b"off") == 300 and not mote.sent())
+    assert time.process_time() - begun < 4
+    run = network.so_far()
+    assert (network.printed(), network.sent(), network.frames(), network.frames(2)) == (
+        run.printed(), run.sent(), run.frames(), run.frames(2))
+    assert (network.mote(3).printed(4), network.mote(2).sent(), network.mote(1).transcript) == (
+        run.mote(3).printed(4), run.sent(2), run.transcript.mote(1))
+
+
+def test_many_inputs_are_taken_as_fast_as_few():
+    """A hundred thousand of a script, and ten thousand one by one, each to rest."""
+    begun = time.process_time()
+    run = run_network(Network([[]]), "tick 1\n" * 100_000, check=True)
+    assert len(run.transcript) == 100_000 and run.text.endswith("\n= 100000\n") and len(run.inputs) == 100_000
+    network = Network(["hello"])
+    for _ in range(10_000):
+        network.tick()
+    assert time.process_time() - begun < 3 and network.clock == 10_000 and len(network.so_far().inputs) == 10_000
+
+
+def test_a_long_delay_costs_no_search():
+    """The moments at which frames arrive are found without those that were before."""
+    network = Network(["relay", "relay"]).link(1, 2).link(2, 1).link(1, 1, delay=4_000_000_000)
+    network.frame(1, b"a")
+    begun = time.process_time()
+    network.until(lambda network: network.clock == 1500)
+    assert time.process_time() - begun < 2 and len(network.frames()) == 1501
+
+
+@pytest.mark.parametrize("kind", ["network", "mote"])
+def test_an_interrupt_of_a_reading_loses_nothing(kind):
+    """It is read anew."""
+    def made():
+        if kind == "mote":
+            held = Mote(["blink", "relay"])
+            held.tick(25)
+            return held
+        held = Network(["blink", "relay"])
+        # It reads nothing.
+        held.execute(b"tick 25\n")
+        return held
+
+    wanted = (made().printed(), made().sent(), made().transcript.data)
+    for place in itertools.count():
+        held, left, is_interrupted = made(), itertools.count(-place), False
+
+        def profile(frame, what, _, left=left):
+            if what in ("return", "c_return") and frame.f_code.co_filename.startswith(PACKAGE) and next(left) == 0:
+                sys.setprofile(None)
+                raise KeyboardInterrupt
+
+        sys.setprofile(profile)
+        try:
+            held.printed()
+        except KeyboardInterrupt:
+            is_interrupted = True
+        finally:
+            sys.setprofile(None)
+        assert (held.printed(), held.sent(), held.transcript.data) == wanted, place
+        assert held.tick(5)[-1].line == len(held.transcript)
+        if not is_interrupted:
+            break
+    assert place > 10
+
+
+def test_an_application_reads_the_network_it_is_in():
+    class Reads:
+        def turn(self, stimulus):
+            if isinstance(stimulus, Event) and stimulus.code == EventCode.SERIAL_LINE:
+                told.append((network.printed(), network.mote(1).clock))
+            return Wait()
+
+    told = []
+    network = Network([Reads, "blink", "hello"])
+    network.tick(20)
+    entries = network.serial_text(1, "on")
+    assert told == [(b"hi\non\noff\n", 20)] and [entry.entry.line for entry in entries] == [2, 3, 4]
+    assert texts(network.tick(10))[1:3] == ["2 > tick 10", "2 4 event 136 0 -> print 6f6e0a"]
+
+
 # Whole runs.
 
 def test_a_run_by_script():
@@ -428,16 +519,56 @@ def test_a_malformed_line(line):
 
 
 def test_a_line_that_is_not_text():
+    """Only a comment may be one, as for the program."""
     assert run_network(pair(), b"tick 1\n\xff\n").ended == "bad line 2"
+    run = run_network(pair(), b"tick 1\n# \xff\xe9\ntick 2\n", check=True)
+    assert run.inputs == ("tick 1", "# ??", "tick 2") and texts(run.transcript) == [*STARTED, "= 1", *RECEIVED]
     network = pair()
-    with pytest.raises(BadInput, match="line 2 of the script is not text"):
+    with pytest.raises(BadInput, match=r"^'\?' is not an input of a network of 2 motes \(line 2\)$"):
         network.run(b"tick 1\n\xff\n")
-    assert texts(network.run("tick 2\n")) == RECEIVED
+    assert texts(network.run(b"# \xff\ntick 2")) == RECEIVED and network.so_far().inputs == ("tick 1", "tick 2")
+
+
+def test_a_line_of_a_list_is_one_line():
+    run = run_network(pair(), ["tick 1", "# a\ntick 1", "tick 1"])
+    assert run.ended == "bad line 2" and run.inputs[1] == "# a\ntick 1"
 
 
 def test_too_long_a_script():
     run = run_network(pair(), "#" * 1000 + "\n" + ("#" * 1000 + "\n") * 16_800)
     assert run.status is Status.TOO_LONG and run.text == "too long\n"
+    whole = (b"#" * 1023 + b"\n") * 16_383 + b"#" * 1024
+    assert len(whole) == 16_777_216
+    assert run_network(Network(), whole).finished and run_network(Network(), whole.decode()).finished
+    for longer in (whole + b"\n", b"\n" + whole):
+        assert run_network(Network(), longer).ended == "too long"
+
+
+def script_line(chance):
+    """A line of a network's script, now and then malformed in one byte."""
+    line = chance.choice((f"tick {chance.choice((0, 7, 2**32 - 1, 2**32, 2**64 + 5, 10**20))}", f"{chance.randrange(5)} frame {'0A' * 127}",
+                          f"{chance.choice((1, 2, 3, 2**32 + 1))} serial {'fF' * chance.choice((1, 256, 257))}", "#" * 1024, "",
+                          f"1 frame {chance.choice(('00' * 128, '0', 'g0', '0G', '', '-'))}", "1 serial  00", f"{'9' * 30} frame 00"))
+    if chance.random() < 0.4:
+        at, other = chance.randrange(len(line) + 1), chance.choice(" 0123x#tf/:@G`g")
+        line = line[:at] + chance.choice((other, "")) + line[at + chance.choice((0, 1)):]
+    return line
+
+
+def test_both_readers_of_a_line_agree():
+    """That of the library's side in C, and that of scenarios in Python."""
+    with Network(["hello"] * 3) as network:
+        for number in range(4000):
+            line = script_line(random.Random(f"line {number}"))
+            try:
+                told = read_input(line, 3)
+            except BadInput:
+                with pytest.raises(BadInput, match="is not an input of a network of 3 motes"):
+                    network.feed(line)
+                continue
+            before = len(network.so_far().inputs) if number % 100 == 0 else None
+            network.feed(line)
+            assert before is None or len(network.so_far().inputs) == before + (told is not None)
 
 
 def test_a_script_for_the_program():
@@ -454,6 +585,10 @@ link 1 2 delay 3 every 2
 link 2 3 delay 1 lot 7 seed 9
 tick 10
 """
+    assert run_network(Network(["relay"] * 2).link(1, 2, lot=1, seed=2**32 - 1)).script().endswith("lot 1 seed 4294967295\n")
+    for large in (Network(["relay"] * 2).line(lot=1, seed=2**32 - 1), Network(["relay"], rounds=2**32)):
+        with pytest.raises(BadScenario, match="a number of a network's script is at most 4,294,967,295; this one is more: 4294967296"):
+            run_network(large).script()
     with pytest.raises(BadScenario, match="a mote of a network's script has at most one list"):
         run_network(Network([[beats, "echo"]])).script()
     with pytest.raises(BadScenario, match="a line of a network's script has at most 1,024 bytes; this one has more: mote 2 calls "):
@@ -479,7 +614,10 @@ def test_shapes():
     assert pairs(four().mesh()) == both((1, 2), (1, 3), (1, 4), (2, 3), (2, 4), (3, 4))
     assert pairs(four().grid(2)) == both((1, 2), (1, 3), (2, 4), (3, 4)) and pairs(four().grid(3)) == both((1, 2), (1, 4), (2, 3))
     lots = [link.loss for link in four().line([1, 2, 3], lot=5, seed=2**32 - 2).setup.links]
-    assert lots == [Loss(lot=5, seed=seed) for seed in (2**32 - 2, 2**32 - 1, 0, 1)]
+    assert lots == [Loss(lot=5, seed=seed) for seed in (2**32 - 2, 2**32 - 1, 2**32, 2**32 + 1)]
+    # After the largest it is 0, as docs/network.md has it, also where the largest is that of the last link.
+    for first, seeds in ((2**64 - 2, [2**64 - 2, 2**64 - 1]), (2**64 - 1, [2**64 - 1, 0])):
+        assert [link.loss.seed for link in four().line([1, 2], lot=5, seed=first).setup.links] == seeds
     links = [Link(1, 2), Link(2, 1, 7, Loss(every=3))]
     assert list(four().links(links).setup.links) == links and len(four()) == 4
 
@@ -490,6 +628,36 @@ def test_motes_at_positions():
     assert [(link.sender, link.receiver, link.delay) for link in network.setup.links] == [
         (1, 2, 5), (2, 1, 5), (1, 3, 3), (3, 1, 3), (2, 3, 4), (3, 2, 4)]
     assert pairs(Network(["hello"] * 4).disk({1: (0.5,), 4: (1.25,)}, range=1)) == both((1, 4))
+    # The nodes of a layout, from 0 on, and by names.
+    assert pairs(Network(["hello"] * 4).disk({1: (0,), 0: (1,), 2: (9,)}, range=1)) == both((1, 2))
+    assert pairs(Network(["hello"] * 4).disk({"a": (0,), "b": (9,), "c": (1,)}, range=1)) == both((1, 3))
+    assert pairs(Network(["hello"] * 3).disk([(0,), (1e300,), (-1e300,)], range=math.inf)) == both((1, 2), (1, 3), (2, 3))
+    assert pairs(Network(["hello"] * 3).disk([(0,), (1,), (1,)], range=0)) == both((2, 3))
+
+
+def test_motes_near_each_other_are_found_among_many():
+    """By the distances of all pairs; and many of them quickly."""
+    for number in range(40):
+        chance = random.Random(f"disk {number}")
+        sides, reach = chance.choice((1, 2, 3, 4)), chance.choice((0.5, 1, 1, 2.75, 1e-9, 1e9))
+        places = [tuple(chance.choice((chance.uniform(-6, 6), chance.randrange(-6, 7))) for _ in range(sides)) for _ in range(20)]
+        near = [(one, other) for one in range(20) for other in range(one + 1, 20) if math.dist(places[one], places[other]) <= reach]
+        assert pairs(Network(["hello"] * 20).disk(places, range=reach)) == both(*((one + 1, other + 1) for one, other in near)), number
+    begun = time.process_time()
+    network = Network(["hello"] * 4000).disk([(number % 64, number // 64) for number in range(4000)], range=1)
+    for _ in range(16_000):
+        network.link(1, 2)
+    for _ in range(2000):
+        network.add("hello")
+    assert len(network) == 6000 and len(network.setup.links) == 31_746
+    assert time.process_time() - begun < 2
+
+
+def test_positions_of_numpy():
+    numpy = pytest.importorskip("numpy", reason="no python3-numpy")
+    for kind in ("float64", "float32", "int16"):
+        network = Network(["hello"] * 3).disk(numpy.array([[0, 0], [3, 4], [30, 0]], dtype=kind), range=numpy.float32(5), delay=math.ceil)
+        assert network.setup.links == (Link(1, 2, 5), Link(2, 1, 5))
 
 
 class Graph:
@@ -516,8 +684,13 @@ def test_a_graph():
     assert pairs(three().graph(Graph("abc", [("a", "c", {}), ("b", "b", {})]))) == [(1, 3), (3, 1), (2, 2)]
     assert pairs(three().graph(Graph([0, 1, 2], [(0, 2, {})], directed=True))) == [(1, 3)]
     links = three().graph(Graph([3, 1], [(3, 1, {"delay": 4, "lot": 3, "seed": 8})]), every=2).setup.links
-    assert links == (Link(3, 1, 4, Loss(lot=3, seed=8)), Link(1, 3, 4, Loss(lot=3, seed=8)))
+    assert links == (Link(3, 1, 4, Loss(lot=3, seed=8)), Link(1, 3, 4, Loss(lot=3, seed=9)))
     assert [link.loss.seed for link in three().graph(Graph("ab", [("a", "b", {})]), lot=9, seed=5).setup.links] == [5, 6]
+    # A seed of an edge may be for the lot of all.
+    links = three().graph(Graph("abc", [("a", "b", {"seed": 70}), ("b", "c", {})]), lot=9, seed=5).setup.links
+    assert [link.loss for link in links] == [Loss(lot=9, seed=seed) for seed in (70, 71, 5, 6)]
+    # Numbers from 0 on, in any order.
+    assert pairs(three().graph(Graph([2, 0, 1], [(0, 2, {})], directed=True))) == [(1, 3)]
 
 
 def test_a_graph_of_networkx():
@@ -527,6 +700,9 @@ def test_a_graph_of_networkx():
     assert [(link.sender, link.receiver, link.delay) for link in Network(["hello"] * 3).graph(graph, delay=2).setup.links] == [
         (1, 2, 2), (2, 1, 2), (2, 3, 6), (3, 2, 6)]
     assert pairs(Network(["hello"] * 3).graph(networkx.DiGraph([(3, 1)]))) == [(3, 1)]
+    pytest.importorskip("numpy", reason="no python3-numpy")
+    ring = networkx.cycle_graph(4)
+    assert len(Network(["hello"] * 4).graph(ring).disk(networkx.circular_layout(ring), range=1.5).setup.links) == 16
 
 
 # Packets.
@@ -594,6 +770,17 @@ WRONG = [
     (lambda: pair().link(1, 2, every=0), BadNetwork, "every is 0; 1 to 4,294,967,295 is allowed"),
     (lambda: pair().link(1, 2, lot=65537), BadNetwork, "lot is 65537; 0 to 65,536 is allowed"),
     (lambda: pair().link(1, 2, every=2, lot=3), BadNetwork, "a link has one rule for losses: every or lot"),
+    (lambda: pair().link(1, 2, every=2, seed=5), BadNetwork, "seed is given, and there is no lot that it is for"),
+    (lambda: pair().line(seed=1), BadNetwork, "seed is given, and there is no lot that it is for"),
+    (lambda: Loss(seed=5), BadNetwork, "seed is 5, and there is no lot that it is for"),
+    (lambda: pair().graph(Graph("ab", [("a", "b", {"seed": 5})])), BadNetwork, "seed is given, and there is no lot that it is for"),
+    (lambda: pair().graph(Graph("ab", [("a", "b", {"every": 2, "seed": 5})]), lot=3), BadNetwork, "seed is given, and there is no lot"),
+    (lambda: pair().link(1, 2, lot=1, seed=2**64), BadNetwork, "seed is 18446744073709551616; 0 to 18,446,744,073,709,551,615 is allowed"),
+    (lambda: pair().links({Link(1, 2)}), WrongType, "links must be a list, not set"),
+    (lambda: pair().line({1, 2}), WrongType, "motes must be a list, not set"),
+    (lambda: pair().line(5), WrongType, "motes must be a list, not int"),
+    (lambda: Network({"relay"}), WrongType, "motes must be a list, not set"),
+    (lambda: Network({"relay": 1}), WrongType, "motes must be a list, not dict"),
     (lambda: pair().links([(1, 2)]), WrongType, "links must be a list of Link, not of tuple"),
     (lambda: Link(1, 2, 1, "every 3"), WrongType, "a link's loss must be a Loss, not str"),
     (lambda: pair().ring(), BadNetwork, "a ring of 2 motes; at least 3 are needed"),
@@ -604,6 +791,17 @@ WRONG = [
     (lambda: pair().disk({1: "ab"}, range=1), WrongType, "the position of mote 1 must be a list of numbers, not 'ab'"),
     (lambda: pair().disk(5, range=1), WrongType, "positions must be a list or a dict, not int"),
     (lambda: pair().disk([(0,), (1,)], range="1"), WrongType, "range must be a number, not str"),
+    (lambda: pair().disk([(0,), (1,)], range=float("nan")), BadNetwork, "range is nan; it must be at least 0"),
+    (lambda: pair().disk([(0,), (1,)], range=-1), BadNetwork, "range is -1; it must be at least 0"),
+    (lambda: pair().disk([(0,), (float("nan"),)], range=1), BadNetwork, "a coordinate of mote 2 is nan; it must be finite"),
+    (lambda: pair().disk([(float("inf"),), (1,)], range=1), BadNetwork, "a coordinate of mote 1 is inf; it must be finite"),
+    (lambda: pair().disk([(0,), (10**400,)], range=1), BadNetwork, "a coordinate of mote 2 is 1000"),
+    (lambda: pair().disk([(0,), (1, 2)], range=1), BadNetwork, "the position of mote 1 has 1 coordinates, that of mote 2 has 2"),
+    (lambda: pair().disk([(0,), (True,)], range=1), WrongType, "the position of mote 2 must be a list of numbers, not (True,)"),
+    (lambda: pair().disk([0, 1], range=1), WrongType, "the position of mote 1 must be a list of numbers, not 0"),
+    (lambda: pair().disk({(0,), (1,)}, range=1), WrongType, "positions must be a list or a dict, not set"),
+    (lambda: Network(["hello"] * 4).graph(Graph([0, 2, 3], [])), BadNetwork, "a node 0, which is the number of no mote"),
+    (lambda: Network(["hello"] * 4).graph(Graph([7, "a"], [])), BadNetwork, "a node 7, which is the number of no mote"),
     (lambda: pair().disk([(0,), (1,)], range=2, delay=lambda distance: distance), WrongType, "a link's delay must be an int, not float"),
     (lambda: pair().graph([(1, 2)]), WrongType, "a graph must be one of networkx, not list"),
     (lambda: pair().graph(Graph("abc", [])), BadNetwork, "a graph of 3 nodes for 2 motes"),
@@ -620,6 +818,16 @@ WRONG = [
     (lambda: pair().feed(b"tick 1"), WrongType, "a line of a script must be a str, not bytes"),
     (lambda: pair().run(5), WrongType, "a network's script must be a str, bytes or a list of lines, not int"),
     (lambda: pair().run([b"tick 1"]), WrongType, "a line of a script must be a str, not bytes"),
+    (lambda: pair().frames(3), WrongType, "there is no mote 3; there are 1 to 2"),
+    (lambda: pair().sent("1"), WrongType, "a mote's number must be an int, not str"),
+    (lambda: run_network(pair()).frames(3), WrongType, "there is no mote 3; there are 1 to 2"),
+    (lambda: run_network(pair()).sent(0), WrongType, "there is no mote 0; there are 1 to 2"),
+    (lambda: run_network(pair()).printed("1"), WrongType, "a mote's number must be an int, not str"),
+    (lambda: NetworkTranscript("").sent("1"), WrongType, "a mote's number must be an int, not str"),
+    (lambda: pair().mote(1).printed(3), WrongType, "there is no process 3; a mote has 4 to 19"),
+    (lambda: Mote().printed("4"), WrongType, "a process must be an int or None, not str"),
+    (lambda: pair().until(lambda network: False, most=-1), BadInput, "most is -1; 0 to 4,294,967,295 is allowed"),
+    (lambda: Mote().until(lambda mote: False, most="5"), WrongType, "most must be an int, not str"),
     (lambda: pair().until(5), WrongType, "until takes a function of the mote or network, not int"),
     (lambda: Mote().until(None), WrongType, "until takes a function of the mote or network, not NoneType"),
     (lambda: run_network([]), WrongType, "run_network takes a Network, not list"),

@@ -83,10 +83,12 @@ def test_what_the_program_alone_reads(line):
 
 
 def test_pytest_takes_networks(tmp_path):
-    """The difference is told, and a page isn't written of a network."""
+    """The difference is told, and a page of the network is written."""
     (tmp_path / "a.scenario").write_text(DIFFERS)
     done = run_pytest(tmp_path, "--toarmuts-coverage", "--toarmuts-pages", tmp_path / "pages")
-    assert done.returncode == 1 and "1 failed, 1 skipped" in done.stdout and not (tmp_path / "pages").exists(), done.stdout
+    assert done.returncode == 1 and "1 failed, 1 skipped" in done.stdout, done.stdout
+    page, = (tmp_path / "pages").iterdir()
+    assert "<h2>Motes</h2>" in page.read_text() and str(page) in done.stdout
     for words in ("line 3 of the transcript differs", "wanted:   = 4", "found:    = 3"):
         assert words in done.stdout
     (tmp_path / "a.scenario").write_text(DIFFERS.replace("= 4", "= 3").replace("mote 1\n", "mote 1\nends finished\n"))

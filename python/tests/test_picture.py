@@ -7,7 +7,7 @@ import pytest
 from common import ROOT, random_line
 
 import toarmuts
-from toarmuts import Mote, NoPicture, Print, Transcript, Wait
+from toarmuts import Link, Loss, Mote, Network, NetworkTranscript, NoPicture, Print, Transcript, Wait, run_network
 from toarmuts.picture import MOST_BYTES_SHOWN, program
 
 built = pytest.mark.skipif(program() is None, reason="the program mote_picture isn't built")
@@ -123,3 +123,79 @@ def test_a_clock_may_be_any_number(tmp_path, monkeypatch):
 
     stub(tmp_path, monkeypatch, 'printf "%s " "$@"')
     assert toarmuts.run(["hello"]).svg(first=Five()) == "--from 5 hello "
+
+
+def test_a_notebook_draws_a_picture_once(tmp_path, monkeypatch):
+    """It asks for each way of showing a run."""
+    stub(tmp_path, monkeypatch, f"echo . >>{tmp_path}/calls; echo '<svg/>'")
+    run = toarmuts.run(["hello"])
+    assert (run._repr_html_(), run._repr_svg_()) == (None, "<svg/>\n") and (tmp_path / "calls").read_text() == ".\n"
+    assert run._repr_svg_() == "<svg/>\n" and (tmp_path / "calls").read_text() == ".\n.\n"
+
+
+# Networks.
+
+def beat():
+    yield Wait()
+
+
+def network():
+    return Network(["relay", [beat, "echo"], []], mmem=64).link(1, 2, delay=3, every=2).links([Link(2, 3, 1, Loss(lot=9, seed=2**40))])
+
+
+def stub_of_networks(tmp_path, monkeypatch, text):
+    """A program in the place of network_picture."""
+    place = tmp_path / "networks"
+    place.write_text(f"#!/bin/sh\n{text}\n")
+    place.chmod(0o755)
+    monkeypatch.setattr("toarmuts.picture.program", lambda crate: place if crate == "network_picture" else None)
+
+
+def test_what_the_program_of_networks_is_given(tmp_path, monkeypatch):
+    """Motes, links and the transcript, and clocks."""
+    stub_of_networks(tmp_path, monkeypatch, 'printf "%s " "$@"; echo; cat')
+    run = run_network(network(), "1 frame 0a\ntick 2\n")
+    read = "mote 1 relay\nmote 2 beat echo\nmote 3\nlink 1 2 delay 3\nlink 2 3 delay 1\n" + run.text
+    assert run.svg() == f" \n{read}" and run.svg(first=0, last=5) == f"--from 0 --to 5 \n{read}"
+    held = network()
+    held.run("1 frame 0a\ntick 2\n")
+    assert held.svg(last=5) == f"--to 5 \n{read}" and held._repr_mimebundle_() == {"text/plain": repr(held), "image/svg+xml": f" \n{read}"}
+    assert run._repr_svg_() == f" \n{read}" and run._repr_html_() is None
+    with pytest.raises(toarmuts.BadInput, match="first is -1"):
+        run.svg(first=-1)
+
+
+def test_without_the_program_of_networks(monkeypatch):
+    monkeypatch.setattr("toarmuts.picture.program", lambda crate: None)
+    run = run_network(network(), "1 frame 0a\ntick 2\nfrob\n")
+    with pytest.raises(NoPicture, match="`./prove network_picture` in the repository proves and builds it"):
+        run.svg()
+    assert run._repr_svg_() is None and "It ended with: bad line 3." in run._repr_html_()
+    held = network()
+    assert held._repr_mimebundle_() == {"text/plain": "<Network of 3 motes, 2 links, not started>"}
+    held.tick(2)
+    assert list(held._repr_mimebundle_()) == ["text/plain", "text/html"]
+    shown = NetworkTranscript("1 > frame 0a\nlost 1 2\n= 5\n" + "2 4 event 140 - -> print 3c623e\n" * 98)._repr_html_()
+    assert shown.count("<tr") == 101 and "The first 100 of 101 entries." in shown and "<b>" not in shown
+    assert shown.count('<tr class="refused">') == shown.count('<tr class="input">') == 1
+    assert NetworkTranscript("frob\n")._repr_html_() is None
+
+
+def test_a_page_of_a_network(monkeypatch):
+    monkeypatch.setattr("toarmuts.picture.program", lambda crate: None)
+    run = run_network(network(), "# <b>\n1 frame 0a\ntick 3\n")
+    page = run.page("<title>")
+    for words in ("<h1>&lt;title&gt;</h1>", "It ended with: finished. Frames sent: 1; lost: 0; without room in flight: 0.",
+                  "<li><code>relay --mmem 64</code></li>", "<li><code>beat echo --mmem 64</code></li>",
+                  "link 1 2 delay 3 every 2\nlink 2 3 delay 1 lot 9 seed 1099511627776\n", "<pre># &lt;b&gt;\n1 frame 0a\ntick 3\n</pre>",
+                  "There is no picture", "the clock goes on to 3"):
+        assert words in page, words
+    assert page.count("<tr") == 1 + len(run.transcript) and "<h1>A network of 3 motes</h1>" in network().page()
+
+
+@pytest.mark.skipif(program("network_picture") is None, reason="the program network_picture isn't built")
+def test_a_chart_is_that_of_the_program():
+    run = run_network(network(), "1 frame 0a\ntick 20\n")
+    within = run.page().partition("<h2>Picture</h2>\n")[2].partition("\n<h2>")[0]
+    for svg in (run.svg(), run.svg(first=1, last=3), run._repr_svg_(), within):
+        assert ElementTree.fromstring(svg).tag.endswith("svg") and "a network of 3" in svg

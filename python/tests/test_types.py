@@ -36,6 +36,8 @@ with Network([applications, "relay", ["hello", "echo"]], mmem=64).add(beat, coun
     lines: list[NetworkEntry] = [line for line in network.frame(2, b"a") if line.kind is NetworkKind.LOST]
     sent: list[bytes] = network.until(lambda network: network.lost()).mote(2).sent()
     network.mote(1).serial_text("on").printed(1)
+svg: str = network.svg(first=0) + network.so_far().page("title")
+of_all_kinds = Network([beat, Greeter, ["relay", beat], [[MmemAlloc(0, 5), Wait()], "echo", Greeter()], "relay"])
 whole: NetworkRun = run_network(Network(["echo"]).disk([(0, 1.5)], range=2, delay=lambda distance: int(distance)), ["tick 5"], check=True)
 part: Run = whole.mote(1)
 '''

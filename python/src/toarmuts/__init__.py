@@ -14,6 +14,7 @@
 clone to a first result.
 """
 import importlib as _importlib
+import sys as _sys
 import typing as _typing
 
 from .applications import Application, ApplicationLike, CallList, Table, Turns
@@ -69,4 +70,8 @@ else:
         """Modules that take more than the package needs, once they are asked for."""
         if name in ("campaign", "network_strategies", "strategies"):
             return _importlib.import_module(f"{__name__}.{name}")
-        raise _no_attribute(f"module {__name__!r}", name)
+        fault = _no_attribute(f"module {__name__!r}", name)
+        # `from toarmuts import NAME` drops the reason of an AttributeError.
+        if _sys._getframe(1).f_code.co_name == "_handle_fromlist" and "it is now" in str(fault):
+            raise ImportError(str(fault).replace("has no attribute", "has no name"))
+        raise fault

@@ -174,15 +174,9 @@ class CffiNetwork:
         # As a mote's.
         self._finalizer.atexit = False
 
-    def tick(self, ticks: int) -> int:
-        """Lets the clock go on."""
-        status: int = lib.tick_network(self._network, ticks)
-        return status
-
-    def feed(self, mote: int, kind: int, data: bytes) -> int:
-        """Feeds an input from outside."""
-        status: int = lib.feed_network(self._network, mote, kind, data, len(data))
-        return status
+    def execute(self, script: bytes, first: int) -> None:
+        """Executes lines of a script from this offset on."""
+        lib.advance_network_script(self._network, script, first, len(script), self._advance)
 
     def advance(self, call: bytes) -> None:
         """Works on."""

@@ -12,7 +12,7 @@ from .library import (ADVANCE_SIZE, APPLICATION_SIZE, FIRST_ROOM, LINK_SIZE, MAK
                       NO_ROOM, ROW_SIZE, Configuration, Held, HeldNetwork, NetworkSizes, Outcome)
 
 NEEDED = ("toarmuts_run", "transcript_table", "transcript_lines", "run_mote", "open_mote", "feed_line", "feed_input", "toarmuts_clock",
-          "toarmuts_close", "toarmuts_due", "advance_mote", "advance_bundled", "open_network", "tick_network", "feed_network",
+          "toarmuts_close", "toarmuts_due", "advance_mote", "advance_bundled", "open_network", "advance_network_script",
           "advance_network", "advance_network_bundled", "toarmuts_network_clock", "toarmuts_network_due", "toarmuts_network_close")
 
 
@@ -100,14 +100,13 @@ class CtypesLibrary:
     def _declare_networks(self) -> None:
         calls, u64, pointer, u32 = self._calls, ctypes.c_uint64, ctypes.c_void_p, ctypes.c_uint32
         calls.open_network.argtypes = [pointer, ctypes.c_char_p, u64, ctypes.c_char_p, u64, pointer]
-        calls.tick_network.argtypes = [pointer, u32]
-        calls.feed_network.argtypes = [pointer, u32, u32, ctypes.c_char_p, u64]
+        calls.advance_network_script.argtypes = [pointer, ctypes.c_char_p, u64, u64, pointer]
+        calls.advance_network_script.restype = None
         calls.advance_network.argtypes, calls.advance_network.restype = [pointer, ctypes.c_char_p, pointer], None
         calls.advance_network_bundled.argtypes, calls.advance_network_bundled.restype = [pointer, pointer, pointer], None
         calls.toarmuts_network_clock.argtypes, calls.toarmuts_network_close.argtypes = [pointer, pointer], [pointer]
         calls.toarmuts_network_due.argtypes = [pointer, u32, pointer]
-        for name in ("open_network", "tick_network", "feed_network", "toarmuts_network_clock", "toarmuts_network_due",
-                     "toarmuts_network_close"):
+        for name in ("open_network", "toarmuts_network_clock", "toarmuts_network_due", "toarmuts_network_close"):
             getattr(calls, name).restype = u32
 
     def run(self, configuration: Configuration, applications: bytes, script: bytes) -> Outcome:
@@ -219,15 +218,9 @@ class CtypesNetwork:
         # As a mote's.
         self._finalizer.atexit = False
 
-    def tick(self, ticks: int) -> int:
-        """Lets the clock go on."""
-        status: int = self._calls.tick_network(self._pointer, ticks)
-        return status
-
-    def feed(self, mote: int, kind: int, data: bytes) -> int:
-        """Feeds an input from outside."""
-        status: int = self._calls.feed_network(self._pointer, mote, kind, data, len(data))
-        return status
+    def execute(self, script: bytes, first: int) -> None:
+        """Executes lines of a script from this offset on."""
+        self._calls.advance_network_script(self._pointer, script, first, len(script), ctypes.addressof(self._advance))
 
     def advance(self, call: bytes) -> None:
         """Works on."""

@@ -31,7 +31,7 @@ MOST_ROOM_KEPT = 1 << 24
 ROW_SIZE = 56
 ADVANCE_SIZE = 1488
 APPLICATION_SIZE = 152
-NETWORK_ADVANCE_SIZE = 4304
+NETWORK_ADVANCE_SIZE = 4312
 
 Configuration = tuple[int, int, int, int, int, int]
 """mmem, heap, header, whether there is a quota, quota, quiet: ``struct toarmuts_configuration``."""
@@ -102,11 +102,8 @@ class HeldNetwork(Protocol):
     advance_bytes: bytearray
     """``struct network_advance`` of native/advance_network.h, as the last advance left it."""
 
-    def tick(self, ticks: int) -> int:
-        """Lets the clock go on; returns the status."""
-
-    def feed(self, mote: int, kind: int, data: bytes) -> int:
-        """Feeds an input from outside; returns the status."""
+    def execute(self, script: bytes, first: int) -> None:
+        """Executes lines of a script from this offset on, each with its line end; the result is in ``advance_bytes``."""
 
     def advance(self, call: bytes) -> None:
         """Makes a call, if it has a kind, and works on; the result is in ``advance_bytes``."""
@@ -236,10 +233,14 @@ def belongs_to_another(place: pathlib.Path) -> bool:
 
 
 def _warn_where_stale() -> None:
-    """Warns where the repository's library is no longer the one that the package was built with."""
+    """Warns where the library is unproved, or is no longer the repository's."""
     note, root = _note(), repository()
-    if root is None or "library" not in note:
+    made = root / "crates/toarmuts/out/libtoarmuts.a" if root is not None else None
+    # An editable installation has no note.
+    if not note.get("is_proved", bool(note) or made is None or made.exists()):
+        warnings.warn("the library of toarmuts is unproved; `./prove toarmuts` in the repository, and then `pip install ./python`, "
+                      "make a proved one", stacklevel=2)
+    if made is None or "library" not in note:
         return
-    made = root / "crates/toarmuts/out/libtoarmuts.a"
     if made.exists() and hashlib.sha256(made.read_bytes()).hexdigest() != note["library"]:
         warnings.warn(f"toarmuts was built with another library than {made}: `pip install {root}/python` rebuilds it", stacklevel=2)

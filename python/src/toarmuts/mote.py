@@ -10,12 +10,13 @@ from .call import Call
 from .errors import BadInput, MoteError, WrongType, no_attribute
 from .library import CLOSED
 from .options import Options, one_of
+from .progress import MoteProgress
 from .rules import FIRST_PROCESS
 from .runs import Run
 from .script import (MOST_FRAME, MOST_SERIAL, ScriptLike, check_data, check_ticks, encoded, has_form, line_bytes, script_bytes,
                      script_lines, ticks_up_to)
 from .stepper import BAD_LINE, Stepper, clock_of, refuse
-from .transcript import Transcript
+from .transcript import Transcript, check_process
 from .until import advance_until
 from .values import Status, Stimulus, index_of
 
@@ -48,6 +49,8 @@ class Mote:
         self._named = read_applications(applications)
         self._lock = threading.Lock()
         self._stepper = Stepper(self._named, self.options)
+        self._read: MoteProgress | None = MoteProgress()
+        """What its entries say, as far as they were read; None where an interrupt came into a reading."""
         self._closed, self._last_clock = False, 0
         self.booted = self._do(self._stepper.work)
         """The entries of the boot."""
@@ -178,11 +181,20 @@ class Mote:
 
     def printed(self, process: int | None = None) -> bytes:
         """What was printed so far, by one process or by all."""
-        return self.transcript.printed(process)
+        return self._progress().printed_by(check_process(process))
 
     def sent(self) -> list[bytes]:
         """The frames that were sent so far."""
-        return self.transcript.sent()
+        return list(self._progress().sent)
+
+    def _progress(self) -> MoteProgress:
+        """What all entries so far say."""
+        read, pieces = self._read or MoteProgress(), self._stepper.lines
+        if read.pieces < len(pieces):
+            self._read = None
+            read.read(b"".join(pieces[read.pieces:]), len(pieces))
+            self._read = read
+        return read
 
     @property
     def clock(self) -> int:
@@ -211,7 +223,7 @@ class Mote:
         if self._closed:
             raise refuse(CLOSED)
         mark = self._mark()
-        advance_until(self, predicate, lambda: self.due, check_ticks(most))
+        advance_until(self, predicate, lambda: self.due, most)
         return self._since(mark)
 
     @property

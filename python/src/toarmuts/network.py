@@ -1,29 +1,29 @@
 """A network in hand: motes with radio links between them, which takes inputs one by one."""
 from __future__ import annotations
 
-import itertools
 import threading
-from collections.abc import Callable, Iterable, Sequence
+from collections.abc import Callable, Iterable, Mapping, Sequence
 from dataclasses import replace
 from typing import Any
 
 from .applications import ApplicationLike, Made
 from .call import Call
 from .errors import BadInput, MoteError, WrongType
-from .library import CLOSED, NOT_AT_REST
-from .links import (MOST_NUMBER, Delay, Link, Loss, Pair, both_ways, check_number, check_positions, disk_links, graph_links, grid_of,
-                    line_of, mesh_of, ring_of)
+from .library import CLOSED
+from .links import (MOST_NUMBER, MOST_ROUNDS, Delay, Link, Pair, both_ways, check_number, check_positions, check_range, disk_links,
+                    graph_links, grid_of, line_of, list_of, loss_of, mesh_of, ring_of)
 from .network_runs import NetworkRun, check_mote, run_of_mote
-from .network_setup import (FRAME, ROOM, ROUNDS, SERIAL, InputLine, MoteLike, NetworkScriptLike, NetworkSetup, network_script, read_input,
-                            read_mote)
-from .network_transcript import Frame, NetworkEntry, NetworkTranscript, Place, Progress
+from .network_setup import (FRAME, ROOM, ROUNDS, SERIAL, InputLine, MoteLike, NetworkScriptLike, NetworkSetup, network_script, read_mote,
+                            text_of)
+from .network_transcript import Frame, NetworkEntry, NetworkKind, NetworkTranscript, Place
 from .options import Options, one_of
 from .pcap import TICKS_OF_A_SECOND, PathLike, write_packets
+from .progress import Moments, MoteProgress, Progress
 from .rules import FIRST_PROCESS
 from .runs import Run
 from .script import MOST_FRAME, MOST_SERIAL, check_data, check_ticks, line_bytes, ticks_up_to
 from .stepper import NetworkStepper, clock_of, refuse
-from .transcript import Transcript
+from .transcript import Transcript, check_process
 from .until import advance_until
 from .values import Status, Stimulus, index_of
 
@@ -50,23 +50,21 @@ class Network:
 
     def __init__(self, motes: Iterable[MoteLike] = (), *, mmem: int = 4096, heap: int = 4096, header: int = 16, quota: int | None = None,
                  options: Options | None = None, room: int = ROOM, rounds: int = ROUNDS) -> None:
-        if isinstance(motes, (str, bytes)) or not isinstance(motes, Iterable):
-            raise WrongType(f"motes must be a list, not {type(motes).__name__}")
+        listed = list_of("motes", motes)
         sizes = one_of(Options(mmem=mmem, heap=heap, header=header, quota=quota), options)
-        limits = check_number("room", room, 0, MOST_NUMBER), check_number("rounds", rounds, 0, MOST_NUMBER)
-        self._begin(NetworkSetup(tuple(read_mote(mote, sizes, number) for number, mote in enumerate(motes, 1)), (), *limits))
+        limits = check_number("room", room, 0, MOST_NUMBER), check_number("rounds", rounds, 0, MOST_ROUNDS)
+        self._begin(NetworkSetup(tuple(read_mote(mote, sizes, number) for number, mote in enumerate(listed, 1)), (), *limits))
 
     def _begin(self, setup: NetworkSetup) -> None:
-        self.setup = setup
-        """Its motes and links."""
+        self._motes, self._links = list(setup.motes), list(setup.links)
+        self._setup = setup
         self._lock = threading.Lock()
         self._stepper: NetworkStepper | None = None
-        self._read = Progress()
-        self._inputs: list[str] = []
+        self._read: Progress | None = Progress()
+        """What its lines say, as far as they were read; None where an interrupt came into a reading."""
+        self._moments: Moments | None = None
         self._booted = NetworkTranscript("")
         self._closed, self._last_clock = False, 0
-        self._dues: dict[int, tuple[int, int | None]] = {}
-        """The clock of a mote's next timer, and how many lines the mote had then: only its lines change it."""
 
     @staticmethod
     def of(setup: NetworkSetup) -> "Network":
@@ -80,35 +78,56 @@ class Network:
 
     # Setting it up.
 
-    def _change(self, setup: NetworkSetup) -> "Network":
+    @property
+    def setup(self) -> NetworkSetup:
+        """Its motes and links."""
+        known = self._setup
+        if (len(known.motes), len(known.links)) != (len(self._motes), len(self._links)):
+            self._setup = known = replace(known, motes=tuple(self._motes), links=tuple(self._links))
+        return known
+
+    def _limit(self, *, room: int | None = None, rounds: int | None = None) -> "Network":
+        """Sets the number of frames that can be in flight, or of rounds that one input can take."""
+        self._refuse_started()
+        known = self.setup
+        self._setup = replace(known, room=check_number("room", known.room if room is None else room, 0, MOST_NUMBER),
+                              rounds=check_number("rounds", known.rounds if rounds is None else rounds, 0, MOST_ROUNDS))
+        return self
+
+    def _check(self, mote: object) -> int:
+        return check_mote(len(self._motes), mote)
+
+    def _refuse_started(self) -> None:
         if self._stepper is not None or self._closed:
             raise MoteError("the network was started: motes and links are added before its first input")
-        self.setup = setup
-        return self
 
     def add(self, *applications: ApplicationLike, count: int = 1, mmem: int = 4096, heap: int = 4096, header: int = 16,
             quota: int | None = None, options: Options | None = None) -> "Network":
         """Adds ``count`` motes with these applications and sizes."""
         sizes = one_of(Options(mmem=mmem, heap=heap, header=header, quota=quota), options)
-        mote = read_mote(list(applications), sizes, len(self.setup.motes) + 1)
-        return self._change(replace(self.setup, motes=self.setup.motes + (mote,) * check_number("count", count, 0, MOST_NUMBER)))
+        self._refuse_started()
+        mote = read_mote(list(applications), sizes, len(self._motes) + 1)
+        self._motes += [mote] * check_number("count", count, 0, MOST_NUMBER)
+        return self
 
     def _with(self, links: Iterable[Link]) -> "Network":
-        made = tuple(links)
+        self._refuse_started()
+        made = list(links)
         for link in made:
             for mote in (link.sender, link.receiver):
-                check_mote(self.setup, mote)
-        return self._change(self.setup.with_links(self.setup.links + made))
+                self._check(mote)
+        self._links += made
+        return self
 
     def link(self, sender: int, receiver: int, *, delay: int = 1, every: int | None = None, lot: int | None = None,
-             seed: int = 0) -> "Network":
+             seed: int | None = None) -> "Network":
         """What mote ``sender`` sends, mote ``receiver`` hears ``delay`` ticks later. Each ``every``-th frame is lost, or about ``lot`` of
-        65,536 frames, by a generator that begins with ``seed``."""
-        return self._with([Link(sender, receiver, delay, Loss(every, lot, seed))])
+        65,536 frames, by a generator that begins with ``seed`` (0 to 2^64 - 1; default: 0)."""
+        return self._with([Link(sender, receiver, delay, loss_of(every, lot, seed))])
 
     def links(self, links: Iterable[Link]) -> "Network":
         """Adds these links."""
-        made = list(links)
+        made = list_of("links", links)
         wrong = next((link for link in made if not isinstance(link, Link)), None)
         if wrong is not None:
             raise WrongType(f"links must be a list of Link, not of {type(wrong).__name__}")
@@ -116,43 +135,45 @@ class Network:
 
     def _chosen(self, motes: Iterable[int] | None) -> list[int]:
         """The numbers of these motes, or of all."""
-        return list(range(1, len(self.setup.motes) + 1)) if motes is None else [check_mote(self.setup, mote) for mote in motes]
+        return list(range(1, len(self._motes) + 1)) if motes is None else [self._check(mote) for mote in list_of("motes", motes)]
 
-    def _shape(self, pairs: Sequence[Pair], delay: int, every: int | None, lot: int | None, seed: int) -> "Network":
-        return self._with(both_ways(pairs, delay, Loss(every, lot, seed)))
+    def _shape(self, pairs: Sequence[Pair], delay: int, every: int | None, lot: int | None, seed: int | None) -> "Network":
+        return self._with(both_ways(pairs, delay, loss_of(every, lot, seed)))
 
     def line(self, motes: Iterable[int] | None = None, *, delay: int = 1, every: int | None = None, lot: int | None = None,
-             seed: int = 0) -> "Network":
+             seed: int | None = None) -> "Network":
         """Links both ways between each of these motes, or of all, and the next. Of a lot each further link has the next seed."""
         return self._shape(line_of(self._chosen(motes)), delay, every, lot, seed)
 
     def ring(self, motes: Iterable[int] | None = None, *, delay: int = 1, every: int | None = None, lot: int | None = None,
-             seed: int = 0) -> "Network":
+             seed: int | None = None) -> "Network":
         """The same, and between the last and the first; at least three motes."""
         return self._shape(ring_of(self._chosen(motes)), delay, every, lot, seed)
 
     def mesh(self, motes: Iterable[int] | None = None, *, delay: int = 1, every: int | None = None, lot: int | None = None,
-             seed: int = 0) -> "Network":
+             seed: int | None = None) -> "Network":
         """Links both ways between each two motes."""
         return self._shape(mesh_of(self._chosen(motes)), delay, every, lot, seed)
 
     def grid(self, width: int, motes: Iterable[int] | None = None, *, delay: int = 1, every: int | None = None, lot: int | None = None,
-             seed: int = 0) -> "Network":
+             seed: int | None = None) -> "Network":
         """Rows of ``width`` motes, with links both ways between neighbours in a row or a column."""
         return self._shape(grid_of(self._chosen(motes), check_number("width", width, 1, MOST_NUMBER)), delay, every, lot, seed)
 
     def disk(self, positions: Any, *, range: float, delay: Delay = 1, every: int | None = None, lot: int | None = None,
-             seed: int = 0) -> "Network":
+             seed: int | None = None) -> "Network":
         """Links both ways between motes that are at most ``range`` from each other. ``positions`` has the coordinates of each mote: a list
-        in the order of the motes, or a dict. ``delay`` is a number of ticks, or a function that makes it of the distance."""
-        if isinstance(range, bool) or not isinstance(range, (int, float)):
-            raise WrongType(f"range must be a number, not {type(range).__name__}")
-        return self._with(disk_links(check_positions(positions, self._chosen(None)), range, delay, Loss(every, lot, seed)))
+        or an array in the order of the motes, or a dict, whose keys are as the nodes of :meth:`graph`. ``delay`` is a number of ticks, or a
+        function that makes it of the distance."""
+        places = check_positions(positions, self._chosen(None))
+        return self._with(disk_links(places, check_range(range), delay, loss_of(every, lot, seed)))
 
-    def graph(self, graph: Any, *, delay: int = 1, every: int | None = None, lot: int | None = None, seed: int = 0) -> "Network":
-        """A link for each edge of a graph of networkx, both ways where it is undirected. Nodes are the numbers of motes, or stand for the
-        motes 1, 2, .. in their order. An edge may have ``delay``, ``every``, ``lot`` and ``seed`` of its own."""
-        return self._with(graph_links(graph, self._chosen(None), delay, Loss(every, lot, seed)))
+    def graph(self, graph: Any, *, delay: int = 1, every: int | None = None, lot: int | None = None,
+              seed: int | None = None) -> "Network":
+        """A link for each edge of a graph of networkx, both ways where it is undirected. An edge may have ``delay``, ``every``, ``lot`` and
+        ``seed`` of its own; the way back has the next seed. Nodes are the numbers of motes. Where they are 0, 1, .., as those of
+        ``path_graph``, node k is mote k + 1. Nodes that are no numbers are the motes 1, 2, .. in their order."""
+        return self._with(graph_links(graph, self._chosen(None), delay, loss_of(every, lot, seed)))
 
     # Working it.
 
@@ -182,62 +203,68 @@ class Network:
         try:
             self._stepper.work()
         finally:
-            self._booted = self._since(Progress())
+            self._booted = self._since((0, 0, 0), {})
 
     def _refuse_at_work(self) -> None:
         if self._lock.locked():
             raise MoteError("the network is at work: its applications can't submit inputs or close it, and two threads can't share it")
 
     def _progress(self) -> Progress:
-        """How far the transcript has come."""
-        read, pieces = self._read, self._stepper.lines if self._stepper is not None else []
-        count = len(pieces)
-        if read.pieces < count:
-            self._read = read = read.after(b"".join(pieces[read.pieces:count]), count)
+        """What all lines so far say."""
+        read, pieces = self._read or Progress(), self._stepper.lines if self._stepper is not None else []
+        if read.pieces < len(pieces):
+            self._read = None
+            read.read(b"".join(pieces[read.pieces:]), len(pieces))
+            self._read = read
         return read
 
-    def _since(self, mark: Progress) -> NetworkTranscript:
-        """The lines that were made since then."""
-        pieces = self._stepper.lines[mark.pieces:] if self._stepper is not None else []
-        return NetworkTranscript(b"".join(pieces), lines_before=mark.lines, clock_before=mark.clock, before=mark.places)
+    def _mark(self) -> tuple[int, int, int]:
+        """Where the transcript is now: its pieces and its lines so far, and the clock."""
+        read = self._progress()
+        return read.pieces, read.lines, read.clock
+
+    def _since(self, mark: tuple[int, int, int], places: Mapping[int, Place]) -> NetworkTranscript:
+        """The lines that were made since then; the motes that have some were at these places."""
+        pieces, lines, clock = mark
+        made = self._stepper.lines[pieces:] if self._stepper is not None else []
+        return NetworkTranscript(b"".join(made), lines_before=lines, clock_before=clock, before=places)
 
     def _transcript_of(self, mote: int) -> Transcript:
-        return Transcript(self._progress().mote(mote))
+        return Transcript(b"".join(self._progress().mote(mote).lines))
 
-    def _do(self, work: Callable[[NetworkStepper], None]) -> NetworkTranscript:
+    def _do(self, work: Callable[[NetworkStepper], object]) -> NetworkTranscript:
         """Does this work, and returns the lines that it made."""
         __tracebackhide__ = True
         self._refuse_at_work()
         with self._lock:
             self._start()
-            mark = self._progress()
+            read, mark = self._progress(), self._mark()
+            places: dict[int, Place] = {}
+            read.before = places
             work(self._started())
-            return self._since(mark)
+            if self._progress() is not read:
+                # An application read the transcript, and an interrupt came into that.
+                places = Progress.of(self._started().lines[:mark[0]]).places()
+            return self._since(mark, places)
 
-    def submit_input(self, told: InputLine) -> NetworkTranscript:
+    def execute(self, script: bytes, *, until_halt: bool = False) -> int | None:
+        """Executes the lines of a script, which ends with a line end, each to rest. Returns the number of a malformed one, before which it
+        stops, or None. A halted network refuses inputs, unless the script is to be executed until the halt."""
+        __tracebackhide__ = True
+        self._refuse_at_work()
+        with self._lock:
+            self._start()
+            malformed = self._started().execute(script, until_halt)
+        return None if malformed is None else script.count(b"\n", 0, malformed) + 1
+
+    def _submit(self, told: InputLine) -> NetworkTranscript:
         """Takes an input as it was read."""
         __tracebackhide__ = True
-
-        def work(stepper: NetworkStepper) -> None:
-            __tracebackhide__ = True
-            inputs = [*self._inputs, told.text]
-            try:
-                status = stepper.held.feed(told.mote, told.kind, told.data) if told.mote else stepper.held.tick(told.ticks)
-                self._inputs = self._inputs if status else inputs
-            except BaseException:
-                # An interrupt may come when the library has the input: then it has work to do before it looks at another one.
-                if stepper.held.feed(0, SERIAL, b"") == NOT_AT_REST:
-                    self._inputs = inputs
-                raise
-            if status:
-                raise refuse(status, stepper.what)
-            stepper.work()
-
-        return self._do(work)
+        return self._do(lambda stepper: stepper.execute(told.text.encode() + b"\n"))
 
     def tick(self, ticks: int = 1) -> NetworkTranscript:
         """Advances the clock by 0 to 4,294,967,295 ticks."""
-        return self.submit_input(InputLine(0, 0, check_ticks(ticks), b""))
+        return self._submit(InputLine(0, 0, check_ticks(ticks), b""))
 
     def at(self, clock: int) -> NetworkTranscript:
         """Advances the clock up to this one; does nothing where it is there already."""
@@ -246,7 +273,7 @@ class Network:
 
     def serial(self, mote: int, data: bytes) -> NetworkTranscript:
         """A mote receives 1 to 256 bytes on its serial line."""
-        return self.submit_input(InputLine(check_mote(self.setup, mote), SERIAL, 0, check_data("serial", data, MOST_SERIAL)))
+        return self._submit(InputLine(self._check(mote), SERIAL, 0, check_data("serial", data, MOST_SERIAL)))
 
     def serial_text(self, mote: int, line: str | bytes) -> NetworkTranscript:
         """A mote receives this line and a line end on its serial line."""
@@ -254,27 +281,32 @@ class Network:
 
     def frame(self, mote: int, data: bytes) -> NetworkTranscript:
         """A mote receives a frame of 1 to 127 bytes from outside."""
-        return self.submit_input(InputLine(check_mote(self.setup, mote), FRAME, 0, check_data("frame", data, MOST_FRAME)))
+        return self._submit(InputLine(self._check(mote), FRAME, 0, check_data("frame", data, MOST_FRAME)))
 
     def feed(self, line: str) -> NetworkTranscript:
         """Executes a line of a script: ``tick N``, ``N serial HEX``, ``N frame HEX``; a comment or an empty line does nothing."""
-        told = read_input(line, len(self.setup.motes))
-        return self._do(lambda _: None) if told is None else self.submit_input(told)
+        if not isinstance(line, str):
+            raise WrongType(f"a line of a script must be a str, not {type(line).__name__}")
+        data = network_script([line]).data
+
+        def work(stepper: NetworkStepper) -> None:
+            if stepper.execute(data) is not None:
+                raise self._malformed(line)
+
+        return self._do(work)
+
+    def _malformed(self, line: str, place: str = "") -> BadInput:
+        return BadInput(f"{line[:100]!r} is not an input of a network of {len(self)} motes{place}")
 
     def run(self, script: NetworkScriptLike) -> NetworkTranscript:
         """Executes a script, each line to rest. A malformed line raises BadInput with its number; the lines before it were executed."""
+        lines = network_script(script)
         self.start()
-        mark = self._progress()
-        for number, line in enumerate(network_script(script), 1):
-            if line is None:
-                raise BadInput(f"line {number} of the script is not text")
-            try:
-                told = read_input(line, len(self.setup.motes))
-            except BadInput as fault:
-                raise BadInput(f"{fault} (line {number})") from None
-            if told is not None:
-                self.submit_input(told)
-        return self._since(mark)
+        mark, places = self._mark(), self._progress().places()
+        malformed = self.execute(lines.data)
+        if malformed is not None:
+            raise self._malformed(lines.shown[malformed - 1], f" (line {malformed})")
+        return self._since(mark, places)
 
     def until(self, predicate: Callable[["Network"], object], *, most: int = 100_000) -> NetworkTranscript:
         """Advances the clock until ``predicate(network)`` holds, from one timer or arrival to the next, by at most ``most`` ticks in all.
@@ -287,21 +319,16 @@ class Network:
         7
         """
         self.start()
-        mark = self._progress()
-        advance_until(self, predicate, self._next_moment, check_ticks(most))
-        return self._since(mark)
+        mark, places = self._mark(), self._progress().places()
+        advance_until(self, predicate, self._next_moment, most)
+        return self._since(mark, places)
 
     def _next_moment(self) -> int | None:
         """The next clock at which a timer runs out, or a frame may arrive."""
-        stepper, progress = self._started(), self._progress()
-        delays: dict[int, list[int]] = {}
-        for link in self.setup.links:
-            delays.setdefault(link.sender, []).append(link.delay)
-        for mote, place in progress.places.items():
-            if self._dues.get(mote, (0, None))[0] != place.lines:
-                self._dues[mote] = place.lines, None if progress.has_halted(mote) else clock_of(stepper.held.due(mote))
-        dues = (due for _, due in self._dues.values() if due is not None)
-        return min(itertools.chain(dues, progress.arrivals(delays)), default=None)
+        held = self._started().held
+        if self._moments is None:
+            self._moments = Moments(self.setup.links)
+        return self._moments.next(self._progress(), lambda mote: clock_of(held.due(mote)))
 
     def submit(self, call: Call) -> NetworkTranscript:
         """Makes the call that a turn awaits, in place of its application."""
@@ -343,34 +370,56 @@ class Network:
 
     def printed(self, mote: int | None = None) -> bytes:
         """What was printed so far, by one mote or by all."""
-        return self.transcript.printed(mote) if mote is None else self.mote(mote).printed()
+        return bytes(self._progress().printed) if mote is None else self.mote(mote).printed()
 
     def sent(self, mote: int | None = None) -> list[bytes]:
         """The frames that were sent so far, by one mote or by all."""
-        return self.transcript.sent() if mote is None else self.mote(mote).sent()
+        return list(self._progress().sent) if mote is None else self.mote(mote).sent()
 
     def frames(self, mote: int | None = None) -> list[Frame]:
         """The same with the network's clock, and who sent them."""
-        return self.transcript.frames(mote)
+        frames, number = self._progress().frames, None if mote is None else self._check(mote)
+        return list(frames) if number is None else [frame for frame in frames if frame.mote == number]
 
     def lost(self) -> list[NetworkEntry]:
         """The frames that links lost so far."""
-        return self.transcript.lost()
+        return self._progress().passed(NetworkKind.LOST)
+
+    def full(self) -> list[NetworkEntry]:
+        """The frames so far that found no room in flight: the network's ``room`` is too small for them."""
+        return self._progress().passed(NetworkKind.FULL)
 
     def mote(self, number: int) -> "NetworkMote":
         """A mote of the network."""
-        return NetworkMote(self, check_mote(self.setup, number))
+        return NetworkMote(self, self._check(number))
 
     def __len__(self) -> int:
-        return len(self.setup.motes)
+        return len(self._motes)
 
     def so_far(self) -> NetworkRun:
         """The run so far. While a turn awaits its call, the transcript ends before that turn, and a run of these inputs would go on."""
-        return NetworkRun(self.setup, tuple(self._inputs), Status.HALTED if self.halted else Status.FINISHED, None, self.transcript)
+        executed = b"".join(self._stepper.executed) if self._stepper is not None else b""
+        inputs = tuple(text_of(line) for line in executed.split(b"\n") if line and not line.startswith(b"#"))
+        return NetworkRun(self.setup, inputs, Status.HALTED if self.halted else Status.FINISHED, None, self.transcript)
 
     def pcap(self, path: PathLike, *, ticks_of_a_second: int = TICKS_OF_A_SECOND) -> None:
         """Writes the frames that motes sent so far, with their times, as a file for tshark (IEEE 802.15.4 without FCS)."""
         write_packets(path, self.frames(), ticks_of_a_second)
+
+    def svg(self, *, first: int | None = None, last: int | None = None) -> str:
+        """The chart of the run so far, as that of a :class:`NetworkRun`."""
+        return self.so_far().svg(first=first, last=last)
+
+    def page(self, title: str = "") -> str:
+        """A page in HTML of the run so far."""
+        return self.so_far().page(title)
+
+    def _repr_mimebundle_(self, include: object = None, exclude: object = None) -> dict[str, str]:
+        """In a notebook: the chart of the run so far, or its first lines in words; before the start nothing but :func:`repr`."""
+        run, told = self.so_far(), {"text/plain": repr(self)}
+        svg = run._repr_svg_() if len(run.transcript) else None
+        table = run._repr_html_() if len(run.transcript) and svg is None else None
+        return told | ({"image/svg+xml": svg} if svg is not None else {}) | ({"text/html": table} if table is not None else {})
 
     @property
     def closed(self) -> bool:
@@ -396,7 +445,7 @@ class Network:
 
     def __repr__(self) -> str:
         what = "closed" if self._closed else "not started" if self._stepper is None else f"clock {self.clock}"
-        return f"<Network of {len(self.setup.motes)} motes, {len(self.setup.links)} links, {what}>"
+        return f"<Network of {len(self._motes)} motes, {len(self._links)} links, {what}>"
 
 
 class NetworkMote:
@@ -413,7 +462,7 @@ class NetworkMote:
     @property
     def clock(self) -> int:
         """The ticks that it received. It receives the time only when it needs it, so this may be behind the network's."""
-        return self.network._progress().places.get(self.number, Place()).clock
+        return self._progress().clock
 
     @property
     def due(self) -> int | None:
@@ -423,15 +472,18 @@ class NetworkMote:
     @property
     def halted(self) -> bool:
         """Whether it was halted; the others go on."""
-        return self.network._progress().has_halted(self.number)
+        return self._progress().has_halted
 
     def printed(self, process: int | None = None) -> bytes:
         """What it printed so far, by one process or by all."""
-        return self.transcript.printed(process)
+        return self._progress().printed_by(check_process(process))
 
     def sent(self) -> list[bytes]:
         """The frames that it sent so far."""
-        return self.transcript.sent()
+        return list(self._progress().sent)
+
+    def _progress(self) -> MoteProgress:
+        return self.network._progress().mote(self.number)
 
     def serial(self, data: bytes) -> NetworkTranscript:
         """Receives 1 to 256 bytes on the serial line."""

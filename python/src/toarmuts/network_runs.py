@@ -6,8 +6,9 @@ from typing import TYPE_CHECKING
 
 from .applications import Named
 from .difference import Difference, TranscriptLike, first_difference
-from .errors import BadInput, BadScenario, RunEnded, WrongType
-from .network_setup import MoteSetup, NetworkScriptLike, NetworkSetup, network_script, read_input, setup_lines, size_words
+from .errors import BadScenario, RunEnded, WrongType
+from .links import MOST_NUMBER
+from .network_setup import MoteSetup, NetworkScriptLike, NetworkSetup, network_script, setup_lines, size_words
 from .network_transcript import Frame, NetworkEntry, NetworkTranscript
 from .pcap import TICKS_OF_A_SECOND, PathLike, write_packets
 from .rules import FIRST_PROCESS, RULES
@@ -24,13 +25,13 @@ MOST_SCRIPT = RULES.limits["bytes_of_a_script"]
 _HALT = b"halt\n"
 
 
-def check_mote(setup: NetworkSetup, number: object) -> int:
-    """The number of a mote."""
+def check_mote(motes: int, number: object) -> int:
+    """The number of a mote of a network of this number of motes."""
     mote = index_of(number)
     if mote is None:
         raise WrongType(f"a mote's number must be an int, not {type(number).__name__}")
-    if not 1 <= mote <= len(setup.motes):
-        raise WrongType(f"there is no mote {mote}; there are 1 to {len(setup.motes)}" if setup.motes else "the network has no motes")
+    if not 1 <= mote <= motes:
+        raise WrongType(f"there is no mote {mote}; there are 1 to {motes}" if motes else "the network has no motes")
     return mote
 
 
@@ -82,24 +83,31 @@ class NetworkRun:
 
     def mote(self, number: int) -> Run:
         """A mote's part, as a run whose script has the inputs that the mote received."""
-        mote = check_mote(self.setup, number)
+        mote = self._check(number)
         return run_of_mote(self.setup.motes[mote - 1], self.transcript.mote(mote))
+
+    def _check(self, mote: object) -> int:
+        return check_mote(len(self.setup.motes), mote)
 
     def printed(self, mote: int | None = None) -> bytes:
         """What was printed, by one mote or by all."""
-        return self.transcript.printed(mote)
+        return self.transcript.printed(mote if mote is None else self._check(mote))
 
     def sent(self, mote: int | None = None) -> list[bytes]:
         """The frames that were sent, by one mote or by all."""
-        return self.transcript.sent(mote)
+        return [frame.data for frame in self.frames(mote)]
 
     def frames(self, mote: int | None = None) -> list[Frame]:
         """The same with the network's clock, and who sent them."""
-        return self.transcript.frames(mote)
+        return self.transcript.frames(mote if mote is None else self._check(mote))
 
     def lost(self) -> list[NetworkEntry]:
         """The frames that links lost."""
         return self.transcript.lost()
+
+    def full(self) -> list[NetworkEntry]:
+        """The frames that found no room in flight: the network's ``room`` is too small for them."""
+        return self.transcript.full()
 
     def difference(self, wanted: TranscriptLike) -> Difference | None:
         """The first line in which the transcript differs from another one, or from that of another run; or None."""
@@ -109,6 +117,30 @@ class NetworkRun:
         """Writes the frames that motes sent, with their times, as a file for tshark (IEEE 802.15.4 without FCS)."""
         write_packets(path, self.frames(), ticks_of_a_second)
 
+    def svg(self, *, first: int | None = None, last: int | None = None) -> str:
+        """The chart of the run, by the program ``network_picture``: from clock ``first`` to clock ``last``."""
+        from .picture import draw
+
+        return draw(self, first=first, last=last)
+
+    def _repr_svg_(self) -> str | None:
+        """The chart in a notebook; None where no program draws it, and where it would be larger than a megabyte."""
+        from .picture import draw_once
+
+        return draw_once(self, "svg")
+
+    def _repr_html_(self) -> str | None:
+        """The first lines in words, where a notebook shows no chart."""
+        from .picture import draw_once, table_for_notebook
+
+        return None if draw_once(self, "html") is not None else table_for_notebook(self.transcript, self.ended)
+
+    def page(self, title: str = "") -> str:
+        """A page in HTML: the chart, where it can be drawn, what was run, and each line in words."""
+        from .picture import page_of_network
+
+        return page_of_network(self, title)
+
     def script(self, *, comment: str = "") -> str:
         """A script for the program ``network`` with this run. An application in Python becomes a list of the calls that it made; such a
         script has at most one list for each mote, after the names."""
@@ -117,6 +149,10 @@ class NetworkRun:
         long = next((line for line in lines if len(line.encode("utf-8", "surrogatepass")) > MOST_SCRIPT_LINE), None)
         if long is not None:
             raise BadScenario(f"a line of a network's script has at most {MOST_SCRIPT_LINE:,} bytes; this one has more: {long[:100]}..")
+        numbers = (self.setup.rounds, *(link.loss.seed for link in self.setup.links))
+        large = next((number for number in numbers if number > MOST_NUMBER), None)
+        if large is not None:
+            raise BadScenario(f"a number of a network's script is at most {MOST_NUMBER:,}; this one is more: {large}")
         return "".join(f"{line}\n" for line in [*lines, *self.inputs])
 
     def __str__(self) -> str:
@@ -172,30 +208,12 @@ def run_setup(setup: NetworkSetup, script: NetworkScriptLike) -> NetworkRun:
 
     __tracebackhide__ = True
     lines = network_script(script)
-    shown = tuple("" if line is None else line for line in lines)
-    if sum(len(line.encode("utf-8", "surrogatepass")) + 1 for line in shown) > MOST_SCRIPT:
-        return NetworkRun(setup, shown, Status.TOO_LONG, None, NetworkTranscript("too long\n"))
+    if lines.size > MOST_SCRIPT:
+        return NetworkRun(setup, lines.shown, Status.TOO_LONG, None, NetworkTranscript("too long\n"))
     with Network.of(setup) as network:
         network.start()
-        line = _execute(network, lines)
-        data = network.transcript.data
-    if line is not None:
-        return NetworkRun(setup, shown, Status.BAD_LINE, line, NetworkTranscript(data + b"bad line %d\n" % line))
-    return NetworkRun(setup, shown, Status.HALTED if network.halted else Status.FINISHED, None, NetworkTranscript(data))
-
-
-def _execute(network: "Network", lines: list[str | None]) -> int | None:
-    """Executes lines, each to rest; returns the number of a malformed one."""
-    __tracebackhide__ = True
-    for number, line in enumerate(lines, 1):
-        if network.halted:
-            return None
-        if line is None:
-            return number
-        try:
-            told = read_input(line, len(network.setup.motes))
-        except BadInput:
-            return number
-        if told is not None:
-            network.submit_input(told)
-    return None
+        malformed = network.execute(lines.data, until_halt=True)
+        data, is_halted = network.transcript.data, network.halted
+    if malformed is not None:
+        return NetworkRun(setup, lines.shown, Status.BAD_LINE, malformed, NetworkTranscript(data + b"bad line %d\n" % malformed))
+    return NetworkRun(setup, lines.shown, Status.HALTED if is_halted else Status.FINISHED, None, NetworkTranscript(data))

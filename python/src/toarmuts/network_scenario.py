@@ -111,7 +111,7 @@ def _set_up(network: Network, word: str, line: str) -> None:
     if word == "mote":
         _add_motes(network, rest)
     elif word in ("room", "rounds"):
-        network.setup = replace(network.setup, **{word: read_number(rest, MOST_NUMBER)})
+        network._limit(**{word: read_number(rest, MOST_NUMBER)})
     else:
         _add_links(network, line)
 

@@ -4,11 +4,12 @@ from __future__ import annotations
 import functools
 import re
 import struct
-from collections.abc import Iterator, Sequence
+from collections.abc import Callable, Iterator, Sequence
 from dataclasses import dataclass, replace
 from typing import NamedTuple, Union
 
-from .applications import ApplicationLike, Made, Named, read_applications
+from .applications import Application, ApplicationLike, Made, Named, Turns, read_applications
+from .call import Call
 from .errors import BadInput, MoteError, ToarmutsError, WrongType
 from .library import BAD_SIZES, HeldNetwork, library
 from .links import Link
@@ -21,8 +22,9 @@ ROOM, ROUNDS = 1024, 16_777_216
 _MOTE = struct.Struct("=7I")
 _OF_MOTE = re.compile(r"(0|[1-9][0-9]{0,9}) ((?:serial|frame) .*)")
 
-MoteLike = Union[ApplicationLike, Sequence[ApplicationLike]]
-"""The applications of a mote of a network: a list of them, as a :class:`toarmuts.Mote` takes, or a single one that is no list of calls."""
+MoteLike = Union[str, Application, Callable[[], Union[Application, Turns]], Sequence[Union[ApplicationLike, Call]]]
+"""The applications of a mote of a network: a list of them, as a :class:`toarmuts.Mote` takes, or a single one that is no list of calls.
+It has one kind of list, since mypy finds no type for a list's members where there are two."""
 
 NetworkScriptLike = Union[str, bytes, Sequence[str]]
 """The inputs of a network: text, or a list of lines."""
@@ -143,26 +145,57 @@ def read_input(line: str, motes: int) -> InputLine | None:
     return InputLine(int(found[1]), SERIAL if word == "serial" else FRAME, 0, bytes.fromhex(data))
 
 
-def network_script(script: object) -> list[str | None]:
-    """The lines of a script; None for one that isn't text."""
+class Lines(NamedTuple):
+    """The lines of a script."""
+
+    data: bytes
+    """All of them, each with its line end."""
+    size: int
+    """The number of bytes, without a line end that was added."""
+    shown: tuple[str, ...]
+    """Each as text."""
+
+
+# What stands for a line of a list that no script can have, and is malformed.
+_NO_LINE = b"\0"
+
+
+def network_script(script: object) -> Lines:
+    """The lines of a script. Those that are executed needn't be UTF-8: a comment may have any bytes."""
     if isinstance(script, str):
         script = encoded(script, "a script")
     if isinstance(script, bytes):
-        lines = script.split(b"\n")
-        return [_text_of(line) for line in (lines if lines[-1] else lines[:-1])]
+        data = script if not script or script.endswith(b"\n") else script + b"\n"
+        return Lines(data, len(script), tuple(_texts_of(data)))
     if not isinstance(script, Sequence):
         raise WrongType(f"a network's script must be a str, bytes or a list of lines, not {type(script).__name__}")
     wrong = next((line for line in script if not isinstance(line, str)), None)
     if wrong is not None:
         raise WrongType(f"a line of a script must be a str, not {type(wrong).__name__}")
-    return list(script)
+    data = b"".join(map(_line_of, script))
+    return Lines(data, len(data), tuple(script))
 
 
-def _text_of(line: bytes) -> str | None:
+def _line_of(line: str) -> bytes:
+    """A line of a list, with its line end."""
+    data = line.encode("utf-8", "surrogatepass")
+    return (_NO_LINE if b"\n" in data else data) + b"\n"
+
+
+def _texts_of(data: bytes) -> list[str]:
+    """Whole lines as texts. What isn't UTF-8 in a line becomes question marks, each for one byte."""
+    try:
+        return data.decode().split("\n")[:-1]
+    except UnicodeDecodeError:
+        return [text_of(line) for line in data.split(b"\n")[:-1]]
+
+
+def text_of(line: bytes) -> str:
+    """A line as text."""
     try:
         return line.decode()
     except UnicodeDecodeError:
-        return None
+        return line.decode("ascii", "replace").replace("\ufffd", "?")
 
 
 def setup_lines(setup: NetworkSetup, words: Sequence[str]) -> Iterator[str]:

@@ -14,7 +14,6 @@ from .values import index_of
 _OF_MOTE = re.compile(rb"([1-9][0-9]*) (.+)")
 _CLOCK = re.compile(rb"= (0|[1-9][0-9]*)")
 _PASSING = re.compile(rb"(lost|full|missed) (-|[1-9][0-9]*) ([1-9][0-9]*)")
-_TICK = b"> tick "
 
 
 class NetworkKind(enum.Enum):
@@ -92,6 +91,14 @@ class Frame(NamedTuple):
     data: bytes
 
 
+def _number_of(mote: object) -> int:
+    """The number of a mote, which may have no lines."""
+    number = index_of(mote)
+    if number is None:
+        raise WrongType(f"a mote's number must be an int, not {type(mote).__name__}")
+    return number
+
+
 class NetworkTranscript(Sequence[NetworkEntry]):
     """The lines of a network's transcript, merged, in their order.
 
@@ -133,9 +140,7 @@ class NetworkTranscript(Sequence[NetworkEntry]):
 
     def mote(self, number: int) -> Transcript:
         """The entries of a mote, without its number: a transcript of that mote."""
-        mote = index_of(number)
-        if mote is None:
-            raise WrongType(f"a mote's number must be an int, not {type(number).__name__}")
+        mote = _number_of(number)
         return self._motes().get(mote) or self._part(mote, b"")
 
     @property
@@ -149,7 +154,7 @@ class NetworkTranscript(Sequence[NetworkEntry]):
             made: list[NetworkEntry] = []
             clock = self._clock_before
             for number, line in enumerate(self._lines(), self._lines_before + 1):
-                made.append(_entry_of(number, clock, line, entries))
+                made.append(entry_of(number, clock, line, entries))
                 clock = made[-1].clock
             self._entries = made
         return self._entries
@@ -189,6 +194,17 @@ class NetworkTranscript(Sequence[NetworkEntry]):
     def __repr__(self) -> str:
         return f"<NetworkTranscript of {len(self)} lines>"
 
+    def _repr_html_(self) -> str | None:
+        """The first lines in words, in a notebook."""
+        from .picture import table_for_notebook
+
+        return table_for_notebook(self)
+
+    def front(self, count: int) -> "NetworkTranscript":
+        """The first lines, ``count`` of them, as a transcript."""
+        return NetworkTranscript(b"\n".join(self.data.split(b"\n", count)[:count]), lines_before=self._lines_before,
+                                 clock_before=self._clock_before, before=self._before)
+
     def of(self, kind: NetworkKind) -> list[NetworkEntry]:
         """The lines of a kind."""
         if not isinstance(kind, NetworkKind):
@@ -206,8 +222,14 @@ class NetworkTranscript(Sequence[NetworkEntry]):
         turns = ((entry.text.rpartition(" -> print ")) for entry in self._all() if entry.kind is NetworkKind.ENTRY)
         return b"".join(b"" if data == "-" else bytes.fromhex(data) for _, found, data in turns if found)
 
+    def full(self) -> list[NetworkEntry]:
+        """The frames that found no room in flight: the network's ``room`` is too small for them."""
+        return self.of(NetworkKind.FULL)
+
     def frames(self, mote: int | None = None) -> list[Frame]:
         """The frames that one mote or all motes sent, with the network's clock."""
+        if mote is not None:
+            mote = _number_of(mote)
         sent = ((entry.clock, entry.mote, entry.entry) for entry in self._all() if mote is None or entry.mote == mote)
         return [Frame(clock, number, note.data) for clock, number, note in sent
                 if number is not None and isinstance(note, Note) and note.kind is NoteKind.SENT]
@@ -226,7 +248,7 @@ def _transcript_of(data: bytes, lines_before: int, clock_before: int, before: Ma
     return NetworkTranscript(data, lines_before=lines_before, clock_before=clock_before, before=before)
 
 
-def _entry_of(number: int, clock: int, line: bytes, entries: Mapping[int, Iterator[Entry]]) -> NetworkEntry:
+def entry_of(number: int, clock: int, line: bytes, entries: Mapping[int, Iterator[Entry]]) -> NetworkEntry:
     """The entry of a line; those of motes are taken from these."""
     text = line.decode("ascii", "replace")
     found = _OF_MOTE.fullmatch(line)
@@ -243,71 +265,3 @@ def _entry_of(number: int, clock: int, line: bytes, entries: Mapping[int, Iterat
     if text in ("halt", "too long") or re.fullmatch("bad line [1-9][0-9]*", text):
         return NetworkEntry(number, clock, text, NetworkKind("bad line" if text[0] == "b" else text))
     raise BadTranscript(f"line {number} is not a line of a network's transcript: {text[:100]}")
-
-
-class Chain(NamedTuple):
-    """Lines of a mote, and those before them."""
-
-    before: "Chain | None"
-    data: bytes
-
-
-class Sent(NamedTuple):
-    """When a mote sent a frame, and the frames before it."""
-
-    before: "Sent | None"
-    clock: int
-    mote: int
-
-
-class Progress:
-    """The state of a network's transcript, and the lines of each mote. It never changes: more lines make a new one, so an interrupt
-    leaves the old or the new one."""
-
-    def __init__(self) -> None:
-        self.pieces = self.lines = self.clock = 0
-        self.places: dict[int, Place] = {}
-        self.sent: Sent | None = None
-        self._chains: dict[int, Chain] = {}
-
-    def after(self, data: bytes, pieces: int) -> "Progress":
-        """The state after more whole lines, which make this number of pieces."""
-        made = Progress()
-        made.pieces, made.lines, made.clock, made.sent = pieces, self.lines, self.clock, self.sent
-        made.places, made._chains = dict(self.places), dict(self._chains)
-        for line in data.splitlines(keepends=True):
-            made.lines += 1
-            found = _OF_MOTE.match(line)
-            if found is not None:
-                made._add(int(found[1]), line[found.start(2):])
-            elif line.startswith(b"= "):
-                made.clock = int(line[2:])
-        return made
-
-    def _add(self, mote: int, line: bytes) -> None:
-        """Adds a line of a mote."""
-        self._chains[mote] = Chain(self._chains.get(mote), line)
-        lines, clock = self.places.get(mote, Place())
-        self.places[mote] = Place(lines + 1, clock + (int(line[len(_TICK):]) if line.startswith(_TICK) else 0))
-        if line.startswith(b"note sent "):
-            self.sent = Sent(self.sent, self.clock, mote)
-
-    def mote(self, number: int) -> bytes:
-        """The lines of a mote."""
-        parts, chain = [], self._chains.get(number)
-        while chain is not None:
-            parts.append(chain.data)
-            chain = chain.before
-        return b"".join(reversed(parts))
-
-    def has_halted(self, mote: int) -> bool:
-        """Whether a mote was halted."""
-        chain = self._chains.get(mote)
-        return chain is not None and chain.data == b"halt\n"
-
-    def arrivals(self, delays: Mapping[int, Sequence[int]]) -> Iterator[int]:
-        """The clocks after this one at which frames may arrive, over links with these delays by sender."""
-        most, sent = max((max(several) for several in delays.values()), default=0), self.sent
-        while sent is not None and sent.clock + most > self.clock:
-            yield from (sent.clock + delay for delay in delays.get(sent.mote, ()) if sent.clock + delay > self.clock)
-            sent = sent.before

@@ -123,15 +123,15 @@ class Run:
 
     def _repr_svg_(self) -> str | None:
         """The picture in a notebook; None where no program draws it, and where it would be larger than a megabyte."""
-        from .picture import draw_for_notebook
+        from .picture import draw_once
 
-        return draw_for_notebook(self)
+        return draw_once(self, "svg")
 
     def _repr_html_(self) -> str | None:
         """The first entries in words, where a notebook shows no picture."""
-        from .picture import table_for_notebook
+        from .picture import draw_once, table_for_notebook
 
-        return None if self._repr_svg_() is not None else table_for_notebook(self.transcript, self.ended)
+        return None if draw_once(self, "html") is not None else table_for_notebook(self.transcript, self.ended)
 
     def page(self, title: str = "") -> str:
         """A page in HTML: the picture, where it can be drawn, what was run, and each entry in words."""

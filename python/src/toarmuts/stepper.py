@@ -18,11 +18,12 @@ from .rules import FIRST_PROCESS
 from .transcript import Transcript
 from .values import Callback, Event, Payload, Reply, Stats, Stimulus
 
-# struct advance of native/advance.h and struct network_advance of native/advance_network.h, up to their lines. In the second one a mote
-# follows the turn.
-_ADVANCE, _NETWORK_ADVANCE = struct.Struct("=4I6IQ6I128s"), struct.Struct("=4I6IQ6I128s2I")
+# struct advance of native/advance.h and struct network_advance of native/advance_network.h, up to their lines. In the second one a mote,
+# and the number of bytes that were executed of a script, follow the turn.
+_ADVANCE, _NETWORK_ADVANCE = struct.Struct("=4I6IQ6I128s"), struct.Struct("=4I6IQ6I128sI4xQ")
 _TURN_BEGINS, _TURN_ENDS = 4, 18
-_TURN, _ENTRY, _REST, _HALT = range(4)
+# The steps of the library, and one for a malformed line.
+_TURN, _ENTRY, _REST, _HALT, _MALFORMED = range(5)
 _EVENT, _CALLBACK, _ANSWER = range(3)
 BAD_LINE, HALTED = 2, 3
 _NO_CALL = bytes(160)
@@ -123,11 +124,17 @@ class Worker:
         self._worked.advance_bytes[:4] = _NOTED_BYTES
         self.lines: list[bytes] = []
         self.line_count = 0
+        self.executed: list[bytes] = []
+        """Of a network: the lines of scripts that were executed."""
+        self._script, self._first = b"", 0
+        """Of a network: a script, and the offset of its first line that wasn't executed."""
         self.mote = 0
         """The mote whose turn awaits a call, from 1 on; of a mote alone 0."""
         self.awaiting: tuple[int, Stimulus] | None = None
         self._made: defaultdict[int, Call] = defaultdict()
         """At 0 the call that the application made then, until the library has it: an interrupt may come between."""
+        self._is_script = False
+        """Of a network: whether lines of a script were passed to the library, and no call."""
         self.halted = False
 
     def work(self, call: Call | None = None) -> None:
@@ -135,8 +142,9 @@ class Worker:
         __tracebackhide__ = True
         self._work(_NO_CALL if call is None else call.packed())
 
-    def _work(self, made: bytes | bytearray) -> None:
-        """The same. What is made is a call, or the state of a bundled application, which makes one."""
+    def _work(self, made: bytes | bytearray | None) -> int:
+        """The same, and returns the step. What is made is a call, or the state of a bundled application, which makes one; where it is None,
+        lines of a script are executed."""
         __tracebackhide__ = True
         while True:
             step = self._advance(made)
@@ -146,15 +154,19 @@ class Worker:
                 made = _NO_CALL
             else:
                 self.halted = step == _HALT
-                return
+                return step
 
-    def _advance(self, made: bytes | bytearray) -> int:
+    def _pass(self, made: bytes | bytearray | None) -> None:
+        """Passes a call to the library, which works on."""
+        if isinstance(made, bytearray):
+            self._worked.advance_bundled(made)
+        elif made is not None:
+            self._worked.advance(made)
+
+    def _advance(self, made: bytes | bytearray | None) -> int:
         """Passes a call to the library, works on, keeps the lines that were made, and notes which turn awaits a call then."""
         try:
-            if isinstance(made, bytearray):
-                self._worked.advance_bundled(made)
-            else:
-                self._worked.advance(made)
+            self._pass(made)
             return self._note()
         except BaseException:
             # An interrupt, or what another signal's handler raises, may come when the library has worked on, and nothing is noted yet.
@@ -172,16 +184,20 @@ class Worker:
         line_count = self.line_count + made.count(b"\n")
         turn = numbers[_TURN_BEGINS:_TURN_ENDS]
         awaiting = self._read_turn(turn) if step == _TURN and not status else None if submitted else self.awaiting
-        mote = sum(numbers[_TURN_ENDS:_TURN_ENDS + 1])
+        mote, length = numbers[_TURN_ENDS:] or (0, 0)
+        executed = self._script[self._first:self._first + length]
         # From here on no function is called before the lines are kept, so no interrupt comes between.
         told[:4] = _NOTED_BYTES
         self.mote, self.awaiting = mote, awaiting
-        # Where nothing was done for lack of memory, the library must still receive the call.
-        if self._made and (submitted or status not in (STACK_TOO_SMALL, OUT_OF_MEMORY)):
+        # Where nothing was done for lack of memory, the library must still receive the call; and where none was passed.
+        if self._made and not self._is_script and (submitted or status not in (STACK_TOO_SMALL, OUT_OF_MEMORY)):
             del self._made[0]
         self.line_count = line_count
-        if made:
-            self.lines.append(made)
+        self._first += length
+        self.executed += [executed] if executed else []
+        self.lines += [made] if made else []
+        if status == BAD_LINE:
+            return _MALFORMED
         if status:
             raise refuse(status, self.what)
         return int(step)
@@ -275,6 +291,22 @@ class NetworkStepper(Worker):
         self.held, self.applications = held, applications
         self._transcript_of = transcript_of
         super().__init__(held)
+
+    def execute(self, script: bytes, until_halt: bool = False) -> int | None:
+        """Executes the lines of a script, each with its line end, to rest. Returns the offset of a malformed one, or None."""
+        __tracebackhide__ = True
+        self._script, self._first = script, 0
+        while self._first < len(script) and not (until_halt and self.halted):
+            if self._work(None) == _MALFORMED:
+                return self._first
+        return None
+
+    def _pass(self, made: bytes | bytearray | None) -> None:
+        self._is_script = made is None
+        if made is None:
+            self.held.execute(self._script, self._first)
+        else:
+            super()._pass(made)
 
     def _application(self, process: int) -> Made:
         return self.applications[self.mote - 1][process - FIRST_PROCESS]

@@ -271,6 +271,18 @@ def _entry_of(source: Source, index: int) -> Entry:
     return source.rows(index, 1)[0]
 
 
+def check_process(process: object) -> int | None:
+    """The number of a process that a mote may have; None, all of them, stays."""
+    if process is None:
+        return None
+    number = index_of(process)
+    if number is None:
+        raise WrongType(f"a process must be an int or None, not {type(process).__name__}")
+    if not FIRST_PROCESS <= number < FIRST_PROCESS + MOST_APPLICATIONS:
+        raise WrongType(f"there is no process {number}; a mote has {FIRST_PROCESS} to {FIRST_PROCESS + MOST_APPLICATIONS - 1}")
+    return number
+
+
 class Transcript(Sequence[Entry]):
     """The entries of a transcript, made on demand.
 
@@ -366,15 +378,8 @@ class Transcript(Sequence[Entry]):
 
     def turns(self, process: int | None = None) -> list[Turn]:
         """The turns, of one process or of all. A mote has the processes 4 to 19."""
-        turns = [entry for entry in self._all() if isinstance(entry, Turn)]
-        if process is None:
-            return turns
-        number = index_of(process)
-        if number is None:
-            raise WrongType(f"a process must be an int or None, not {type(process).__name__}")
-        if not FIRST_PROCESS <= number < FIRST_PROCESS + MOST_APPLICATIONS:
-            raise WrongType(f"there is no process {number}; a mote has {FIRST_PROCESS} to {FIRST_PROCESS + MOST_APPLICATIONS - 1}")
-        return [turn for turn in turns if turn.process == number]
+        turns, number = [entry for entry in self._all() if isinstance(entry, Turn)], check_process(process)
+        return turns if number is None else [turn for turn in turns if turn.process == number]
 
     def inputs(self) -> list[Input]:
         """The inputs."""

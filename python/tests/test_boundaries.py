@@ -1,0 +1,104 @@
+"""Functions of the package at their boundaries, without a mote."""
+from __future__ import annotations
+
+from collections.abc import Iterator
+from typing import Any
+
+import pytest
+from toarmuts import BadInput, Options, Script, Transcript
+from toarmuts.coverage import Cell, Coverage
+from toarmuts.difference import first_difference
+from toarmuts.errors import NotReached
+from toarmuts.links import Loss, disk_links, graph_links
+from toarmuts.shrinking import make_case, shrink
+from toarmuts.until import advance_until
+from toarmuts.words import bytes_words
+
+
+class Clock:
+    """A clock that may be advanced a few times."""
+
+    def __init__(self) -> None:
+        self.clock, self.steps = 0, 0
+
+    def tick(self, ticks: int = 1) -> None:
+        self.steps += 1
+        assert self.steps < 9
+        self.clock += ticks
+
+
+@pytest.mark.parametrize("moment", [None, 3, 100])
+def test_most_ticks_of_until(moment: int | None) -> None:
+    """The clock is advanced by exactly the most ticks, and the predicate is asked there, too."""
+    clock = Clock()
+    advance_until(clock, lambda it: it.clock == 5, lambda: moment, 5)
+    assert clock.clock == 5
+    with pytest.raises(NotReached):
+        advance_until(clock, lambda it: it.clock == 11, lambda: moment, 5)
+    assert clock.clock == 10
+
+
+def test_lines_before_a_difference() -> None:
+    """Three lines before it, and the clock: of a mote the sum of its ticks, of a network its last one."""
+    told = first_difference("> tick 1\n> tick 2\na\nb\nc\n", "> tick 1\n> tick 2\na\nb\nd\n")
+    assert told is not None and (told.line, told.before, told.clock) == (5, ("> tick 2", "a", "b"), 3)
+    told = first_difference("= 5\n= 9\na\n", "= 5\n= 9\n")
+    assert told is not None and (told.line, told.found, told.clock) == (3, None, 9)
+
+
+def test_last_applications_are_left_out() -> None:
+    small, _ = shrink(make_case(["hello", "blink", "echo"], ["tick 1", "tick 2"]), lambda case: "tick 2" in case.script)
+    assert (small.applications, small.script) == (("hello",), ("tick 2",))
+
+
+def test_motes_at_the_reach() -> None:
+    """A mote is linked with one exactly as far away as the reach."""
+    links = disk_links({1: (0, 0), 2: (3, 4), 3: (3, 4.001)}, 5, 1, Loss())
+    assert [(link.sender, link.receiver) for link in links] == [(1, 2), (2, 1), (2, 3), (3, 2)]
+
+
+class Graph:
+    """What the package reads of a graph of networkx."""
+
+    def __init__(self, is_directed: bool) -> None:
+        self._is_directed = is_directed
+
+    def is_directed(self) -> bool:
+        return self._is_directed
+
+    def nodes(self) -> list[int]:
+        return [1, 2]
+
+    def edges(self, data: bool) -> Iterator[tuple[int, int, dict[str, Any]]]:
+        assert data
+        yield 1, 1, {}
+        yield 1, 2, {}
+
+
+@pytest.mark.parametrize(("is_directed", "pairs"), [(True, [(1, 1), (1, 2)]), (False, [(1, 1), (1, 2), (2, 1)])])
+def test_loops_of_a_graph(is_directed: bool, pairs: list[tuple[int, int]]) -> None:
+    """A loop is one link, also in an undirected graph."""
+    assert [(link.sender, link.receiver) for link in graph_links(Graph(is_directed), [1, 2], 1, Loss())] == pairs
+
+
+def test_comments_and_clocks() -> None:
+    assert len(Script().comment("x" * 1022).lines[0]) == 1024
+    with pytest.raises(BadInput):
+        Script().comment("x" * 1023)
+    assert Script().tick(3).at(3).lines == ("tick 3",) and Script().tick(3).at(4).lines == ("tick 3", "tick 1")
+
+
+def test_bytes_in_words() -> None:
+    """The first and the last byte of text, and those beside them."""
+    assert [bytes_words(bytes([byte])) for byte in (31, 32, 126, 127)] == ["1f", "' '", "'~'", "7f"]
+
+
+def test_a_quota_of_none() -> None:
+    """A quota of 0 is one, which no mote boots with."""
+    assert [Options(quota=quota).configuration()[3:5] for quota in (None, 0, 4)] == [(False, 0), (True, 0), (True, 4)]
+
+
+@pytest.mark.parametrize(("flag", "counts"), [("true", (1, 0)), ("false", (0, 1))])
+def test_flags_in_coverage(flag: str, counts: tuple[int, int]) -> None:
+    coverage = Coverage().add(Transcript(f"4 synch 129 - -> is-running 4\n4 answer flag {flag} -> wait\n"))
+    assert (coverage[Cell("is-running", "true")], coverage[Cell("is-running", "false")]) == counts
