@@ -14,6 +14,8 @@ from typing import Any
 COMMANDS, ANSWERS = 3, 4
 # A busy machine takes its time.
 MOST_SECONDS = 180.0
+# tests/coverage has what is reached of each page's scripts written to this folder.
+COUNTED = os.environ.get("TOARMUTS_COUNT_SCRIPTS")
 
 
 class ScriptError(AssertionError):
@@ -108,6 +110,8 @@ class Browser:
             page.call(f"{domain}.enable")
         page.call("Emulation.setDeviceMetricsOverride", width=width, height=height, deviceScaleFactor=1, mobile=False)
         page.call("Emulation.setEmulatedMedia", features=[{"name": "prefers-color-scheme", "value": "dark" if dark else "light"}])
+        if COUNTED:
+            page.begin_counting()
         page.call("Page.navigate", url=address)
         return page
 
@@ -170,5 +174,19 @@ class Page:
         thrown = [it.get("exception", {}).get("description", it["text"]) for it in found]
         return thrown + [it["text"] for it in logged if it["level"] == "error"]
 
+    def begin_counting(self) -> None:
+        for method in ("Debugger.enable", "Profiler.enable"):
+            self.call(method)
+        self.call("Profiler.startPreciseCoverage", callCount=True, detailed=True)
+
+    def write_counts(self, folder: Path) -> None:
+        """Writes each script of the page with the counts of its blocks."""
+        for script in self.call("Profiler.takePreciseCoverage")["result"]:
+            source = self.call("Debugger.getScriptSource", scriptId=script["scriptId"])["scriptSource"]
+            name = f"{os.getpid()}-{self._target}-{script['scriptId']}.script.json"
+            (folder / name).write_text(json.dumps({"source": source, "functions": script["functions"]}), encoding="utf-8")
+
     def close(self) -> None:
+        if COUNTED:
+            self.write_counts(Path(COUNTED))
         self._browser.call("Target.closeTarget", targetId=self._target)
