@@ -5,7 +5,7 @@ import shutil
 import subprocess
 import time
 from pathlib import Path
-from typing import IO, Callable
+from typing import Callable
 
 from tools import ROOT, Completed, Word, run
 
@@ -35,7 +35,7 @@ class Tree:
 
     def fill(self) -> None:
         shutil.copytree(ROOT / "tests/stand_ins", self.bin)
-        for folder in ("scripts", "examples/c", "crates/toarmuts/include"):
+        for folder in ("scripts", "interface", "examples/c", "crates/toarmuts/include"):
             shutil.copytree(ROOT / folder, self.root / folder, ignore=leave_out)
         for folder in (".git", "tests", "crates/low/specs", "crates/low/proofs"):
             (self.root / folder).mkdir(parents=True)
@@ -75,10 +75,10 @@ class Tree:
         self.ran = run("bash", "-c", command, cwd=self.root, settings=self.settings(**settings), timeout=300)
         return self.ran
 
-    def start(self, script: str, settings: dict[str, str], stdin: IO[bytes] | int = subprocess.DEVNULL) -> subprocess.Popen[bytes]:
+    def start(self, script: str, settings: dict[str, str], *words: str) -> subprocess.Popen[bytes]:
         """Starts a script of the tree, in a new process group, with no signal ignored."""
-        command = ["env", "--default-signal=INT,TERM,HUP", str(self.root / script)]
-        return subprocess.Popen(command, stdin=stdin, stdout=subprocess.PIPE, stderr=subprocess.PIPE, start_new_session=True,
+        command = ["env", "--default-signal=INT,TERM,HUP", str(self.root / script), *words]
+        return subprocess.Popen(command, stdin=subprocess.DEVNULL, stdout=subprocess.PIPE, stderr=subprocess.PIPE, start_new_session=True,
                                 env={**os.environ, **self.settings(**settings)})
 
     def begin_to_prove(self, **settings: str) -> subprocess.Popen[bytes]:
@@ -125,6 +125,10 @@ class Tree:
     def runs_proved(self, script: str = "mote") -> bool:
         self.run(script)
         return self.is_proved("")
+
+    def goes_on(self) -> bool:
+        """Whether a process that was started here still runs."""
+        return any(f"BEGUN={self.began}".encode() in environment_of(folder) for folder in Path("/proc").glob("[0-9]*"))
 
     def is_clean(self) -> bool:
         """Whether no started process runs any more, and the stored work is where rt has it."""

@@ -4,6 +4,7 @@ import os
 import re
 import shutil
 import subprocess
+import sys
 from pathlib import Path
 
 import pytest
@@ -45,7 +46,8 @@ class Gate:
         self.tree, self.temporary, self.settings = room / "a gate", room / "temporary", {"BEGUN": str(room / "begun")}
         for folder in ("lacks/pytest", "lacks/xdist", "tests", "../temporary"):
             (self.tree / folder).mkdir(parents=True)
-        for name in ("tests/all", "pytest.ini", ".gitignore"):
+        for name in ("tests/all", "scripts/schedule.py", "pytest.ini", ".gitignore"):
+            (self.tree / name).parent.mkdir(exist_ok=True)
             shutil.copy2(ROOT / name, self.tree / name)
         for name, text in STAND_INS.items():
             write_program(self.tree / name, f"#!/bin/bash\n{text}")
@@ -117,8 +119,41 @@ def test_some_tests(gate: Gate, words: list[str], last: str, begun: list[str]) -
 
 
 def test_no_such_name(gate: Gate) -> None:
-    status, lines = gate("first", "nothing")
-    assert (status, lines[0], gate.begun()) == (64, "tests/all: there are no tests nothing", [])
+    for words, why in ((["first", "nothing"], "there are no tests nothing"),
+                       (["--quick", "first"], "--quick has its own tests: leave out the names")):
+        status, lines = gate(*words)
+        assert (status, lines[0], gate.begun()) == (64, f"tests/all: {why}", [])
+
+
+def test_quick(gate: Gate) -> None:
+    """Some tests run, and nothing is proved. What they skip is counted."""
+    gate.add({"tests/test_style.py": "import os\ndef test_it(): assert 'TOARMUTS_TESTS_PROVE' not in os.environ\n",
+              "tests/test_program.py": "import os, pytest\n@pytest.mark.skipif('TOARMUTS_TESTS_QUICK' in os.environ, reason='not built')\n"
+              "def test_it(): pass\ndef test_more(): pass\n"})
+    status, lines = gate("--quick", TOARMUTS_TESTS_PROVE="1")
+    assert (status, lines[-2:]) == (0, ["1 skipped, for the reasons above", "2 passed, 0 failed"]), lines
+    assert any("not built" in line for line in lines) and gate.notes() == ""
+    assert len(gate.begun()) == 1 and {"style", "program"} <= set(gate.begun()[0].split())
+    assert gate("--quick", "-k", "more")[1][-1] == "1 passed, 0 failed"
+
+
+ALL_TAKE = "all proofs, 4 at a time, and all tests take about 37 minutes with 4 processors"
+
+
+@pytest.mark.parametrize(("words", "load", "told"), [
+    ([], 0, f"{ALL_TAKE}; what this kit proved before isn't proved again"),
+    ([], 4, f"{ALL_TAKE}, and about 74 while the machine is as busy as now; what this kit proved before isn't proved again"),
+    (["--quick"], 0, "this takes about 4 minutes with 4 processors"), (["first"], 0, ""),
+    (["--quick", "-x"], 1, "this takes about 4 minutes with 4 processors"),
+])
+def test_forecast(gate: Gate, words: list[str], load: int, told: str) -> None:
+    """How long it will take is printed first, for as many processors as there are and as busy as they are."""
+    code = ("import os, runpy, sys\nos.sched_getaffinity = lambda _: range(4)\n"
+            f"os.getloadavg = lambda: ({load}, 0, 0)\nsys.argv = ['all', *{words}]\n"
+            f"runpy.run_path({str(gate.tree / 'tests/all')!r}, run_name='__main__')\n")
+    ran = run(sys.executable, "-c", code, settings={**gate.settings, "RT_JOBS": "4"}, cwd=gate.tree)
+    first = ran.stderr.decode().partition("\n")[0]
+    assert first == (f"tests/all: {told}" if told else "") or not told and not first.startswith("tests/all: ")
 
 
 @pytest.mark.parametrize(("settings", "status", "last", "notes"), [

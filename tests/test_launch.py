@@ -2,157 +2,178 @@
 
 import os
 import random
+import shutil
 import signal
-import subprocess
-import time
+import tempfile
 from pathlib import Path
 
 import pytest
 
 from small_tree import WITHOUT_RT, Tree, wait_until
-from tools import AS_NOBODY, can_be_nobody, needs, run
+from tools import AS_NOBODY, can_be_nobody, run
+from unproved_build import export
 
 SCRIPT = random.Random(1).randbytes(100_000)
 WINDOWS = b"# one\r\n\ntick 1\r\n"
 REMARK = b"# one\r\ntick 1\n"
+IS_FILE = "a.script is a file; the script is read from standard input: < a.script"
 
 
 # ---- An unproved run ----
 
+def builds(tree: Tree) -> int:
+    """How often a program was built unproved."""
+    tries = tree.began.with_name("begun.tries")
+    return len(tries.read_text(encoding="utf-8").splitlines()) if tries.exists() else 0
+
+
+def stored(tree: Tree) -> list[Path]:
+    """What is in the folder of the unproved mote."""
+    return list((tree.crate("mote") / "out/unproved").iterdir())
+
+
 @pytest.mark.parametrize(("script", "words", "proving"), [
-    ("mote", ["--mmem", "8", "--", "two words", ""], "./prove"), ("mote-picture", ["--page", "a b"], "./prove mote_picture")])
+    ("mote", ["--mmem", "8", "--", "two words", ""], "./prove"), ("scenario", ["--write", "a b"], "./prove scenario")])
 def test_unproved_run(tree: Tree, script: str, words: list[str], proving: str) -> None:
-    """Arguments, input and output are passed on, and it is reported that the run is unproved."""
-    (tree.root / "crates/mote_picture").mkdir()
-    tree.run(script, *words, stdin=SCRIPT)
-    assert tree.is_unproved() and f"; {proving} proves and builds" in tree.stderr
-    assert tree.ran.stdout == f"words {' '.join(words)}\n".encode() + SCRIPT
+    """Arguments, input and output are passed on, and it is reported that the run is unproved. The first builds the program."""
+    for number in range(2):
+        tree.run(script, *words, stdin=SCRIPT)
+        told = f"{script}: this run is unproved; {proving} proves and builds the program\n"
+        assert tree.is_unproved() and tree.stderr.endswith(told) and ("is built without a proof" in tree.stderr) == (number == 0)
+        assert tree.ran.stdout == f"words {' '.join(words)}\n".encode() + SCRIPT
+    assert builds(tree) == 1
 
 
-def test_longest_input(tree: Tree) -> None:
-    """A byte more than a script may have is passed on, and no more."""
-    assert len(tree.run("mote", stdin=b"y\n" * 8_388_650).stdout) == len("words \n") + 16_777_217
+def test_status(tree: Tree) -> None:
+    """The program's status and standard error are passed on."""
+    tree.run("mote", STATUS="6", SAYS="mote: told\n")
+    assert (tree.ran.returncode, tree.stderr.splitlines()[2:]) == (6, ["mote: told"])
 
 
-def test_silence_on_input(tree: Tree) -> None:
-    """A pipe may be silent for longer than rt waits."""
-    assert tree.shell("(sleep 2.2; echo late) | ./mote").stdout == b"words \nlate\n"
-
-
-@pytest.mark.parametrize("status", [0, 2, 3, 4, 5, 6, 64, 70])
-def test_status(tree: Tree, status: int) -> None:
-    """The program's status and standard error are passed on, and nothing of rt's."""
-    ended = f"rt: a hint\nmote: told\nchecked: ended status={status}\nrun=ended status={status} runners=1 proved=no\n"
-    tree.run("mote", STATUS=str(status), SAYS=ended)
-    assert (tree.ran.returncode, tree.stderr.splitlines()[1:]) == (status, ["mote: told"])
-
-
-@pytest.mark.parametrize(("says", "status", "told"), [
-    *(("error: refused\nrun=none proved=no", str(status), ["error: refused", "run=none proved=no",
-                                                           f"mote: rt try gave no answer, and ended with status {status}"])
-      for status in range(1, 7)),
-    ("| tail\nchecked: no-answer: the program did not end within the time limit\nrun=no-answer proved=no", "6",
-     ["mote: the program did not end within the time limit: an unproved run has 1 MiB of output and 60 seconds; "
-      "what ./prove builds has no limit"]),
-    ("checked: no-answer: a fault\nrun=no-answer proved=no", "6", ["mote: rt try gave no answer, and ended with status 6"]),
+@pytest.mark.parametrize(("change", "is_built"), [
+    ("touch crates/low/src/lib.rt", False), ("echo more >>crates/low/proofs/Lib.antt", False),
+    ("echo >>crates/modules_c/src/lib.rt", False),
+    ("echo more >>crates/low/src/lib.rt", True), ("touch crates/low/src/other.rt", True), ("rm crates/mote/out/unproved/mote", True),
+    ("echo more >>crates/mote/out/unproved/mote", True), ("sed -i 's/high: low/high: low beside/' crates.txt", True),
+    ("touch -d 2000-01-01 crates/low/src/lib.rt; echo more >>crates/low/src/lib.rt; touch -d 2000-01-01 crates/low/src/lib.rt", False),
 ])
-def test_no_answer(tree: Tree, says: str, status: str, told: list[str]) -> None:
-    """Where rt has no result, its own status is none of the program's, and the reason is reported."""
-    tree.run("mote", STATUS=status, SAYS=f"{says}\n")
-    assert (tree.ran.returncode, tree.stderr.splitlines()[-len(told):]) == (125, told)
+def test_kept_program(tree: Tree, change: str, is_built: bool) -> None:
+    """The program is built again where a file of its sources, or itself, is another one: by times, as the proved one."""
+    assert tree.runs_unproved() and builds(tree) == 1
+    assert tree.shell(change).returncode == 0
+    assert tree.runs_unproved() and builds(tree) == 1 + is_built
+    assert tree.runs_unproved() and builds(tree) == 1 + is_built
 
 
-@pytest.mark.parametrize(("redirection", "status", "told"), [
-    ("<&-", 5, "mote: read failed\n"), ("</", 5, "mote: read failed\n"), ("</dev/null >/dev/full", 6, "mote: write failed\n"),
-], ids=["closed", "folder", "full"])
-def test_stream_that_fails(tree: Tree, redirection: str, status: int, told: str) -> None:
-    tree.shell(f"./mote {redirection}")
-    assert tree.ran.returncode == status and tree.stderr.endswith(told)
+def test_sources_that_are_refused(tree: Tree) -> None:
+    tree.run("mote", REFUSES="error: refused")
+    told = "mote: no program is built from the present sources, neither proved nor unproved: error: refused\n"
+    assert (tree.ran.returncode, tree.stderr.endswith(told)) == (125, True)
+    assert not (tree.crate("mote") / "out/unproved/mote").exists()
 
 
-def test_word_that_is_no_text(tree: Tree) -> None:
-    """It is refused as the program does."""
-    tree.run("mote", b"\xff")
-    assert (tree.ran.returncode, tree.stderr) == (64, "mote: a word is not text\n")
+def test_source_that_changes_meanwhile(tree: Tree) -> None:
+    started = tree.start("mote", {"PAUSE": "2"})
+    wait_until(lambda: builds(tree) == 1)
+    tree.edit("low")
+    tree.end(started)
+    assert (tree.ran.returncode, tree.stderr.endswith(": a source was changed meanwhile\n")) == (125, True)
+    assert tree.runs_unproved() and builds(tree) == 2
 
 
-@pytest.mark.parametrize("is_there", [False, True], ids=["none", "full"])
-def test_no_room_for_temporary_files(tree: Tree, is_there: bool) -> None:
-    """A folder of temporary files that isn't there, and one that is full. (A limit of each file's size stands for it.) Nothing is left."""
-    folder = tree.room / "temporary files"
-    if is_there:
-        folder.mkdir()
-    tree.shell(f"ulimit -f 8; head -c 100000 /dev/zero | TMPDIR='{folder}' ./mote")
-    assert tree.ran.returncode == 125
-    assert f"mote: an unproved run keeps its input and output in {folder}, which is full or can't be written" in tree.stderr
-    assert not is_there or not list(folder.iterdir())
+def test_two_at_once(tree: Tree) -> None:
+    """The second waits until the first has built the program."""
+    first = tree.start("mote", {"PAUSE": "2"})
+    wait_until(lambda: builds(tree) == 1)
+    tree.run("mote")
+    assert tree.is_unproved() and "another run builds the same: waiting until it has ended" in tree.stderr
+    assert tree.end(first).returncode == 0 and builds(tree) == 1
 
 
-@pytest.mark.parametrize(("text", "told"), [
-    (WINDOWS, "mote: line 3 ends with byte 13, as lines of Windows do"),
-    (b"\xef\xbb\xbftick 1\n", "mote: line 1 begins with a byte order mark"), (REMARK, ""),
-], ids=["Windows", "mark", "remark"])
-@pytest.mark.parametrize("is_file", [True, False], ids=["file", "pipe"])
-def test_lines_of_windows(tree: Tree, text: bytes, told: str, is_file: bool) -> None:
-    """Lines as on Windows, of a file or a pipe, and a byte order mark are reported."""
-    file = tree.room / "script"
-    file.write_bytes(text)
-    tree.run("mote", stdin=file if is_file else text)
-    assert tree.ran.returncode == 0 and told in tree.stderr and tree.stderr.count("\n") == 1 + bool(told)
+@pytest.mark.parametrize("number", [signal.SIGINT, signal.SIGTERM, signal.SIGHUP], ids=["INT", "TERM", "HUP"])
+def test_signal(tree: Tree, number: signal.Signals) -> None:
+    """Where the script is ended while the program is built nothing goes on, and nothing is left."""
+    started = tree.start("mote", {"PAUSE": "300"})
+    wait_until(lambda: builds(tree) == 1)
+    os.kill(started.pid, number)
+    assert started.wait(timeout=120) == 128 + number
+    assert [it.name for it in stored(tree)] == ["lock"]
+    wait_until(lambda: not tree.goes_on())
 
 
-def test_files_of_windows(tree: Tree) -> None:
-    for name, text in (("windows", WINDOWS), ("remark", REMARK), ("marked", b"\xef\xbb\xbftick 1\n")):
-        (tree.room / name).write_bytes(text)
-    tree.run("scenario", "windows", "remark", "marked", cwd=tree.room)
-    assert "scenario: windows: line 3 ends with byte 13" in tree.stderr and "scenario: remark" not in tree.stderr
-    assert "scenario: marked: line 1 begins with a byte order mark" in tree.stderr
+@pytest.mark.parametrize("script", ["mote", "scripts/unproved.py"])
+def test_killed(tree: Tree, script: str) -> None:
+    """Where the script is ended by force nothing goes on, and what it has left is removed by the next build."""
+    words = ["mote"] if script != "mote" else []
+    started = tree.start(script, {"PAUSE": "300"}, *words)
+    wait_until(lambda: builds(tree) == 1)
+    started.kill()
+    started.wait(timeout=120)
+    wait_until(lambda: not tree.goes_on())
+    assert len(stored(tree)) == 2
+    assert tree.runs_unproved() and builds(tree) == 2
+    assert sorted(it.name for it in stored(tree)) == ["lock", "mote", "sources"]
 
 
-@needs("pgrep")
-@pytest.mark.parametrize("number", [signal.SIGINT, signal.SIGTERM, signal.SIGHUP, signal.SIGKILL], ids=["INT", "TERM", "HUP", "KILL"])
-@pytest.mark.parametrize("is_silent", [False, True], ids=["running", "waiting"])
-def test_signal(tree: Tree, number: signal.Signals, is_silent: bool) -> None:
-    """An interrupt, and an end by force, of all of an unproved run, and an end of the script alone, while it runs or waits for its input:
-    nothing goes on, and no file is left."""
-    folder = tree.room / "temporary"
-    folder.mkdir()
-    started = tree.start("mote", {"PAUSE": "300", "TMPDIR": str(folder)}, stdin=subprocess.PIPE if is_silent else subprocess.DEVNULL)
-    assert started.stderr is not None
-    started.stderr.readline()
-    time.sleep(0.4)
-    assert not list(folder.iterdir())
-    is_of_all = number in (signal.SIGINT, signal.SIGKILL)
-    (os.killpg if is_of_all else os.kill)(started.pid, number)
-    assert started.wait(timeout=120) == (-number if number == signal.SIGKILL else 128 + number)
-    assert not list(folder.iterdir())
-    wait_until(lambda: run("pgrep", "--session", started.pid).returncode != 0)
+def test_full_disk(tree: Tree) -> None:
+    """A limit of each file's size has the same effect. The reason is reported, and nothing is left."""
+    tree.shell("ulimit -f 64; ./mote")
+    assert tree.ran.returncode == 125 and "neither proved nor unproved: " in tree.stderr
+    assert [it.name for it in stored(tree)] == ["lock"] and tree.runs_unproved()
+
+
+def test_library(tree: Tree) -> None:
+    """The library for C has the exported functions. They are called once, so that none is left out."""
+    text = 'pub mod more;\npub extern "C" fn one(\n    a: &[u8],\n    b: u32,\n) {}\n'
+    (tree.crate("toarmuts") / "src/lib.rt").write_text(text, encoding="utf-8")
+    (tree.crate("toarmuts") / "src/more.rt").write_text('pub extern "C" fn two() {}\npub fn three() {}\n', encoding="utf-8")
+    for number in range(2):
+        tree.run("scripts/unproved.py", "toarmuts")
+        library = tree.crate("toarmuts") / "out/unproved/libtoarmuts.a"
+        assert tree.stdout == f"{library}\n" and ("without a proof" in tree.stderr) == (number == 0), tree.stderr
+    assert b"\n#[test]\nfn calls() {\n    one(any(), any());\n    more::two();\n}\n" in library.read_bytes()
+    assert builds(tree) == 1
+
+
+@pytest.mark.parametrize(("line", "exported"), [
+    ('define internal void @"it::one"(ptr %a0) #0 {', "define void @one(ptr %a0) #0 {"),
+    ('define internal noundef i32 @"it::part::two"(ptr %a0, i64 %a1) #0 {', "define noundef i32 @two(ptr %a0, i64 %a1) #0 {"),
+    ('  call void @"it::one"(ptr %a0)', "  call void @one(ptr %a0)"), ('define internal void @"it::one::deeper"() {', None),
+    ('define internal void @"it::ones"() {', None), ('define internal void @"other::one"() {', None),
+    ("define i32 @main(i32 %0, ptr %1) {", "define internal i32 @main(i32 %0, ptr %1) {"),
+])
+def test_exported_functions(line: str, exported: str | None) -> None:
+    """In the text of a library's module the exported functions get their names in C, and main becomes local."""
+    assert export(line, "it", ["one", "two"]) == (line if exported is None else exported)
 
 
 @pytest.mark.parametrize("script", ["mote", "scenario", "prove"])
 def test_no_rt(tree: Tree, script: str) -> None:
+    """Without rt nothing is built. What is kept runs."""
     tree.run(script, PATH=WITHOUT_RT)
     assert (tree.ran.returncode, tree.stderr.count("\n")) == (127, 1)
+    if script != "prove":
+        assert tree.runs_unproved(script)
+        tree.run(script, PATH=WITHOUT_RT)
+        assert tree.is_unproved()
 
 
-def test_unproved_run_is_given_files(tree: Tree) -> None:
-    """Unproved a program is given the files that its words name, and reads no input. Names that rt gives to files of its own are those
-    of no others."""
-    for name in ("a.runs", "program", "stdin"):
-        (tree.room / name).write_text("a\n", encoding="utf-8")
-    here, whole = tree.room, str(tree.room).removeprefix("/")
-    tree.run("scenario", "--thorough", "a.runs", "./a.runs", here / "a.runs", "none", "program", "stdin", cwd=here)
-    assert tree.is_unproved() and "; ./prove scenario proves and builds the program" in tree.stderr
-    assert tree.stderr.startswith("scenario: this run is unproved and takes half a minute to two minutes, on a busy machine six")
-    assert tree.stdout == (f"words a.runs={here}/a.runs --data {whole}/a.runs={here}/a.runs --data {whole}/program={here}/program "
-                           f"--data {whole}/stdin={here}/stdin -- --thorough a.runs {whole}/a.runs {whole}/a.runs none {whole}/program "
-                           f"{whole}/stdin\n")
-
-
-def test_unproved_run_writes_no_files(tree: Tree) -> None:
-    tree.run("scenario", "--write", "a.runs")
-    assert (tree.ran.returncode, tree.stderr) == (
-        125, "scenario: an unproved run has copies of the files and can't write them; ./prove scenario builds the program\n")
+@pytest.mark.parametrize(("words", "told"), [
+    (["hello", "a.script", "no such file"], [IS_FILE]), (["hello", "echo"], []), (["--mmem", "a.script", "--", "a.script"], [IS_FILE]),
+    (["--mmem", "5"], ["--mmem 5: a multiple of 4 from 4 to 65536 is allowed"]),
+    (["--mmem=65540"], ["--mmem 65540: a multiple of 4 from 4 to 65536 is allowed"]),
+    (["--mmem", "4", "--heap=20", "--header", "8"], []), (["--heap", "16"], ["--heap 16: a multiple of 4 from 20 to 65536 is allowed"]),
+    (["--header=12"], ["--header 12: 16 or 8 is allowed"]), (["--mmem", "many", "--quota"], []),
+    (["--quota", "1024", "hello", "hello", "hello"], []),
+    (["--quota", "1028", "hello", "hello", "hello"], ["--quota 1028 for each application and the frames is 4112 bytes; --mmem has 4096"]),
+    (["--quota=8", "--mmem=12", "hello"], ["--quota 8 for each application and the frames is 16 bytes; --mmem has 12"]),
+])
+def test_hints(proved_tree: Tree, words: list[str], told: list[str]) -> None:
+    """Arguments that mote refuses with few words get a line of the script's own. An application's name has none, though it is a file's."""
+    for name in ("a.script", "echo"):
+        (proved_tree.room / name).touch()
+    proved_tree.run("mote", *words, cwd=proved_tree.room)
+    assert proved_tree.stderr.splitlines() == [f"mote: {line}" for line in told] and proved_tree.stdout == f"proved {' '.join(words)}\n"
 
 
 # ---- A proved program ----
@@ -175,9 +196,8 @@ def test_lines_of_windows_proved(proved_tree: Tree) -> None:
         assert (ran.returncode, ran.stdout, proved_tree.stderr) == (3, b"proved \n" + stdout, stderr), command
 
 
-@pytest.mark.parametrize(("script", "first"), [("mote", "proved "), ("scenario", "words "), ("mote-picture", "words ")])
+@pytest.mark.parametrize(("script", "first"), [("mote", "proved "), ("scenario", "words ")])
 def test_script_by_a_link(proved_tree: Tree, script: str, first: str) -> None:
-    (proved_tree.root / "crates/mote_picture").mkdir()
     (proved_tree.bin / "called").symlink_to(proved_tree.root / script)
     assert run(proved_tree.bin / "called", cwd=Path("/"), settings=proved_tree.settings()).stdout.decode() == first + "\n"
 
@@ -214,6 +234,8 @@ def test_tree_of_another(proved_tree: Tree) -> None:
     for folder in (tree.room, *list(tree.room.parents)[:3]):
         if folder.stat().st_mode & 0o001 == 0:
             folder.chmod(folder.stat().st_mode | 0o011)
+    # Where the stand-ins note what was built.
+    tree.room.chmod(0o777)
 
     def as_another(script: str, *words: str) -> tuple[int, str]:
         settings = tree.settings(PATH=f"{tree.bin}:/usr/local/bin:/usr/bin:/bin")
@@ -226,7 +248,22 @@ def test_tree_of_another(proved_tree: Tree) -> None:
     assert tree.is_proved("a")
     assert as_another("prove") == (1, tree.cannot_be_written)
     tree.edit("low")
-    as_another("mote")
-    assert tree.is_unproved()
+    kept = Path(tempfile.gettempdir()) / f"unproved-65534{tree.root}-mote".replace("/", "-")
+    try:
+        for _ in range(2):
+            as_another("mote")
+            assert tree.is_unproved() and builds(tree) == 1
+        # What belongs to this tree is used by others, too.
+        shutil.rmtree(kept)
+        assert tree.runs_unproved() and builds(tree) == 2
+        as_another("mote")
+        assert tree.is_unproved(), tree.stderr
+        assert builds(tree) == 2 and not kept.exists()
+        kept.mkdir(mode=0o777)
+        tree.edit("low")
+        assert as_another("mote") == (125, "mote: no program is built from the present sources, neither proved nor unproved: "
+                                      f"{kept} is another user's\n")
+    finally:
+        shutil.rmtree(kept, ignore_errors=True)
     tree.source("low").chmod(0o600)
     assert as_another("prove", "--is-current") == (1, f"prove: [Errno 13] Permission denied: '{tree.source('low')}'\n")

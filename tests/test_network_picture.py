@@ -27,9 +27,12 @@ from tools import EXAMPLES, ROOT, needs, program, run, succeed, told, write_prog
 THREE = EXAMPLES / "networks/three.net"
 NETWORKS = int(os.environ.get("TOARMUTS_PICTURED_NETWORKS", "100"))
 PARTS = 4
-# Where a chart has its lanes and rows, as crates/network_picture/src/place.rt places them.
-FIRST_LANE, TOP, ROW = 78, 78, 16
+# Where a chart has its lanes and rows, as crates/network_picture/src/place.rt places them. Before each fiftieth row the motes' numbers are
+# repeated.
+FIRST_LANE, TOP, ROW, ROWS_TO_HEAD = 132, 94, 16, 50
 START = re.compile(r"M(\d+),(\d+)")
+# A line shares a row with one of the last rows, of this number.
+COMPARED = 64
 HEADER = bytes.fromhex("d4c3b2a1" "0200" "0400" "00000000" "00000000" "7f000000" "e6000000")
 
 Rows = list[tuple[int, str]]
@@ -123,45 +126,68 @@ def test_tshark(network_picture: Path, tmp_path: Path) -> None:
 
 @dataclass
 class Chart:
-    """What is read from a chart: the lines of its rows, each with its lane, and how many arrows lead from a row to a row."""
+    """What is read from a chart: its lines, each with its lane; the numbers of their rows; how many arrows lead from a line to a line."""
 
     rows: Rows
+    numbers: list[int]
     heard: Arrows
     missed: Arrows
     lost: int
     outside: list[str]
     words: list[str]
+    clocks: list[str]
+    motes: list[str]
 
 
 def title_of(element: ElementTree.Element) -> str:
     return (element[0].text or "") if len(element) else ""
 
 
+def number(element: ElementTree.Element, name: str) -> int:
+    return int(element.get(name) or 0)
+
+
 def lane_of(left: int, width: int) -> int:
-    """The number of the mote whose lane is there."""
-    assert (left - FIRST_LANE) % width == 0
-    return (left - FIRST_LANE) // width + 1
+    """The number of the mote whose lane is nearest."""
+    return round((left - FIRST_LANE) / width) + 1
+
+
+def row_of(top: int) -> int:
+    """The number of the row that is there."""
+    slot = (top - TOP) // ROW
+    assert slot % (ROWS_TO_HEAD + 1) < ROWS_TO_HEAD
+    return slot - slot // (ROWS_TO_HEAD + 1)
+
+
+def texts_at(root: ElementTree.Element, right: int) -> list[str]:
+    """The texts of the rows that end there."""
+    return [it.text or "" for it in root if it.tag.endswith("text") and number(it, "x") == right and number(it, "y") > TOP]
 
 
 def chart_of(picture: bytes) -> Chart:
     root = ElementTree.fromstring(picture)
     areas = [it for it in root if it.get("class") == "t"]
-    width = int(areas[0].get("width") or 0) + 8 if areas else 1
-    at = {(int(it.get("y") or 0) - TOP) // ROW: title_of(it) for it in areas}
-    chart = Chart([(lane_of(int(it.get("x") or 0) + 3, width), title_of(it)) for it in areas], Counter(), Counter(), 0, [],
-                  [it.text or "" for it in root if it.tag.endswith("text")])
-    for path in (it for it in root if it.tag.endswith("path")):
+    width = number(areas[0], "width") + 8 if areas else 1
+    at = {(row_of(number(it, "y")), lane_of(number(it, "x") + 3, width)): title_of(it) for it in areas}
+    assert len(at) == len(areas) and all((number(it, "x") + 3 - FIRST_LANE) % width == 0 for it in areas)
+    chart = Chart([(lane_of(number(it, "x") + 3, width), title_of(it)) for it in areas], [row_of(number(it, "y")) for it in areas],
+                  Counter(), Counter(), 0, [], [it.text or "" for it in root if it.tag.endswith("text")], texts_at(root, 54),
+                  texts_at(root, 108))
+    for path in (it for it in root if it.tag.endswith("path") and it.get("class") in ("a", "o", "q", "x")):
         commands, kind, title = path.get("d") or "", path.get("class"), title_of(path)
         begin = START.match(commands)
         assert begin
-        first = at.get((int(begin[2]) - TOP) // ROW, "")
+        left, row = int(begin[1]), row_of(int(begin[2]))
         if kind == "o":
-            chart.outside.append(first)
+            chart.outside.append(at.get((row, lane_of(left + 20, width)), ""))
         elif kind == "x" and "missed" not in title:
             chart.lost += 1
         elif kind in ("a", "x"):
-            bottom = int((re.findall(r"[ L]\d+,(\d+)", commands))[-1])
-            (chart.heard if kind == "a" else chart.missed)[first, at.get((bottom - TOP) // ROW, "")] += 1
+            ended = re.search(r"L\d+,(\d+)H(\d+)m|() (\d+),(\d+)m", commands)
+            assert ended
+            bottom, right = (ended[1], ended[2]) if ended[1] else (ended[5], ended[4])
+            ways = at.get((row, lane_of(left, width)), ""), at.get((row_of(int(bottom)), lane_of(int(right), width)), "")
+            (chart.heard if kind == "a" else chart.missed)[ways] += 1
     return chart
 
 
@@ -182,8 +208,66 @@ def test_chart_of_three() -> None:
     assert (chart.missed, chart.lost, chart.outside) == ({}, 1, ["1 > frame 0a0b", "1 > frame 0c"])
     assert chart.words[0] == "a network of 3"
     assert chart.words[1] == "clock 12, frames sent 4, heard 3, missed 0, lost 1, no room 0, under way 0, from outside 2"
-    assert [word for word in chart.words if word.isdigit()] == ["1", "2", "3", "0", "3", "4", "5", "8", "10"]
+    assert chart.clocks == ["0", "3", "4", "5", "8", "10"]
+    assert chart.words[2:10] == ["", "clock", "mote", "1", "2", "3", "relay", "relay"] and chart.words[10] == "blink"
     assert "lost to 3" in chart.words
+
+
+def test_shared_rows() -> None:
+    """Motes 1 and 2 begin alike, so their first lines share a row, whose words are there once."""
+    chart = chart_of(drawn(THREE.read_bytes() + THREE.with_suffix(".transcript").read_bytes()))
+    assert chart.numbers == [0, 0, *range(1, 17)]
+    assert chart.motes == ["2 motes", "3", "1", "1", "1", "2", "2", "2", "3", "1", "1", "1", "2", "2", "2", "2", "3"]
+    assert chart.words.count("INIT → packet-open") == 1
+
+
+def test_lines_of_one_mote_stay_in_order() -> None:
+    """Mote 1 has two processes that begin alike, mote 2 has one: its line is in the first of the two rows. Mote 3's second line is below
+    its first one, so it can't be in a row above that. A later moment has rows of its own."""
+    transcript = "1 4 synch 129 - -> wait\n1 5 synch 129 - -> exit\n2 4 synch 129 - -> wait\n3 5 synch 129 - -> exit\n" \
+        "3 4 synch 129 - -> wait\n= 1\n2 4 synch 129 - -> wait\n1 halt\n2 halt\n3 halt\n"
+    chart = chart_of(drawn(transcript.encode()))
+    assert chart.numbers == [0, 1, 0, 1, 2, 3, 4, 4, 4]
+    assert chart.motes == ["2 motes", "2 motes", "3", "2", "3 motes"]
+
+
+def test_motes_of_a_large_network() -> None:
+    """64 motes begin in one row. Their numbers are there again before rows 50 and 100, and each of them has its application's name."""
+    script = "mote 1..64 relay\ngrid 1..64 width 8 delay 1\n1 frame 01\ntick 60\n"
+    chart = chart_of(drawn(script.encode() + transcript_of(script)))
+    assert chart.numbers[:64] == [0] * 64 and chart.motes[0] == "64 motes"
+    heads = max(chart.numbers) // ROWS_TO_HEAD
+    assert heads >= 1 and chart.words.count("63") == 1 + heads + chart.motes.count("63")
+    assert chart.words.count("relay") == 64
+
+
+@pytest.mark.parametrize("words, name", [("blink", "blink"), ("--mmem 64 --heap 64 echo relay", "echo relay"), ("calls print 68", "calls"),
+                                         ("", ""), ("--mmem 64", "")])
+def test_names(words: str, name: str) -> None:
+    """What a mote runs is below its number; without a script, nothing."""
+    chart = chart_of(drawn(f"mote 1 {words}\n".replace(" \n", "\n").encode() + b"= 1\n1 halt\n"))
+    assert chart.words[4:7] == ["mote", "1", name]
+    assert chart_of(drawn(b"= 1\n1 halt\n")).words[4:7] == ["mote", "1", ""]
+
+
+def test_words_use_free_room() -> None:
+    """Words that the room after their lane is too short for are before it, whole; words of a line that nothing has room for are cut."""
+    text = "2 4 synch 129 - -> print " + "61" * 60
+    picture = ElementTree.fromstring(drawn(f"mote 1 hello\nmote 2..20 hello\n{text.replace('2', '20', 1)}\n1 4 synch 129 - -> print "
+                                           f"{'61' * 64}\n= 1\n".encode()))
+    texts = [it for it in picture if it.tag.endswith("text") and (it.text or "").startswith("INIT")]
+    assert [it.get("class") for it in texts] == ["n e", "n"]
+    assert all("a" * 48 in (it.text or "") for it in texts)
+    alone = drawn(b"1 4 synch 129 - -> print " + b"61" * 64 + b"\n= 1\n")
+    assert [len(word) for word in chart_of(alone).words if word.endswith("…")] == [68]
+
+
+def test_frames_under_way() -> None:
+    """At the end of a run each has a short dashed line, not one to the bottom."""
+    script = "mote 1 relay\nmote 2..9 relay\nmesh 1..9 delay 50\n1 frame 01\n" + "tick 1\n2 serial 610a\n" * 5
+    picture = ElementTree.fromstring(drawn(script.encode() + transcript_of(script)))
+    dashed = [it.get("d") or "" for it in picture if it.get("class") == "q"]
+    assert len(dashed) == 8 and len(set(dashed)) == 1
 
 
 def test_stored_chart() -> None:
@@ -253,6 +337,41 @@ def is_row(line: str) -> bool:
     return words[2:3] != ["answer"] or not words[1].isdigit() or " -> print " in line
 
 
+def lane_of_line(words: list[str]) -> int:
+    """The mote in whose lane a line is."""
+    if words[0].isdigit():
+        return int(words[0])
+    if words[0] == "missed":
+        return int(words[2])
+    return int(words[1]) if words[0] in ("lost", "full") else 1
+
+
+def numbers_of(lines: list[str]) -> list[int]:
+    """The row of each line that has one. It shares that of a line of another mote that says the same at the same moment, after the last row
+    of its mote."""
+    said, moment, last, numbers = list[str](), 0, dict[int, int](), list[int]()
+    for line in lines:
+        words = line.split()
+        if words[0] == "=":
+            moment = len(said)
+        if not is_row(line):
+            continue
+        lane, says = lane_of_line(words), line.partition(" ")[2] if words[0].isdigit() else line
+        first = max(moment, last.get(lane, -1) + 1, len(said) - COMPARED)
+        shared = [row for row in range(first, len(said)) if said[row] == says] if words[0].isdigit() else []
+        last[lane] = shared[0] if shared else len(said)
+        if not shared:
+            said.append(says)
+        numbers.append(last[lane])
+    return numbers
+
+
+def rows_of_folded(lines: list[str]) -> list[str]:
+    """The lines of the first and the last 500 rows."""
+    numbers = numbers_of(lines)
+    return [line for line, row in zip(filter(is_row, lines), numbers) if row < 500 or row >= max(numbers) + 1 - 500]
+
+
 def arrows_of(links: Sequence[tuple[int, int, int, str]], lines: list[str]) -> tuple[Arrows, Arrows, list[str]]:
     """The frames that are heard, those that are missed, and the arrivals from outside, by a replay in plain lists."""
     clock, flying = 0, list[tuple[int, int, int, str, str]]()
@@ -293,10 +412,10 @@ def check_picture(seed: int) -> None:
     chart = chart_of(drawn(script.encode() + transcript))
     rows = [line for line in lines if is_row(line)]
     assert list(frames_in(drawn(transcript, "--pcap"))) == list(frames_sent(transcript))
-    if len(rows) > 1000:
-        assert [line for _, line in chart.rows] == rows[:500] + rows[-500:]
+    if max(numbers_of(lines), default=0) >= 1000:
+        assert [line for _, line in chart.rows] == rows_of_folded(lines)
         return
-    assert [line for _, line in chart.rows] == rows
+    assert [line for _, line in chart.rows] == rows and chart.numbers == numbers_of(lines)
     assert chart.lost == sum(line.startswith(("lost", "full")) for line in lines)
     if not has_doubles(network.links):
         assert (chart.heard, chart.missed, chart.outside) == arrows_of(network.links, lines)

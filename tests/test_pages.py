@@ -239,7 +239,7 @@ def wrong_comments(crate: str) -> Iterator[str]:
         comments = (COMMENT.match(line) for line in file.read_text(encoding="utf-8").split("\n"))
         for text in (text for comment in comments if comment for text in QUOTED.findall(comment[1])):
             missing = set()
-            if FILE.fullmatch(text) and not any((folder / text).exists() for folder in (ROOT, CRATES / crate)):
+            if FILE.fullmatch(text) and not any((folder / text).exists() for folder in (ROOT, CRATES / crate, file.parent)):
                 missing = {text}
             elif NAME.fullmatch(text) and not FILE.fullmatch(text):
                 missing = words_in(text) - names_of_contiki().union(CRATE_NAMES, *(code_words(lower) for lower in crates_below()[crate]))
@@ -248,7 +248,8 @@ def wrong_comments(crate: str) -> Iterator[str]:
 
 @pytest.mark.parametrize("crate", CRATE_NAMES)
 def test_comments(crate: str) -> None:
-    """Each name that a comment of a crate tells of is code of this crate, of one below it, or a name of Contiki-NG's."""
+    """Each name that a comment of a crate tells of is code of this crate, of one below it, or a name of Contiki-NG's. A file that it names
+    is there, from the top, in the crate or beside its own."""
     faults = list(wrong_comments(crate))
     assert not faults, "\n".join(faults)
 
@@ -256,7 +257,7 @@ def test_comments(crate: str) -> None:
 # ---- Listings ----
 
 # Programs that a command line begins with, beside those of this repository.
-PROGRAMS = {*"cd cp echo gcc make mote mote_picture pip pytest python python3 rm rt sed sudo toarmuts-campaign".split()}
+PROGRAMS = {*"cd cp echo gcc make mote mote_picture pip printf pytest python python3 rm rt sed sudo toarmuts-campaign".split()}
 
 
 def is_command(line: str) -> bool:
@@ -308,7 +309,7 @@ def test_one_licence() -> None:
 
 
 def test_public_calls() -> None:
-    """Each public call that interface/public-calls.md lists is in the sources, under its signature."""
+    """interface/public-calls.md lists the public calls and types of its crates, under their signatures, and no others."""
     faults = public_calls.faults()
     assert not faults, "interface/public-calls.md: " + "\n".join(faults)
 

@@ -69,6 +69,7 @@ SPOILT: dict[str, Callable[[str], str]] = {
 }
 FAULTS = [
     "interface/public-calls.md: mote_types has no ByteSink: fn write(&self, bytes: &[u8])",
+    "no row: mote_types, ByteSink: fn write(&mut self, bytes: &[u8])",
     *(f"docs/pools.md:{LAST_LINE}: {text} isn't there" for text in (NO_NAME, "none.md", "none.script", "tests/none.py")),
     "Extra items in the right set:\nE         'hex'",
     "docs/map.md: its figure isn't what `python3 tests/layers.py` prints",

@@ -267,7 +267,7 @@ def words_shown(picture: bytes) -> list[str]:
             tops.append(number_in(element, "y"))
         elif element.tag.endswith("text"):
             text, x = "".join(element.itertext()).replace("\u00a0", " "), element.get("x") or ""
-            words = x if text.startswith("told → call") else words
+            words = x if text.startswith("event → call") else words
             texts[x, number_in(element, "y")] = text
     # A text stands on a line 12 below its row's top.
     return [texts.get((words, top + 12), "") for top in tops]
@@ -368,7 +368,7 @@ def check_quiet(picture: bytes, lines: Lines) -> None:
     bars = {(number_in(element, "y") - 2, element.get("class")) for element in root if element.get("width") == "10"}
     assert bars == {(top, "f" + line.partition(" ")[0]) for top, line in zip(tops, lines) if " -> " in line}
     assert b'class="e b"' not in picture and b">clock<" not in picture, "it tells a clock"
-    assert "told → call<".encode() in picture, "it has a place for answers"
+    assert "event → call<".encode() in picture, "it has a place for answers"
 
 
 def check_form(picture: Completed) -> None:
@@ -455,6 +455,18 @@ def test_refused_words(words: list[str], transcript: bytes, reason: str) -> None
 def test_largest_words(words: list[str]) -> None:
     """Quotas that fill managed memory, and sixteen names."""
     assert draw(words, b"").returncode == 0
+
+
+def test_names_of_lanes() -> None:
+    """Sixteen names are at two heights, so that none runs into the next one; two that have room are at one."""
+    for count, heights in ((16, 2), (2, 1)):
+        transcript = "".join(f"{pid} synch 129 - -> wait\n" for pid in range(4, 4 + count)).encode()
+        root = ElementTree.fromstring(draw(["blink"] * count, transcript).stdout)
+        names = [it for it in root if it.text == "blink"]
+        assert len(names) == count and len({number_in(it, "y") for it in names}) == heights
+        for height in {number_in(it, "y") for it in names}:
+            lefts = [number_in(it, "x") for it in names if number_in(it, "y") == height]
+            assert all(right - left >= 7 * len("blink") for left, right in zip(lefts, lefts[1:]))
 
 
 def clocks_of(lines: Lines) -> Iterator[int]:

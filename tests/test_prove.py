@@ -238,7 +238,8 @@ def test_other_programs(tree: Tree) -> None:
 @pytest.mark.parametrize("word", ["nothing", "mote/", "./mote", "low", "high", "crates/mote", ""])
 def test_no_such_program(tree: Tree, word: str) -> None:
     tree.run("prove", word)
-    assert (tree.ran.returncode, tree.stderr) == (64, f"prove: {word} is no program of this repository, and no library for C\n")
+    assert (tree.ran.returncode, tree.stderr) == (
+        64, f"prove: {word} is no program of this repository, and no library for C; these are: mote, scenario, toarmuts, modules_c\n")
 
 
 @pytest.mark.parametrize("pause", ["0", "-1", "nan", "inf", "soon"])

@@ -21,10 +21,9 @@ NAME = f"toarmuts-{VERSION}-linux-x86_64"
 PACKAGE = f"toarmuts_{VERSION}_amd64.deb"
 # While the first number is 0, the soname has the second too.
 SONAME = "libtoarmuts.so." + (VERSION.rpartition(".")[0] if VERSION.startswith("0.") else VERSION.partition(".")[0])
-PROGRAMS = ("mote", "mote_picture", "scenario")
+PROGRAMS = ("mote", "mote_picture", "scenario", "network", "network_picture")
 LIBRARIES = ("toarmuts", "modules_c")
-IN_PAGE = ("network",)
-COMMANDS = ("mote", "mote-picture", "scenario", "contiki")
+COMMANDS = ("mote", "mote-picture", "network", "network-picture", "scenario", "contiki")
 FLAGS = "-std=c11 -Wall -Wextra -Werror"
 PKG_CONFIG = "pkg-config --cflags --libs"
 BLINK = "4 synch 129 - -> timer-set 0 10\n"
@@ -63,7 +62,7 @@ def copy_tree(place: Path, *current: str) -> Path:
 def proofs(shared: Path) -> None:
     for name in LIBRARIES:
         library(name)
-    old = [name for name in PROGRAMS + IN_PAGE if not is_new(name)]
+    old = [name for name in PROGRAMS if not is_new(name)]
     if old and os.environ.get("TOARMUTS_TESTS_PROVE"):
         once(shared / "release-proofs", lambda _: succeed(ROOT / "prove", *old, timeout=10_800))
     elif old:
@@ -75,7 +74,7 @@ def releases(proofs: None, page_file: Path, shared: Path) -> Path:
     """A folder with two releases, `first` and `second`, made in different places, and the archive of the first, unpacked."""
     def make(room: Path) -> None:
         shutil.rmtree(room, ignore_errors=True)
-        one, two = (copy_tree(room / name, *PROGRAMS, *LIBRARIES, *IN_PAGE) for name in ("one", "another place/two"))
+        one, two = (copy_tree(room / name, *PROGRAMS, *LIBRARIES) for name in ("one", "another place/two"))
         made = run(one / "scripts/release", room / "first", timeout=3600)
         if b"these Debian packages are missing" in made.stderr:
             pytest.skip(made.stderr.decode().strip())
@@ -92,7 +91,7 @@ def there(releases: Path) -> Path:
 
 
 def test_unproved_program_is_refused(proofs: None, tmp_path: Path) -> None:
-    tree = copy_tree(tmp_path / "unproved", *(name for name in (*PROGRAMS, *LIBRARIES, *IN_PAGE) if name != "mote"))
+    tree = copy_tree(tmp_path / "unproved", *(name for name in (*PROGRAMS, *LIBRARIES) if name != "mote"))
     ran = run(tree / "scripts/release", tmp_path / "none")
     assert ran.returncode == 1 and not (tmp_path / "none").exists()
     assert ran.stderr == b"release: mote isn't proved, or older than its sources: ./prove mote\n"
@@ -119,7 +118,7 @@ def test_facts(there: Path) -> None:
     build = (facts / "BUILD").read_text(encoding="utf-8")
     commit = succeed("git", "rev-parse", "HEAD", cwd=ROOT).stdout.decode().strip()
     assert re.findall(r"^commit *([0-9a-f]*)", build, re.M) == [commit]
-    assert re.search(rf"^proved *{' '.join(PROGRAMS + LIBRARIES + IN_PAGE)}$", build, re.M)
+    assert re.search(rf"^proved *{' '.join(PROGRAMS + LIBRARIES)}$", build, re.M)
     assert f"kit      {succeed('rt', 'version').stdout.decode().strip()}\n" in build
     assert "License: BSD-3-Clause\n" in (facts / "copyright").read_text(encoding="utf-8")
     assert (facts / "notices/clap/LICENSE-MIT").stat().st_size > 0 and not (facts / "notices/anyhow").exists()
@@ -170,6 +169,12 @@ USES: dict[str, list[tuple[str, str]]] = {
         ("mote-picture relay <$examples/relay.transcript | cmp - $examples/relay.svg", ""),
         ("scenario $examples/linked_blocks.scenario", ""),
     ],
+    "networks": [
+        ("network $examples/networks/three.net | cmp - $examples/networks/three.transcript", ""),
+        ("network <$examples/networks/three.net | cmp - $examples/networks/three.transcript", ""),
+        ("three=$examples/networks/three; network-picture $three.net <$three.transcript | cmp - $three.svg", ""),
+        ("network $examples/networks/three.net | network-picture --pcap | wc -c", "94\n"),
+    ],
     "compiler": [
         (f"gcc {FLAGS} $examples/c/blink.c $({PKG_CONFIG} toarmuts) -o blink && ldd blink", f"{SONAME} =>"),
         ("./blink", BLINK),
@@ -192,7 +197,7 @@ def use(system: System, what: str) -> None:
         assert wanted in system.shell(command), command
 
 
-@pytest.mark.parametrize("what", ["programs", "compiler", pytest.param("python", marks=pytest.mark.skipif(
+@pytest.mark.parametrize("what", ["programs", "networks", "compiler", pytest.param("python", marks=pytest.mark.skipif(
     run("/usr/bin/python3", "-c", "import venv, ensurepip").returncode != 0, reason="not here: python3-venv"))])
 def test_use(archive: System, what: str) -> None:
     """The archive's programs, libraries for C, and wheel."""
@@ -230,7 +235,7 @@ _toarmuts "$1" "${{@: -1}}" "${{@: -2:1}}"; echo "${{COMPREPLY[*]}}"
 
 @pytest.mark.skipif(not COMPLETION.exists(), reason="not here: bash-completion")
 @pytest.mark.parametrize(("words", "wanted"), [("mote --m", "--mmem"), ("mote --quiet r", "relay"),
-                                               ("contiki --he", "--header --heap --help")])
+                                               ("network --o", "--only"), ("contiki --he", "--header --heap --help")])
 def test_completion(archive: System, words: str, wanted: str) -> None:
     file = f"{archive.prefix}/share/bash-completion/completions/{words.split()[0]}"
     ran = archive.run("bash", "-c", COMPLETED.format(completion=COMPLETION), "bash", file, *words.split())

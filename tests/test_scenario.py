@@ -10,7 +10,7 @@ from typing import Iterator
 import pytest
 
 from stored_runs import files
-from tools import EXAMPLES, ROOT, Completed, program, run, texts, write_program
+from tools import EXAMPLES, ROOT, Completed, program, run, texts
 
 DATA = ROOT / "tests/scenario_files"
 
@@ -305,21 +305,6 @@ def test_written(folder: Folder, text: str, written: str, count: int) -> None:
     folder.write("kept", text)
     assert folder("--write", "kept") == (0, f"kept: {count} of 1 transcripts put in place", "")
     assert folder.read("kept") == written
-
-
-def test_script_that_writes(folder: Folder) -> None:
-    """The script at the top refuses to have an unproved run write, since that has copies of the files."""
-    folder.scenario = folder.room / "tree/scenario"
-    (folder.room / "tree/scripts").mkdir(parents=True)
-    shutil.copy(ROOT / "scenario", folder.scenario)
-    write_program(folder.room / "tree/scripts/launch", '#!/bin/bash\necho "launch $*"\n')
-    status = '#!/bin/bash\n[[ $* != "--is-current scenario" ]] || exit {}\n'
-    write_program(folder.room / "tree/prove", status.format(1))
-    refusal = "scenario: an unproved run has copies of the files and can't write them; ./prove scenario builds the program"
-    assert folder("--write", "one") == (125, "", refusal)
-    assert folder("one") == (0, "launch scenario files one", "")
-    write_program(folder.room / "tree/prove", status.format(0))
-    assert folder("--write", "one") == (0, "launch scenario files --write one", "")
 
 
 # ---- Words ----

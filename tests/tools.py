@@ -77,7 +77,26 @@ def texts(name: str) -> list[Any]:
     return [pytest.param(*re.split(r"^---\n", text, flags=re.M), id=case) for case, text in zip(parts[1::2], parts[2::2])]
 
 
+def is_quick() -> bool:
+    """Whether these are the quick tests: then programs that aren't proved are built without a proof, or their tests are skipped."""
+    return "TOARMUTS_TESTS_QUICK" in os.environ
+
+
+@functools.lru_cache(maxsize=None)
+def proved_or_not(name: str) -> Path:
+    """A program as it is proved, or else built without a proof. Where neither is there, the test is skipped."""
+    if run(ROOT / "prove", "--is-current", name).returncode == 0:
+        return CRATES / name / "out" / name
+    ran = run(ROOT / "scripts/unproved.py", name) if (ROOT / name.replace("_", "-")).exists() else None
+    if ran is None or ran.returncode != 0:
+        pytest.skip(f"crates/{name}: not built: ./prove {name}")
+    return Path(ran.stdout.decode().rstrip("\n"))
+
+
 def program(name: str) -> Path:
+    """A built program. tests/all has all proved and built; without that, it must be there."""
+    if is_quick():
+        return proved_or_not(name)
     built = CRATES / name / "out" / name
     if not built.exists():
         pytest.fail(f"crates/{name}: the program isn't built: ./prove {name}", pytrace=False)

@@ -1,0 +1,6 @@
+break pulse.c:18 if ev != 136
+run
+print ev
+print (char *) data
+next
+continue
