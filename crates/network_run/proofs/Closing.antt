@@ -13,6 +13,7 @@ use Rattle.network_run.specs.Code.Writing.{WritesOn}
 use Rattle.network_run.specs.NetworkRunText.{CanStop, Gives, HasRun, IsSpent, NetworkRan, ending_text}
 use Rattle.mote_session.specs.Voices.{Voices}
 use Rattle.network_run.specs.declared.fault.RunFault.{RunFault}
+use Rattle.network_run.proofs.Ready.{leads_awaits, start_ready}
 use Rattle.network_run.proofs.Scripts.{all_given, given_all, given_in_turn, leads_length}
 use Rattle.network_run.proofs.Speaking.{make_the_calls}
 use Rattle.network_run.specs.Outside.{AreInTurn, Outside, all_outside, given_of, givens}
@@ -93,6 +94,7 @@ module _ (law : PromiseLaw) (quiet : Bool) (script : Reading) (start net : Netwo
           calls = make_the_calls stopped.went.moves start net voices said stopped.went.leads stopped.went.calls;
           inputs = comes.given ∙ (ap givens stopped.parts ∙ (filter_map-append given_of stopped.carried left
               ∙ ap (λ v. v ++ givens left) (ap givens (sym stopped.went.carried) ∙ sym (inputs_given stopped.went.moves))));
+          answered = λ none. leads_awaits stopped.went.moves start net none stopped.went.leads stopped.went.answered;
           in_turn = subst AreInTurn (stopped.parts ∙ ap (λ v. v ++ left) (sym stopped.went.carried)) comes.in_turn;
           ends = ends;
           is_text = sym all.parted ∙ ap (λ (t : List ℕ). moves_text quiet start stopped.went.moves ++ t) is;
@@ -142,8 +144,9 @@ module _ (law : PromiseLaw) (quiet : Bool) (script : Reading) (start net : Netwo
   failed RunFault.Write given now due later not run writes = absurd (cc)
   failed (RunFault.Refused refusal) given now due later not run writes =
       let faulted = run.faulted in
-      ran faulted.voices given now due later [] [] run.outside faulted.left (Some (Err refusal)) run.comes
-      (stopped_whole (RunFault.Refused refusal) run.outside given now due not faulted) faulted.why writes refl
+      let r = ran faulted.voices given now due later [] [] run.outside faulted.left (Some (Err refusal)) run.comes
+      (stopped_whole (RunFault.Refused refusal) run.outside given now due not faulted) faulted.why writes refl in
+      (r.0, r.1, (r.2, λ at_start. faulted.much (start_ready start at_start) at_start.awaits at_start.far))
 
 -- the fault that is handed on is that of a write
 pub at_write : (quiet : Bool) (script : Reading) (start : NetworkView) (voices : Voices) (given later : List ℕ) (result : Result End RunFault) (fault : RunFault) →

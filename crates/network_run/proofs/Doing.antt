@@ -6,6 +6,7 @@ use Rattle.network_session.specs.Steps.{Steps}
 use Rattle.network_session.specs.Time.{is_work}
 use Rattle.network_session.specs.declared.outcome.Outcome.{Outcome}
 use Rattle.network_run.specs.Code.Steps.{DidDueStep, rests_after}
+use Rattle.network_run.specs.Code.Ready.{is_turn_step}
 use Rattle.network_text.specs.NetworkRuns.{DoesStep}
 
 -- the mote at work does a step
@@ -19,6 +20,20 @@ does_work x m old new active steps work = record {
 -- a step that was due
 pub does_due : (x : Outcome) (old new : NetworkView) → old.active ≡ None → DidDueStep x old new → DoesStep x old new
 does_due x old new idle did = record { steps = did.steps; due = λ none. did.due; work = did.no_work ∙ sym (ap is_some idle) }
+
+-- it is no turn
+pub no_turn : (x : Outcome) → is_work x ≡ false → is_turn_step x ≡ false
+no_turn (Outcome.Turn m) e = absurd (cc)
+no_turn (Outcome.Made m) e = refl
+no_turn (Outcome.Rested m) e = refl
+no_turn (Outcome.Stopped m) e = refl
+no_turn (Outcome.Started m) e = refl
+no_turn (Outcome.Woken m) e = refl
+no_turn (Outcome.Heard m) e = refl
+no_turn (Outcome.Missed from to) e = refl
+no_turn Outcome.Passed e = refl
+no_turn Outcome.Rest e = refl
+no_turn Outcome.Exhausted e = refl
 
 -- where a run goes on
 

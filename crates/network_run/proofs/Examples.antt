@@ -1,13 +1,26 @@
 -- Worked examples: the lines of a script, and how a run can end.
 use Rattle.std.specs.Fmt.{digits}
-use Rattle.std.proofs.Common.{◌≡◌, ◌^◌, [], ◌∷◌, codes, refl, Err, None, Ok, Some}
+use Rattle.std.proofs.Common.{◌≡◌, ◌^◌, [], ◌∷◌, ◌∙◌, ℕ, Bool, List, true, false, codes, inl, inr, refl, sym, Err, None, Ok, Option, Result, Some, slice_get}
 use Rattle.mote_text.specs.declared.script.End.{End}
 use Rattle.mote_text.specs.EntryText.{line_of}
 use Rattle.mote_text.specs.Script.{read_line}
 use Rattle.network_session.specs.Network.{NetworkView}
 use Rattle.network_session.specs.declared.fault.NetworkFault.{NetworkFault}
 use Rattle.mote_types.specs.declared.entry.Input.{Input}
-use Rattle.network_run.specs.NetworkRunText.{CanEnd, ending_text, script_lines}
+use Rattle.mote_session.specs.SessionView.{AwaitedCall, SessionView}
+use Rattle.mote_session.specs.Voices.{Voices}
+use Rattle.mote_session.specs.declared.refusal.SessionRefusal.{SessionRefusal}
+use Rattle.mote_types.specs.declared.call.Call.{Call}
+use Rattle.mote_types.specs.declared.entry.Entry.{Entry}
+use Rattle.mote_types.specs.declared.event.Origin.{Origin}
+use Rattle.mote_types.specs.declared.event.Pid.{Pid}
+use Rattle.mote_types.specs.declared.event.Stimulus.{Stimulus}
+use Rattle.network_session.specs.Happenings.{Happening}
+use Rattle.network_run.specs.Voices.{MakeTheCalls}
+use Rattle.network_session.specs.declared.outcome.Outcome.{Outcome}
+use Rattle.network_run.specs.NetworkRunText.{AwaitsNone, CanEnd, HasRun, IsAtStart, IsTooMuch, NetworkRan, ending_text, script_lines}
+use Rattle.network_run.specs.declared.fault.RunFault.{RunFault}
+use Rattle.network_text.specs.NetworkRuns.{IsResting}
 use Rattle.network_run.specs.Outside.{AreInTurn, Outside, next_refusal}
 use Rattle.network_text.specs.NetworkScript.{read_network_lines}
 use Rattle.network_text.specs.declared.input.NetworkInput.{NetworkInput}
@@ -62,3 +75,42 @@ module _ (net : NetworkView) (idle : net.active ≡ None) where
 
   nothing_left : next_refusal [] net ≡ None
   nothing_left = refl
+
+-- a halt that isn't due is no end of a network that rests
+module _ (net : NetworkView) (rests : IsResting net) where
+  no_halt : (left : List Outside) (said : End) → CanEnd net left said End.Halted → ⊥
+  no_halt left said spent = let e : Outcome.Rest ≡ Outcome.Exhausted = sym rests.due ∙ spent.due in absurd (cc)
+
+-- what a run refuses whose motes have just booted
+too_much : IsTooMuch NetworkFault.TooLong × IsTooMuch (NetworkFault.Refused SessionRefusal.TooManyInputs)
+too_much = (inl refl, inr refl)
+
+not_too_much : (fault : NetworkFault) → (fault ≡ NetworkFault.TooLong → ⊥) → (fault ≡ NetworkFault.Refused SessionRefusal.TooManyInputs → ⊥) →
+    IsTooMuch fault → ⊥
+not_too_much fault long many (inl is) = long is
+not_too_much fault long many (inr is) = many is
+
+module _ (quiet : Bool) (start : NetworkView) (voices : Voices) (script : List NetworkInput × End) (written : List ℕ) (booted : IsAtStart start) where
+  refuses : NetworkFault → Type 0
+  refuses fault = HasRun quiet start voices script written (Err (RunFault.Refused fault))
+
+  -- no input comes too early for its mote, and no turn is left without its call
+  no_early_input : refuses NetworkFault.Behind → ⊥
+  unfolding refuses
+  no_early_input run = not_too_much NetworkFault.Behind (λ e. absurd (cc)) (λ e. absurd (cc)) (run.1 booted)
+
+  no_open_turn : refuses (NetworkFault.Refused SessionRefusal.AwaitsCall) → ⊥
+  unfolding refuses
+  no_open_turn run = not_too_much (NetworkFault.Refused SessionRefusal.AwaitsCall) (λ e. absurd (cc)) (λ e. absurd (cc)) (run.1 booted)
+
+-- a run leaves no turn without its call
+module _ (quiet : Bool) (start : NetworkView) (voices : Voices) (script : List NetworkInput × End) (written rest : List ℕ)
+    (ending : Option (Result End NetworkFault)) (run : NetworkRan quiet start voices script written rest ending) where
+  left_open : (mote : SessionView) (turn : AwaitedCall) → AwaitsNone start → slice_get run.net.motes 0 ≡ Some mote → mote.turn ≡ Some turn → ⊥
+  left_open mote turn none there open_turn = let e : Some turn ≡ None = sym open_turn ∙ run.answered none 0 mote there in absurd (cc)
+
+-- a call that the application doesn't make
+module _ (voices : Voices) (pid : Pid) (origin : Origin) (stimulus : Stimulus) (call other : Call) where
+  another_call : voices 0 pid.0 (stimulus ∷ []) ≡ other → (other ≡ call → ⊥) →
+      MakeTheCalls voices (Happening.Makes 0 (Entry.Turn pid origin stimulus call) ∷ []) → ⊥
+  another_call says apart calls = apart (sym says ∙ calls 0 [] [] pid origin stimulus call refl)

@@ -4,6 +4,10 @@ pub mod Fates
 pub mod StepText
 pub mod Doing
 pub mod Speaking
+pub mod Ready
+pub mod Refused
+pub mod Caught
+pub mod Inputs
 pub mod Ways
 mod Refusals
 pub mod Scripts

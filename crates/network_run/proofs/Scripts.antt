@@ -1,5 +1,5 @@
 -- A script's lines, one after the other.
-use Rattle.std.proofs.Common.{map, ◌≡◌, ◌+◌, ◌-◌, ◌<◌, ◌==◌, ℕ, zero, suc, Bool, true, false, List, [], ◌∷◌, ◌++◌, length, take, drop, set, refl, ap, sym, subst, ◌∙◌, add-one, if◌then◌else◌, append_assoc, append-nil, arith, Result, Option, None, Some, ◌||◌, nat_lt, slice_index, Err, Ok, inl, inr}
+use Rattle.std.proofs.Common.{map, ◌≡◌, ◌+◌, ◌-◌, ◌<◌, ◌==◌, ℕ, zero, suc, Bool, true, false, List, [], ◌∷◌, ◌++◌, length, take, drop, set, refl, ap, sym, subst, ◌∙◌, add-one, if◌then◌else◌, append_assoc, append-nil, arith, Result, Option, None, Some, ◌||◌, nat_lt, slice_index, inl, inr}
 use Rattle.std.proofs.lemmas.Bool.Decides.{nat_tests}
 use Rattle.std.proofs.lemmas.List.{length-set}
 use Rattle.std.proofs.lemmas.List.Elements.{filter_map-append}
@@ -15,7 +15,7 @@ use Rattle.network_run.specs.Code.Way.{ComesWith, Ends, Faulted, HasCome, IsTime
 use Rattle.network_run.specs.NetworkRunText.{CanEnd, IsSpent, script_lines}
 use Rattle.network_run.specs.declared.fault.RunFault.{RunFault}
 use Rattle.network_run.specs.Outside.{AreInTurn, IsFor, Outside, given_of, givens}
-use Rattle.network_run.proofs.Ways.{all_carried, faulted_after, faulted_before, stopped_after, stopped_before, takes_after, takes_before, went_nowhere, went_on}
+use Rattle.network_run.proofs.Ways.{all_carried, faulted_after, faulted_before, stopped_after, stopped_before, went_nowhere, went_on}
 use Rattle.network_text.specs.NetworkRuns.{IsMove, IsResting, Leads, Move, after_move}
 use Rattle.network_text.specs.NetworkScript.{if_for_some, is_for_some, read_network_input, read_network_line, read_network_lines, with_network_line}
 use Rattle.network_text.specs.declared.input.NetworkInput.{NetworkInput}
@@ -97,6 +97,11 @@ Script = List NetworkInput × End
 number_is : (motes number : ℕ) (input : Input) → is_for_some motes (NetworkInput.ForMote number input) ≡ true → number - 1 + 1 ≡ number
 number_is motes number input some = grind (arith, nat_tests)
 
+pub mote_there : (motes number : ℕ) (said : NetworkInput) (input : Input) → said ≡ NetworkInput.ForMote number input → is_for_some motes said ≡ true →
+    number - 1 < motes
+mote_there motes number said input is some =
+    let here : is_for_some motes (NetworkInput.ForMote number input) ≡ true = rw is at some in grind (arith, nat_tests)
+
 read_so : (motes : ℕ) (input said : NetworkInput) (is : Bool) → is_for_some motes said ≡ is → Some (Some input) ≡ (if is then Some (Some said) else None) →
     is_for_some motes input ≡ true
 read_so motes input said true some e = let same : input ≡ said = cc in rw same some
@@ -169,48 +174,23 @@ module _ (quiet : Bool) where
       subst (λ (o : Option (Option NetworkInput)). HasCome quiet script (with_network_line n o later) from here)
       (sym (is ∙ ap (λ (motes : ℕ). read_network_line motes line) same)) come
 
+  -- an input for mote m, after the time for it, or nothing
+  pub fed_with : (m : ℕ) (input : Input) (result : Result Bool RunFault) (times : List Outside) (from to : Place) → IsTimeFor m times →
+      TakesIf result quiet (times ++ Outside.Given (NetworkInput.ForMote (m + 1) input) ∷ []) from to →
+      TakesInputIf result quiet (NetworkInput.ForMote (m + 1) input) from to
+  fed_with m input result times from to time takes = (
+    times ++ Outside.Given (NetworkInput.ForMote (m + 1) input) ∷ [],
+    with_time m (m + 1) (NetworkInput.ForMote (m + 1) input) input times time refl refl,
+    takes,
+  )
+
   -- the input of a line, for a mote that there is
-  number_for : (motes : ℕ) (said : NetworkInput) (number : ℕ) (input : Input) → said ≡ NetworkInput.ForMote number input →
-      is_for_some motes said ≡ true → number - 1 + 1 ≡ number
-  number_for motes said number input is some =
-      number_is motes number input (subst (λ (i : NetworkInput). is_for_some motes i ≡ true) is some)
-
-  -- the time for the mote of an input, and then the input
-  pub told_then : (result : Result Bool RunFault) (said : NetworkInput) (number : ℕ) (input : Input) (motes : ℕ) (from mid to : Place)
-      (times : List Outside) → said ≡ NetworkInput.ForMote number input → is_for_some motes said ≡ true → IsTimeFor (number - 1) times →
-      Went quiet times from mid → TakesIf result quiet (Outside.Given (NetworkInput.ForMote (number - 1 + 1) input) ∷ []) mid to →
-      TakesInputIf result quiet said from to
-  told_then result said number input motes from mid to times is some time went takes =
-      let n = number_for motes said number input is some in
-      let e : NetworkInput.ForMote (number - 1 + 1) input ≡ said = ap (λ (k : ℕ). NetworkInput.ForMote k input) n ∙ sym is in
-      let all : TakesIf result quiet (Outside.Given said ∷ []) mid to =
-      subst (λ (i : NetworkInput). TakesIf result quiet (Outside.Given i ∷ []) mid to) e takes in (
-        times ++ Outside.Given said ∷ [],
-        with_time (number - 1) number said input times time (sym n) is,
-        takes_after quiet result times (Outside.Given said ∷ []) from mid to went all,
-      )
-
-  -- no input after the time, since the rounds are used up
-  pub told_only : (said : NetworkInput) (number : ℕ) (input : Input) (motes : ℕ) (from to : Place) (times : List Outside) →
-      said ≡ NetworkInput.ForMote number input → is_for_some motes said ≡ true → IsTimeFor (number - 1) times → {rests : Bool} →
-      Takes quiet times rests from to → TakesInputIf (Ok false) quiet said from to
-  told_only said number input motes from to times is some time takes =
-      let n = number_for motes said number input is some in (
-        times ++ Outside.Given said ∷ [],
-        with_time (number - 1) number said input times time (sym n) is,
-        takes_before quiet (Outside.Given said ∷ []) takes,
-      )
-
-  -- or since there was a fault
-  pub told_fault : (said : NetworkInput) (number : ℕ) (input : Input) (motes : ℕ) (from to : Place) (times : List Outside) (fault : RunFault) →
-      said ≡ NetworkInput.ForMote number input → is_for_some motes said ≡ true → IsTimeFor (number - 1) times →
-      Faulted quiet times fault from to → TakesInputIf (Err fault) quiet said from to
-  told_fault said number input motes from to times fault is some time faulted =
-      let n = number_for motes said number input is some in (
-        times ++ Outside.Given said ∷ [],
-        with_time (number - 1) number said input times time (sym n) is,
-        faulted_before quiet (Outside.Given said ∷ []) faulted,
-      )
+  pub taken_for : (result : Result Bool RunFault) (said : NetworkInput) (number : ℕ) (input : Input) (motes : ℕ) (from to : Place) →
+      said ≡ NetworkInput.ForMote number input → is_for_some motes said ≡ true →
+      TakesInputIf result quiet (NetworkInput.ForMote (number - 1 + 1) input) from to → TakesInputIf result quiet said from to
+  taken_for result said number input motes from to is some takes =
+      let n = number_is motes number input (subst (λ (i : NetworkInput). is_for_some motes i ≡ true) is some) in
+      subst (λ (i : NetworkInput). TakesInputIf result quiet i from to) (ap (λ (k : ℕ). NetworkInput.ForMote k input) n ∙ sym is) takes
 
   pub come_nowhere : (script : Script) (here : Place) → HasCome quiet script script here here
   come_nowhere script here =

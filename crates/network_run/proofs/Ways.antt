@@ -1,16 +1,21 @@
 -- Ways of a run, one after the other.
 use Rattle.std.proofs.Common.{inl, inr, ◌≡◌, ℕ, Bool, true, false, List, [], ◌∷◌, ◌++◌, refl, ap, sym, subst, ◌∙◌, append_assoc, append-nil, Result, Ok, Err, IfErr, IsErrAnd, OnOk, MatchResult}
+use Rattle.mote_types.specs.declared.call.Call.{Call}
 use Rattle.network_session.specs.Network.{NetworkView}
+use Rattle.network_session.specs.Steps.{IsNetworkSubmitted}
+use Rattle.network_session.specs.declared.outcome.Outcome.{Outcome}
 use Rattle.network_run.specs.Code.Way.{Faulted, Goes, IsReason, Place, Stopped, Takes, TakesIf, TakesInputIf, Went, is_write, place}
 use Rattle.std.proofs.lemmas.List.Elements.{filter_map-append}
 use Rattle.network_run.specs.Code.Writing.{Puts, WritesOn}
 use Rattle.network_run.specs.declared.fault.RunFault.{RunFault}
-use Rattle.network_run.specs.Code.Calls.{Speaks}
+use Rattle.network_run.specs.Code.Calls.{IsActiveCall, Speaks}
 use Rattle.mote_session.specs.Voices.{Voices}
+use Rattle.network_run.specs.Code.Ready.{IsRefusedOf, IsWithin, StaysWithin, is_turn}
+use Rattle.network_run.proofs.Ready.{ends_closed, leads_awaits, leads_ready, move_within}
 use Rattle.network_run.proofs.Speaking.{speak_on}
 use Rattle.network_run.proofs.Writing.{nothing_more, then_written}
 use Rattle.network_run.specs.Outside.{Outside, all_outside, outside_of}
-use Rattle.network_text.specs.NetworkRuns.{IsMove, Move, after_move, move_lines}
+use Rattle.network_text.specs.NetworkRuns.{DoesStep, IsMove, Move, after_move, move_lines}
 use Rattle.network_text.specs.declared.input.NetworkInput.{NetworkInput}
 use Rattle.network_text.proofs.Moves.{leads_on, text_on}
 
@@ -19,6 +24,9 @@ only_write fault is not = let yes : is_write fault ≡ true = ap is_write is in 
 
 needs_no_reason : (fault : RunFault) (net : NetworkView) (left : List Outside) → fault ≡ RunFault.Write → IsReason fault net left
 needs_no_reason fault net left is = subst (λ (one : RunFault). IsReason one net left) (sym is) tt
+
+refuses_nothing : (fault : RunFault) (net : NetworkView) → fault ≡ RunFault.Write → IsRefusedOf fault net
+refuses_nothing fault net is = subst (λ (one : RunFault). IsRefusedOf one net) (sym is) tt
 
 -- the reason stays the same if more is to come
 reason_before : (fault : RunFault) (net : NetworkView) (left more : List Outside) → IsReason fault net left → IsReason fault net (left ++ more)
@@ -50,7 +58,7 @@ on_any (Err fault) p = tt
 
 module _ (quiet : Bool) where
   pub went_nowhere : (here : Place) → Went quiet [] here here
-  went_nowhere here = record { moves = []; leads = refl; calls = refl; carried = refl; writes = nothing_more here.given here.due }
+  went_nowhere here = record { moves = []; leads = refl; calls = refl; carried = refl; answered = refl; within = λ w. w; writes = nothing_more here.given here.due }
 
   pub went_on : {outside more : List Outside} {from mid to : Place} → Went quiet outside from mid → Went quiet more mid to → Went quiet (outside ++ more) from to
   went_on {outside} {more} {from} {mid} {to} first second = record {
@@ -59,6 +67,8 @@ module _ (quiet : Bool) where
     calls = speak_on first.moves second.moves from.net mid.net from.voices mid.voices to.voices first.leads first.calls second.calls;
     carried = filter_map-append outside_of first.moves second.moves
         ∙ (ap (λ (v : List Outside). v ++ all_outside second.moves) first.carried ∙ ap (λ (v : List Outside). outside ++ v) second.carried);
+    answered = ends_closed first.moves second.moves first.answered second.answered;
+    within = λ w. second.within (first.within w);
     writes = subst (λ (text : List ℕ). WritesOn from.given from.due to.given to.due text)
         (sym (text_on quiet first.moves second.moves from.net mid.net first.leads)) (then_written first.writes second.writes);
   }
@@ -69,23 +79,25 @@ module _ (quiet : Bool) where
 
   -- one move
   pub went_move : (move : Move) (outside : List Outside) (old new : NetworkView) {given due given_later due_later : List ℕ} {voices later : Voices} →
-      IsMove old move → after_move move ≡ new → Speaks old move voices later → all_outside (move ∷ []) ≡ outside →
+      IsMove old move → after_move move ≡ new → Speaks old move voices later → all_outside (move ∷ []) ≡ outside → is_turn move ≡ false → StaysWithin old move →
       WritesOn given due given_later due_later (move_lines quiet old move) →
       Went quiet outside (place given due old voices) (place given_later due_later new later)
-  went_move move outside old new {given} {due} {given_later} {due_later} {later = later} is after speaks carried writes = record {
+  went_move move outside old new {given} {due} {given_later} {due_later} {later = later} is after speaks carried no_turn stays writes = record {
     moves = move ∷ [];
     leads = (is, after);
     calls = (later, speaks, refl);
     carried = carried;
+    answered = no_turn;
+    within = λ w. subst IsWithin after (move_within move old is stays w);
     writes = subst (λ (text : List ℕ). WritesOn given due given_later due_later text) (sym (append-nil (move_lines quiet old move))) writes;
   }
 
   -- a move with no line
   pub went_mute : (move : Move) (outside : List Outside) (old new : NetworkView) (given due : List ℕ) (voices later : Voices) →
-      IsMove old move → after_move move ≡ new → Speaks old move voices later → all_outside (move ∷ []) ≡ outside → move_lines quiet old move ≡ [] →
+      IsMove old move → after_move move ≡ new → Speaks old move voices later → all_outside (move ∷ []) ≡ outside → is_turn move ≡ false → StaysWithin old move → move_lines quiet old move ≡ [] →
       Went quiet outside (place given due old voices) (place given due new later)
-  went_mute move outside old new given due voices later is after speaks carried none =
-      went_move move outside old new is after speaks carried (subst (λ (text : List ℕ). WritesOn given due given due text) (sym none) (nothing_more given due))
+  went_mute move outside old new given due voices later is after speaks carried no_turn stays none =
+      went_move move outside old new is after speaks carried no_turn stays (subst (λ (text : List ℕ). WritesOn given due given due text) (sym none) (nothing_more given due))
 
   -- nothing is left, and nothing is lost but by a write
   pub all_carried : {outside : List Outside} {from to : Place} (lost : List ℕ) → Went quiet outside from (record to { due = lost }) → Stopped quiet outside [] lost from to
@@ -93,18 +105,64 @@ module _ (quiet : Bool) where
 
   -- a move whose lines are put
   pub goes_move : {T : Type 0} (result : Result T RunFault) (move : Move) (outside : List Outside) (old new : NetworkView) (given due given_later due_later : List ℕ)
-      (voices later : Voices) → IsMove old move → after_move move ≡ new → Speaks old move voices later → all_outside (move ∷ []) ≡ outside →
+      (voices later : Voices) → IsMove old move → after_move move ≡ new → Speaks old move voices later → all_outside (move ∷ []) ≡ outside → is_turn move ≡ false → StaysWithin old move →
       IfErr result (λ fault. fault ≡ RunFault.Write) → Puts result given due given_later due_later (move_lines quiet old move) →
       Goes result quiet outside (place given due old voices) (place given_later due_later new later)
-  goes_move (Ok x) move outside old new given due given_later due_later voices later is after speaks carried write puts =
-      went_move move outside old new is after speaks carried puts
-  goes_move (Err fault) move outside old new given due given_later due_later voices later is after speaks carried write puts = record {
+  goes_move (Ok x) move outside old new given due given_later due_later voices later is after speaks carried no_turn stays write puts =
+      went_move move outside old new is after speaks carried no_turn stays puts
+  goes_move (Err fault) move outside old new given due given_later due_later voices later is after speaks carried no_turn stays write puts = record {
     left = [];
     why = needs_no_reason fault new [] write;
+    much = refuses_nothing fault old write;
     lost = puts.0;
     kept = only_write fault write;
     voices = later;
-    stopped = record { carried = outside; parts = sym (append-nil outside); went = went_move move outside old new is after speaks carried puts.1 };
+    stopped = record { carried = outside; parts = sym (append-nil outside); went = went_move move outside old new is after speaks carried no_turn stays puts.1 };
+  }
+
+  -- a turn, and its call
+  went_turn : (m : ℕ) (call : Call) (old mid new : NetworkView) {given due given_later due_later : List ℕ} {voices later : Voices} →
+      DoesStep (Outcome.Turn m) old mid → IsNetworkSubmitted call mid new → IsActiveCall mid new voices later →
+      WritesOn given due given_later due_later (move_lines quiet mid (Move.Submit call new)) →
+      Went quiet [] (place given due old voices) (place given_later due_later new later)
+  went_turn m call old mid new {given} {due} {given_later} {due_later} {voices} {later} does submitted spoke writes = record {
+    moves = Move.Step (Outcome.Turn m) mid ∷ Move.Submit call new ∷ [];
+    leads = (does, (submitted, refl));
+    calls = (voices, refl, (later, spoke, refl));
+    carried = refl;
+    answered = refl;
+    within = λ w. move_within (Move.Submit call new) mid submitted tt (move_within (Move.Step (Outcome.Turn m) mid) old does tt w);
+    writes = subst (λ (text : List ℕ). WritesOn given due given_later due_later text) (sym (append-nil (move_lines quiet mid (Move.Submit call new)))) writes;
+  }
+
+  pub goes_turn : {T : Type 0} (result : Result T RunFault) (m : ℕ) (call : Call) (old mid new : NetworkView) (given due given_later due_later : List ℕ)
+      (voices later : Voices) → DoesStep (Outcome.Turn m) old mid → IsNetworkSubmitted call mid new → IsActiveCall mid new voices later →
+      IfErr result (λ fault. fault ≡ RunFault.Write) → Puts result given due given_later due_later (move_lines quiet mid (Move.Submit call new)) →
+      Goes result quiet [] (place given due old voices) (place given_later due_later new later)
+  goes_turn (Ok x) m call old mid new given due given_later due_later voices later does submitted spoke write puts =
+      went_turn m call old mid new does submitted spoke puts
+  goes_turn (Err fault) m call old mid new given due given_later due_later voices later does submitted spoke write puts = record {
+    left = [];
+    why = needs_no_reason fault new [] write;
+    much = refuses_nothing fault old write;
+    lost = puts.0;
+    kept = only_write fault write;
+    voices = later;
+    stopped = record { carried = []; parts = refl; went = went_turn m call old mid new does submitted spoke puts.1 };
+  }
+
+  -- what comes is refused after that
+  pub faulted_then : {outside : List Outside} {from mid : Place} (left : List Outside) (fault : RunFault) (new : NetworkView) (later : Voices) →
+      Went quiet outside from mid → new ≡ mid.net → IsReason fault mid.net left → IsRefusedOf fault from.net →
+      Faulted quiet (outside ++ left) fault from (record mid { net = new; voices = later })
+  faulted_then {outside} {from} {mid} left fault new later went same why much = record {
+    left = left;
+    why = rw same why;
+    much = much;
+    lost = mid.due;
+    kept = λ not. refl;
+    voices = mid.voices;
+    stopped = record { carried = outside; parts = refl; went = rw same went };
   }
 
   -- and before that, others
@@ -117,11 +175,18 @@ module _ (quiet : Bool) where
     went = went_on first second.went;
   }
 
+  refused_after : {outside : List Outside} {from mid : Place} (fault : RunFault) → Went quiet outside from mid → IsRefusedOf fault mid.net → IsRefusedOf fault from.net
+  refused_after RunFault.Write first much = tt
+  refused_after {from = from} {mid = mid} (RunFault.Refused fault) first much = λ ready none within.
+      much (leads_ready first.moves from.net mid.net ready first.leads) (leads_awaits first.moves from.net mid.net none first.leads first.answered)
+      (first.within within)
+
   pub faulted_after : {outside more : List Outside} {fault : RunFault} {from mid to : Place} → Went quiet outside from mid → Faulted quiet more fault mid to →
       Faulted quiet (outside ++ more) fault from to
-  faulted_after first second = record {
+  faulted_after {fault = fault} first second = record {
     left = second.left;
     why = second.why;
+    much = refused_after fault first second.much;
     lost = second.lost;
     kept = second.kept;
     voices = second.voices;
@@ -148,6 +213,7 @@ module _ (quiet : Bool) where
   faulted_before more {fault = fault} {to = to} first = record {
     left = first.left ++ more;
     why = reason_before fault to.net first.left more first.why;
+    much = first.much;
     lost = first.lost;
     kept = first.kept;
     voices = first.voices;
@@ -161,10 +227,11 @@ module _ (quiet : Bool) where
 
   -- a network that refuses is as it was, whatever the application said that has no such turn
   pub faulted_same : (outside : List Outside) (fault : RunFault) (given due : List ℕ) (old new : NetworkView) (voices later : Voices) → new ≡ old →
-      IsReason fault old outside → Faulted quiet outside fault (place given due old voices) (place given due new later)
-  faulted_same outside fault given due old new voices later same why = record {
+      IsReason fault old outside → IsRefusedOf fault old → Faulted quiet outside fault (place given due old voices) (place given due new later)
+  faulted_same outside fault given due old new voices later same why much = record {
     left = outside;
     why = rw same why;
+    much = much;
     lost = due;
     kept = λ not. refl;
     voices = voices;
@@ -173,16 +240,17 @@ module _ (quiet : Bool) where
 
   -- a move whose lines are lost
   pub faulted_move : (fault : RunFault) (move : Move) (outside : List Outside) (old new : NetworkView) (given due given_later due_later lost : List ℕ)
-      (voices later : Voices) → IsMove old move → after_move move ≡ new → Speaks old move voices later → all_outside (move ∷ []) ≡ outside → fault ≡ RunFault.Write →
+      (voices later : Voices) → IsMove old move → after_move move ≡ new → Speaks old move voices later → all_outside (move ∷ []) ≡ outside → is_turn move ≡ false → StaysWithin old move → fault ≡ RunFault.Write →
       WritesOn given due given_later lost (move_lines quiet old move) →
       Faulted quiet outside fault (place given due old voices) (place given_later due_later new later)
-  faulted_move fault move outside old new given due given_later due_later lost voices later is after speaks carried write writes = record {
+  faulted_move fault move outside old new given due given_later due_later lost voices later is after speaks carried no_turn stays write writes = record {
     left = [];
     why = needs_no_reason fault new [] write;
+    much = refuses_nothing fault old write;
     lost = lost;
     kept = only_write fault write;
     voices = later;
-    stopped = record { carried = outside; parts = sym (append-nil outside); went = went_move move outside old new is after speaks carried writes };
+    stopped = record { carried = outside; parts = sym (append-nil outside); went = went_move move outside old new is after speaks carried no_turn stays writes };
   }
 
   -- the network rests after that

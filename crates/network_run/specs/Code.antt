@@ -1,6 +1,7 @@
 -- The code's own invariants.
 pub mod Calls
 pub mod Lines
+pub mod Ready
 pub mod StepText
 pub mod Steps
 pub mod Way

@@ -1,7 +1,9 @@
 -- What a network's run writes.
-use Rattle.std.specs.Prelude.{◌≡◌, ◌⊎◌, ℕ, ◌==◌, Bool, List, [], ◌∷◌, ◌++◌, Option, None, Some, IfSome, Result, Ok, Err, if◌then◌else◌}
+use Rattle.std.specs.Prelude.{◌≡◌, ◌⊎◌, ℕ, ◌≤◌, ◌^◌, ◌==◌, Bool, List, [], ◌∷◌, ◌++◌, slice_get, Option, None, Some, IfSome, Result, Ok, Err, if◌then◌else◌}
 use Rattle.kernel_core.specs.declared.config.Config.{Config}
 use Rattle.medium_core.specs.declared.link.Link.{Link}
+use Rattle.mote_session.specs.SessionView.{SessionView}
+use Rattle.mote_session.specs.declared.refusal.SessionRefusal.{SessionRefusal}
 use Rattle.mote_text.specs.declared.script.End.{End}
 use Rattle.network_session.specs.Network.{NetworkView}
 use Rattle.network_session.specs.Promise.{IsLogOf, NetworkPromise}
@@ -54,6 +56,23 @@ abbrev pub CanStop : NetworkView → List Outside → End → Result End Network
 CanStop net left said (Ok end) = CanEnd net left said end
 CanStop net left said (Err fault) = Refuses net left fault
 
+-- no mote awaits a call
+abbrev pub AwaitsNone : NetworkView → Type 0
+AwaitsNone net = (m : ℕ) (mote : SessionView) → slice_get net.motes m ≡ Some mote → mote.turn ≡ None
+
+-- no mote was started, none awaits a call, and each has the network's time
+pub record IsAtStart (net : NetworkView) : Type 0 where
+  pub idle : net.active ≡ None
+  pub none_started : net.started ≡ 0
+  pub within : net.air.clock ≤ net.target
+  pub far : net.target ≤ 2 ^ 62
+  pub awaits : AwaitsNone net
+  pub on_time : (m : ℕ) (mote : SessionView) → slice_get net.motes m ≡ Some mote → mote.machine.clock ≡ net.air.clock
+
+-- one input more for a mote that was handed 2^40, or time beyond 2^62
+abbrev pub IsTooMuch : NetworkFault → Type 0
+IsTooMuch fault = (fault ≡ NetworkFault.TooLong) ⊎ (fault ≡ NetworkFault.Refused SessionRefusal.TooManyInputs)
+
 -- the last line, once the run has ended
 abbrev pub ending_text : Option (Result End NetworkFault) → List ℕ
 ending_text None = []
@@ -70,6 +89,8 @@ pub record NetworkRan (quiet : Bool) (start : NetworkView) (voices : Voices) (sc
   pub left : List Outside
   pub inputs : script.0 ≡ inputs_of moves ++ givens left
   pub in_turn : AreInTurn (all_outside moves ++ left)
+  -- the call of each turn was made
+  pub answered : AwaitsNone start → AwaitsNone net
   pub calls : MakeTheCalls voices (log_of start moves)
   pub ends : IfSome ending (CanStop net left script.1)
   pub is_text : written ++ rest ≡ moves_text quiet start moves ++ ending_text ending
@@ -77,13 +98,13 @@ pub record NetworkRan (quiet : Bool) (start : NetworkView) (voices : Voices) (sc
   pub promise : (configs : ℕ → Config) (room : ℕ) (links : List (List Link)) → IsLogOf configs room links [] start →
       NetworkPromise configs room links (log_of start moves) net
 
--- how it ended: all was written, unless writing failed
+-- How it ended: all was written, unless writing failed. A network whose motes have just booted refuses only what is too much
 abbrev pub HasRun : Bool → NetworkView → Voices → List NetworkInput × End → List ℕ → Result End RunFault → Type 0
 HasRun quiet start voices script written (Ok end) = NetworkRan quiet start voices script written [] (Some (Ok end))
 HasRun quiet start voices script written (Err RunFault.Write) =
     (rest : List ℕ) × (ending : Option (Result End NetworkFault)) × NetworkRan quiet start voices script written rest ending
 HasRun quiet start voices script written (Err (RunFault.Refused fault)) =
-    NetworkRan quiet start voices script written [] (Some (Err fault))
+    NetworkRan quiet start voices script written [] (Some (Err fault)) × (IsAtStart start → IsTooMuch fault)
 
 -- what was given since then is this
 abbrev pub Gives : List ℕ → List ℕ → (List ℕ → Type 0) → Type 0

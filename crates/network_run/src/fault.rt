@@ -1,8 +1,8 @@
-//! Why a network's run came to no end.
+//! Why a network's run failed.
 
 use network_session::fault::NetworkFault;
 
-/// Why a network's run came to no end.
+/// Why a network's run failed.
 #[derive(Clone, Copy, Drop)]
 pub enum RunFault {
     /// The sink failed.

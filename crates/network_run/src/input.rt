@@ -1,7 +1,7 @@
 //! Execution of a network's inputs.
 
-ghost use Rattle.std.specs.Prelude.{◌≡◌, ◌<◌, ◌+◌, ◌-◌, ◌^◌, ◌∷◌, [], true, length, slice_get, IfOk, IsSomeAnd};
-ghost use Rattle.mote_session.specs.SessionView.{SessionView};
+ghost use Rattle.std.specs.Prelude.{◌≡◌, ◌<◌, ◌+◌, ◌-◌, ◌^◌, ◌∷◌, [], true, length, slice_get, IfOk};
+ghost use Rattle.network_run.specs.Code.Ready.{ComesFromOutside, IsFromOutside, IsOnTime, IsReady, was_behind};
 ghost use Rattle.network_run.specs.Code.Way.{CountsFaults, RestsIf, TakesIf, TakesInputIf, TellsIf, place};
 ghost use Rattle.network_run.specs.Outside.{Outside, was_halted};
 ghost use Rattle.network_text.specs.NetworkRuns.{IsResting};
@@ -29,8 +29,7 @@ fn is_halted(network: &Network, mote: usize) -> bool
 
 /// Whether there is this mote, and its clock is behind that of the network.
 fn is_behind(network: &Network, mote: usize) -> bool
-    ensures { result ≡ true
-        → IsSomeAnd (slice_get network.now.motes mote) (λ (one : SessionView). one.machine.clock < network.now.air.clock) }
+    ensures { result ≡ was_behind (slice_get network.now.motes mote) network.now.air.clock }
 {
     match network.mote(mote) {
         Some(session) => session.clock() < network.clock(),
@@ -75,6 +74,7 @@ fn catch_up<K: ByteSink, H: Caller>(
     ensures takes { K.is_named → TellsIf result quiet mote
         (place (K.given sink.old) text.old.due.items network.old (H.voices caller.old))
         (place (K.given sink.new) text.new.due.items network.new (H.voices caller.new)) }
+    ensures on_time { K.is_named → IsReady network.old → IfOk result (λ rests. rests ≡ true → IsOnTime mote network.new) }
     ensures rests { IfOk result (λ rests. RestsIf rests network.new) }
     ensures failures { CountsFaults result (K.failure_count sink.old) (K.failure_count sink.new) }
 {
@@ -96,7 +96,7 @@ fn catch_up<K: ByteSink, H: Caller>(
     }
 }
 
-/// Submits an input to a mote that isn't behind. A halted mote misses it.
+/// Gives the time to a mote that is behind, and then an input. A halted mote misses it.
 fn feed<K: ByteSink, H: Caller>(
     sink: &mut K,
     text: &mut PendingText,
@@ -107,13 +107,18 @@ fn feed<K: ByteSink, H: Caller>(
     quiet: bool,
 ) -> Result<bool, RunFault>
     requires rests { IsResting network.old }
+    requires there { mote < length network.old.motes }
+    requires outside { IsFromOutside input }
     requires countable { K.failure_count sink.old < 2 ^ 64 - 1 }
-    ensures takes { K.is_named → TakesIf result quiet (Outside.Given (NetworkInput.ForMote (mote + 1) input) ∷ [])
+    ensures takes { K.is_named → TakesInputIf result quiet (NetworkInput.ForMote (mote + 1) input)
         (place (K.given sink.old) text.old.due.items network.old (H.voices caller.old))
         (place (K.given sink.new) text.new.due.items network.new (H.voices caller.new)) }
     ensures rests { IfOk result (λ rests. RestsIf rests network.new) }
     ensures failures { CountsFaults result (K.failure_count sink.old) (K.failure_count sink.new) }
 {
+    if !catch_up(sink, text, caller, network, mote, quiet)? {
+        return Ok(false);
+    }
     if is_halted(network, mote) {
         text.put_unheard(sink, mote, quiet)?;
         return Ok(true);
@@ -135,6 +140,7 @@ pub(crate) fn take_input<K: ByteSink, H: Caller>(
 ) -> Result<bool, RunFault>
     requires rests { IsResting network.old }
     requires for_some { is_for_some (length network.old.motes) input ≡ true }
+    requires outside { ComesFromOutside input }
     requires countable { K.failure_count sink.old < 2 ^ 64 - 1 }
     ensures takes { K.is_named → TakesInputIf result quiet input
         (place (K.given sink.old) text.old.due.items network.old (H.voices caller.old))
@@ -146,11 +152,7 @@ pub(crate) fn take_input<K: ByteSink, H: Caller>(
         NetworkInput::Tick(ticks) => pass_time(sink, text, caller, network, ticks, quiet),
         NetworkInput::ForMote(number, input) => {
             let mote = number as usize - 1;
-            if catch_up(sink, text, caller, network, mote, quiet)? {
-                feed(sink, text, caller, network, mote, input, quiet)
-            } else {
-                Ok(false)
-            }
+            feed(sink, text, caller, network, mote, input, quiet)
         }
     }
 }

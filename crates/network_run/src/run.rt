@@ -1,6 +1,6 @@
 //! The run of a network.
 
-ghost use Rattle.std.specs.Prelude.{◌≡◌, ◌<◌, ◌+◌, ◌-◌, ◌^◌, [], ℕ, Bool, List, None, false, length, IfOk};
+ghost use Rattle.std.specs.Prelude.{◌≡◌, ◌<◌, ◌+◌, ◌-◌, ◌^◌, ◌↔◌, [], ℕ, Bool, List, None, false, length, if◌then◌else◌, IfOk, IsErrOf};
 ghost use Rattle.network_run.specs.Code.Way.{CountsFaults, Ends, HasCome, LineRuns, Place, Reading, RunFaulted, RunsIf, is_write, place};
 ghost use Rattle.network_run.specs.NetworkRunText.{Gives, HasRun, script_lines};
 ghost use Rattle.mote_session.specs.Voices.{Voices};
@@ -139,6 +139,8 @@ fn fail<K: ByteSink>(sink: &mut K, text: &mut PendingText, fault: RunFault) -> R
         (quiet : Bool) (script : Reading) (start net : NetworkView) (voices later : Voices) (given : List ℕ) →
         RunFaulted quiet script.0 fault (place given [] start voices) (place (K.given sink.old) text.old.due.items net later) →
         Gives given (K.given sink.new) (λ written. HasRun quiet start voices script written result) }
+    ensures failures { (before : ℕ) → K.failure_count sink.old ≡ (if is_write fault then before + 1 else before) →
+        CountsFaults result before (K.failure_count sink.new) }
 {
     texts_go_on();
     if is_write(fault) {
@@ -158,8 +160,9 @@ fn fail<K: ByteSink>(sink: &mut K, text: &mut PendingText, fault: RunFault) -> R
 ///
 /// # Errors
 ///
-/// `Write` where the sink failed: a prefix of the text was written. `Refused` where the network refuses its next step or, at rest, what
-/// comes next: all text of the moves before was written.
+/// `Write` exactly where the sink failed: a prefix of the text was written. `Refused` where the network refuses its next step or, at rest,
+/// what comes next: all text of the moves before was written. A network whose motes have just booted refuses only what is too much: an
+/// input for a mote that was handed 2^40, or time beyond 2^62.
 pub fn run_network<K: ByteSink, H: Caller>(
     network: Network,
     caller: &mut H,
@@ -173,6 +176,7 @@ pub fn run_network<K: ByteSink, H: Caller>(
     ensures ran { K.is_named → Gives (K.given sink.old) (K.given sink.new) (λ written.
         HasRun quiet network (H.voices caller.old)
         (read_network_lines (length network.motes) first (script_lines script.now)) written result) }
+    ensures write_fault { IsErrOf result RunFault.Write ↔ (K.failure_count sink.old < K.failure_count sink.new) }
 {
     let mut network = network;
     let mut text = PendingText::new();

@@ -1,12 +1,14 @@
 -- The motes of a setup have just booted.
-use Rattle.std.proofs.Common.{◌≡◌, ℕ, zero, suc, List, [], ◌∷◌, ◌++◌, Some, subst, sym, refl, slice_get}
+use Rattle.std.proofs.Common.{◌≡◌, ℕ, zero, suc, List, [], ◌∷◌, ◌++◌, None, Some, ap, arith, subst, sym, refl, slice_get}
 use Rattle.kernel_core.specs.declared.config.Config.{Config}
+use Rattle.kernel_core.specs.Machine.{Machine}
 use Rattle.mote_session.specs.History.{at_boot}
 use Rattle.mote_session.specs.SessionRuns.{IsHistoryOf}
 use Rattle.mote_session.specs.SessionView.{SessionView}
 use Rattle.network_setup.specs.MoteLines.{IsAdded}
 use Rattle.network_setup.specs.SetupView.{AreBooted, HasJustBooted, HaveJustBooted, SetupView, config_of}
-use Rattle.network_setup.specs.SetUpRuns.{HasBooted}
+use Rattle.network_setup.specs.SetUpRuns.{HasBooted, start_of}
+use Rattle.network_run.specs.NetworkRunText.{IsAtStart}
 
 one_more : (configs : List Config) (motes : List SessionView) (config : Config) (mote : SessionView) → HaveJustBooted configs motes →
     HasJustBooted config mote → HaveJustBooted (configs ++ config ∷ []) (motes ++ mote ∷ [])
@@ -36,6 +38,26 @@ histories (c ∷ configs) (x ∷ motes) all zero mote e =
     subst (λ (one : SessionView). IsHistoryOf (at_boot c) one) same all.0.history
 histories (c ∷ configs) (x ∷ motes) all (suc m) mote e = histories configs motes all.1 m mote e
 
+starts : (configs : List Config) (motes : List SessionView) → HaveJustBooted configs motes → (m : ℕ) (mote : SessionView) → slice_get motes m ≡ Some mote →
+    (mote.turn ≡ None) × (mote.machine.clock ≡ 0)
+starts [] [] all m mote e = absurd (cc)
+starts [] (x ∷ motes) all m mote e = absurd all
+starts (c ∷ configs) [] all m mote e = absurd all
+starts (c ∷ configs) (x ∷ motes) all zero mote e =
+    let same : x ≡ mote = cc in
+    subst (λ (one : SessionView). (one.turn ≡ None) × (one.machine.clock ≡ 0)) same (all.0.turn, ap (λ (m : Machine). m.clock) all.0.machine)
+starts (c ∷ configs) (x ∷ motes) all (suc m) mote e = starts configs motes all.1 m mote e
+
+at_start : (configs : List Config) (setup : SetupView) → HaveJustBooted configs setup.motes → IsAtStart (start_of setup)
+at_start configs setup all = record {
+  idle = refl;
+  none_started = refl;
+  within = omega arith;
+  far = omega arith;
+  awaits = λ m mote there. (starts configs setup.motes all m mote there).0;
+  on_time = λ m mote there. (starts configs setup.motes all m mote there).1;
+}
+
 pub has_booted : (setup view : SetupView) → view ≡ setup → AreBooted view.motes → HasBooted setup
 has_booted setup view same all =
     let known : HaveJustBooted all.configs setup.motes =
@@ -44,4 +66,5 @@ has_booted setup view same all =
       configs = all.configs;
       motes = known;
       log = record { motes = histories all.configs setup.motes known; air = refl; heard = tt };
+      at_start = at_start all.configs setup known;
     }

@@ -1,11 +1,11 @@
 -- What the definitions refuse: another line's number, a mote that has worked, another application, and how no run ends.
 use Rattle.std.specs.Fmt.{digits}
-use Rattle.std.proofs.Common.{◌≡◌, ◌≢◌, ◌+◌, ◌∙◌, ℕ, Bool, true, false, List, [], ◌∷◌, ◌++◌, Option, Some, None, Result, Ok, Err, ap, arith, codes, length, sym}
+use Rattle.std.proofs.Common.{◌≡◌, ◌∙◌, ℕ, Bool, List, [], ◌∷◌, ◌++◌, Option, Some, None, Ok, Err, ap, arith, codes, length, sym}
 use Rattle.std.specs.Option.{option_map_or}
 use Rattle.std.proofs.lemmas.List.{length-append}
 use Rattle.std.specs.Global.{Box, Vec}
 use Rattle.call_lists.specs.declared.applications.Application.{Application}
-use Rattle.kernel_core.specs.Machine.{Machine, booted}
+use Rattle.kernel_core.specs.Machine.{Machine}
 use Rattle.kernel_core.specs.declared.config.Config.{Config}
 use Rattle.mote_session.specs.SessionView.{AwaitedCall, SessionView}
 use Rattle.mote_session.specs.Voices.{Voices}
@@ -13,12 +13,11 @@ use Rattle.mote_text.specs.EntryText.{line_of}
 use Rattle.mote_text.specs.Script.{read_line}
 use Rattle.mote_text.specs.declared.script.End.{End}
 use Rattle.mote_types.specs.declared.entry.Entry.{Entry}
-use Rattle.network_run.specs.declared.fault.RunFault.{RunFault}
 use Rattle.network_setup.specs.FirstLines.{AreCarriedOut, BeginWithInput, IsBadLine}
 use Rattle.network_setup.specs.MoteLines.{AddsMotes, HasCalls, HasName, HasOneMore, HaveMotes, MoteLine}
 use Rattle.network_setup.specs.ScriptRuns.{EndsAtOnce, IsSetUp}
 use Rattle.network_setup.specs.SetUpRuns.{HasRunSetUp, start_of}
-use Rattle.network_setup.specs.SetupView.{HasJustBooted, SetupView, default_config, empty_setup}
+use Rattle.network_setup.specs.SetupView.{HasJustBooted, SetupView, empty_setup}
 use Rattle.network_setup.specs.declared.fault.SetUpRunFault.{SetUpRunFault}
 use Rattle.network_setup.specs.declared.mote_app.MoteApp.{MoteApp}
 use Rattle.network_text.specs.declared.input.NetworkInput.{NetworkInput}

@@ -5,7 +5,7 @@ use Rattle.medium_core.specs.Air.{are_links, still_air}
 use Rattle.mote_text.specs.declared.script.End.{End}
 use Rattle.network_setup.specs.SetupView.{HaveJustBooted, SetupView, config_of}
 use Rattle.network_setup.specs.declared.fault.SetUpRunFault.{SetUpRunFault}
-use Rattle.network_run.specs.NetworkRunText.{HasRun}
+use Rattle.network_run.specs.NetworkRunText.{HasRun, IsAtStart}
 use Rattle.mote_session.specs.Voices.{Voices}
 use Rattle.network_session.specs.Network.{NetworkView}
 use Rattle.network_session.specs.Promise.{IsLogOf}
@@ -23,11 +23,13 @@ start_of setup = record {
   rounds = setup.rounds;
 }
 
--- it has just booted: nothing is the log of what happened in it. So what happens in its run keeps the promise of a network
+-- It has just booted: nothing is the log of what happened in it, and no mote was started. So what happens in its run keeps the promise of a
+-- network, and it refuses only what is too much
 pub record HasBooted (setup : SetupView) : Type 0 where
   pub configs : List Config
   pub motes : HaveJustBooted configs setup.motes
   pub log : IsLogOf (config_of configs) setup.room setup.links [] (start_of setup)
+  pub at_start : IsAtStart (start_of setup)
 
 -- how the run ended: as that of the network promises. There is none where memory is refused, or a link isn't sound
 abbrev pub HasRunSetUp : Bool → NetworkView → Voices → List NetworkInput × End → List ℕ → Result End SetUpRunFault → Type 0

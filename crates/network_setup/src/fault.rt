@@ -1,4 +1,4 @@
-//! Why a line isn't executed, and why a run does not end.
+//! Why a line isn't executed, and why a run failed.
 
 /// Why a line isn't executed.
 #[derive(Clone, Copy, Drop)]
@@ -8,7 +8,7 @@ pub enum LineFault {
     Memory,
 }
 
-/// Why the run of a network that was set up does not end.
+/// Why the run of a network that was set up failed.
 #[derive(Clone, Copy, Drop)]
 pub enum SetUpRunFault {
     /// Memory was refused: nothing was written.
@@ -17,6 +17,6 @@ pub enum SetUpRunFault {
     NoMote,
     /// A rule of this crate is broken: a link that passed its checks isn't sound.
     BadLink,
-    /// The run of the network does not end.
+    /// The run of the network failed.
     Run(network_run::fault::RunFault),
 }

@@ -1,8 +1,9 @@
 //! Sets networks up, and runs them.
 
-ghost use Rattle.std.specs.Prelude.{◌≡◌, ◌≤◌, ◌<◌, ◌+◌, ◌-◌, ◌^◌, codes, false, length, IfErr, IfOk};
+ghost use Rattle.std.specs.Prelude.{◌≡◌, ◌≤◌, ◌<◌, ◌+◌, ◌-◌, ◌^◌, ◌↔◌, codes, false, length, IfErr, IfOk, IsErrOf};
 ghost use Rattle.mote_text.specs.Script.{argument_of};
 ghost use Rattle.network_run.specs.NetworkRunText.{Gives, script_lines};
+ghost use Rattle.network_run.specs.declared.fault.RunFault.{RunFault};
 ghost use Rattle.network_setup.specs.FirstLines.{AreCarriedOut, DoesLine, IsBadLine, SaysNothing, is_blank};
 ghost use Rattle.network_setup.specs.MoteApps.{voices_of};
 ghost use Rattle.network_setup.specs.SetUpRuns.{HasBooted, HasRunSetUp, start_of};
@@ -78,7 +79,7 @@ pub fn read_setup<'a>(
 ///
 /// # Errors
 ///
-/// `Memory` and `BadLink` where there is no network: nothing was written. `Run` where its run does not end.
+/// `Memory` and `BadLink` where there is no network: nothing was written. `Run` where its run failed: `Write` exactly where the sink did.
 pub fn run_setup<K: ByteSink>(
     alloc: Global,
     setup: Setup,
@@ -91,6 +92,7 @@ pub fn run_setup<K: ByteSink>(
     ensures ran { K.is_named → Gives (K.given sink.old) (K.given sink.new) (λ written. HasRunSetUp quiet (start_of setup)
         (voices_of setup.applications) (read_network_lines (length setup.motes) inputs.entry.first (script_lines inputs.entry.script.now)) written result) }
     ensures booted { HasBooted setup }
+    ensures write_fault { IsErrOf result (SetUpRunFault.Run RunFault.Write) ↔ (K.failure_count sink.old < K.failure_count sink.new) }
 {
     setup.has_booted();
     let Setup {

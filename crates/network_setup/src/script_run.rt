@@ -1,6 +1,6 @@
 //! The run of a whole script.
 
-ghost use Rattle.std.specs.Prelude.{◌≡◌, ◌<◌, ◌+◌, ◌-◌, ◌^◌, [], length};
+ghost use Rattle.std.specs.Prelude.{◌≡◌, ◌<◌, ◌+◌, ◌-◌, ◌^◌, ◌↔◌, [], length, IsErrOf};
 ghost use Rattle.network_run.specs.NetworkRunText.{Gives, script_lines};
 ghost use Rattle.network_setup.specs.MoteApps.{voices_of};
 ghost use Rattle.network_setup.specs.ScriptRuns.{EndsAtOnce, HasRunScript, is_there};
@@ -23,6 +23,7 @@ use std::alloc::Global;
 fn end_at_once<K: ByteSink>(sink: &mut K, end: End) -> Result<End, SetUpRunFault>
     requires countable { K.failure_count sink.old < 2 ^ 64 - 1 }
     ensures ended { K.is_named → Gives (K.given sink.old) (K.given sink.new) (λ written. EndsAtOnce end written result) }
+    ensures write_fault { IsErrOf result (SetUpRunFault.Run RunFault.Write) ↔ (K.failure_count sink.old < K.failure_count sink.new) }
 {
     let mut text = OutputBuffer::new();
     last_text(end, &mut text);
@@ -49,7 +50,7 @@ fn is_there(only: Option<u32>, motes: usize) -> bool
 ///
 /// # Errors
 ///
-/// `Memory` and `NoMote`: nothing was written. `Run` where writing fails, and where the run of the network does not end.
+/// `Memory` and `NoMote`: nothing was written. `Run` where the run of the network failed: `Write` exactly where the sink did.
 pub fn run_script<K: ByteSink>(
     alloc: Global,
     script: &[u8],
@@ -59,6 +60,7 @@ pub fn run_script<K: ByteSink>(
 ) -> Result<End, SetUpRunFault>
     requires countable { K.failure_count sink.old < 2 ^ 64 - 1 }
     ensures ran { K.is_named → Gives (K.given sink.old) (K.given sink.new) (λ written. HasRunScript quiet only script.now written result) }
+    ensures write_fault { IsErrOf result (SetUpRunFault.Run RunFault.Write) ↔ (K.failure_count sink.old < K.failure_count sink.new) }
 {
     if script.len() > SCRIPT_LIMIT as usize {
         return end_at_once(sink, End::TooLong);

@@ -5,6 +5,7 @@ use Rattle.network_session.specs.Network.{NetworkView}
 use Rattle.network_run.specs.NetworkRunText.{CanEnd, IsSpent, Refuses}
 use Rattle.mote_session.specs.Voices.{Voices}
 use Rattle.network_run.specs.Code.Calls.{Speak}
+use Rattle.network_run.specs.Code.Ready.{IsRefusedOf, IsWithin, ends_open}
 use Rattle.network_run.specs.Code.Writing.{WritesOn}
 use Rattle.network_run.specs.Outside.{AreInTurn, IsFor, Outside, all_outside, givens}
 use Rattle.network_run.specs.declared.fault.RunFault.{RunFault}
@@ -27,6 +28,8 @@ pub record Went (quiet : Bool) (outside : List Outside) (from to : Place) : Type
   pub leads : Leads from.net moves to.net
   pub calls : Speak from.net moves from.voices to.voices
   pub carried : all_outside moves ≡ outside
+  pub answered : ends_open moves ≡ false
+  pub within : IsWithin from.net → IsWithin to.net
   pub writes : WritesOn from.given from.due to.given to.due (moves_text quiet from.net moves)
 
 abbrev pub is_write : RunFault → Bool
@@ -48,6 +51,7 @@ IsReason (RunFault.Refused fault) net left = Refuses net left fault
 pub record Faulted (quiet : Bool) (outside : List Outside) (fault : RunFault) (from to : Place) : Type 0 where
   pub left : List Outside
   pub why : IsReason fault to.net left
+  pub much : IsRefusedOf fault from.net
   pub lost : List ℕ
   pub kept : is_write fault ≡ false → lost ≡ to.due
   pub voices : Voices

@@ -1,4 +1,5 @@
 use Rattle.std.proofs.Common.{Some, None}
+use Rattle.network_run.proofs.Inputs.{line_outside}
 use Rattle.network_run.proofs.Scripts.{come_on, ends_bad, ends_halted, faulted_in, line_is, read_for_some}
 use Rattle.network_run.proofs.Ways.{fault_on, went_of}
 use Rattle.network_run.proofs.run.take_line.Goals as goal
@@ -13,6 +14,9 @@ returns-in-Nothing-clause-runs g c = λ named script later from come.
 
 pub take_input-requires-clause-for_some : goal.take_input-requires-clause-for_some
 take_input-requires-clause-for_some g c = read_for_some _ c.args.line.now c.in-Input.input c.in-Input.ensures
+
+pub take_input-requires-clause-outside : goal.take_input-requires-clause-outside
+take_input-requires-clause-outside g c = line_outside _ c.args.line.now c.in-Input.input c.in-Input.ensures
 
 pub returns-in_err-take_input-in-Input-clause-runs : goal.returns-in_err-take_input-in-Input-clause-runs
 returns-in_err-take_input-in-Input-clause-runs g c = λ named script later from come.

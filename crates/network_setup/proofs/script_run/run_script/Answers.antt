@@ -5,52 +5,44 @@ use Rattle.network_run.specs.NetworkRunText.{script_lines}
 use Rattle.network_setup.specs.ScriptRuns.{bad_line, is_there, no_mote, runs, too_long}
 use Rattle.network_setup.proofs.script_run.run_script.Goals as goal
 
-pub returns-then-script : goal.returns-then-script
+pub returns-then-script-clause-ran : goal.returns-then-script-clause-ran
 unfolding script_limit
-returns-then-script g c = record {
-  ran = λ named.
-      let ended = c.end_at_once.ensures.ended named in
-      let long : script_limit < length c.args.script.now = grind (arith, nat_tests, c.if-script.true) in
-      (ended.0, ended.1, too_long long ended.2);
-}
+returns-then-script-clause-ran g c = λ named.
+    let ended = c.end_at_once.ensures.ended named in
+    let long : script_limit < length c.args.script.now = grind (arith, nat_tests, c.if-script.true) in
+    (ended.0, ended.1, too_long long ended.2)
 
-pub returns-in-Err-default-Malformed : goal.returns-in-Err-default-Malformed
+pub returns-in-Err-default-Malformed-clause-ran : goal.returns-in-Err-default-Malformed-clause-ran
 unfolding script_limit
-returns-in-Err-default-Malformed g c = record {
-  ran = λ named.
-      let ended = c.end_at_once-in-Err-default-Malformed.ensures.ended named in
-      let short : length c.args.script.now ≤ script_limit = grind (arith, nat_tests, c.if-script.false) in
-      let bad = rw c.new-setup.ensures at (c.in-Err-default-Malformed.ensures.bad_line c.in-Err-default-Malformed.field-0-1-is) in
-      (ended.0, ended.1, bad_line c.in-Err-default-Malformed.number short bad ended.2);
-}
+returns-in-Err-default-Malformed-clause-ran g c = λ named.
+    let ended = c.end_at_once-in-Err-default-Malformed.ensures.ended named in
+    let short : length c.args.script.now ≤ script_limit = grind (arith, nat_tests, c.if-script.false) in
+    let bad = rw c.new-setup.ensures at (c.in-Err-default-Malformed.ensures.bad_line c.in-Err-default-Malformed.field-0-1-is) in
+    (ended.0, ended.1, bad_line c.in-Err-default-Malformed.number short bad ended.2)
 
-pub returns-then-not-is_there : goal.returns-then-not-is_there
+pub returns-then-not-is_there-clause-ran : goal.returns-then-not-is_there-clause-ran
 unfolding script_limit
-returns-then-not-is_there g c = record {
-  ran = λ named.
-      let short : length c.args.script.now ≤ script_limit = grind (arith, nat_tests, c.if-script.false) in
-      let inputs = c.in-Ok.inputs in
-      let absent : is_there c.args.only (length c.read_setup.new.setup.motes) ≡ false = search rules in (
-        [],
-        sym (append-nil _),
-        no_mote inputs.first (script_lines inputs.script.now) c.read_setup.new.setup
-            (record { short = short; lines = rw c.new-setup.ensures at c.in-Ok.ensures.set_up; number = c.in-Ok.ensures.first })
-            absent refl refl,
-      );
-}
+returns-then-not-is_there-clause-ran g c = λ named.
+    let short : length c.args.script.now ≤ script_limit = grind (arith, nat_tests, c.if-script.false) in
+    let inputs = c.in-Ok.inputs in
+    let absent : is_there c.args.only (length c.read_setup.new.setup.motes) ≡ false = search rules in (
+      [],
+      sym (append-nil _),
+      no_mote inputs.first (script_lines inputs.script.now) c.read_setup.new.setup
+          (record { short = short; lines = rw c.new-setup.ensures at c.in-Ok.ensures.set_up; number = c.in-Ok.ensures.first })
+          absent refl refl,
+    )
 
-pub returns : goal.returns
+pub returns-clause-ran : goal.returns-clause-ran
 unfolding script_limit
-returns g c = record {
-  ran = λ named.
-      let short : length c.args.script.now ≤ script_limit = grind (arith, nat_tests, c.if-script.false) in
-      let inputs = c.in-Ok.inputs in
-      let there : is_there c.args.only (length c.read_setup.new.setup.motes) ≡ true = search rules in
-      let ran = c.run_setup.ensures.ran named in (
-        ran.0,
-        ran.1,
-        runs inputs.first (script_lines inputs.script.now) c.read_setup.new.setup
-            (record { short = short; lines = rw c.new-setup.ensures at c.in-Ok.ensures.set_up; number = c.in-Ok.ensures.first })
-            there c.run_setup.ensures.booted ran.2,
-      );
-}
+returns-clause-ran g c = λ named.
+    let short : length c.args.script.now ≤ script_limit = grind (arith, nat_tests, c.if-script.false) in
+    let inputs = c.in-Ok.inputs in
+    let there : is_there c.args.only (length c.read_setup.new.setup.motes) ≡ true = search rules in
+    let ran = c.run_setup.ensures.ran named in (
+      ran.0,
+      ran.1,
+      runs inputs.first (script_lines inputs.script.now) c.read_setup.new.setup
+          (record { short = short; lines = rw c.new-setup.ensures at c.in-Ok.ensures.set_up; number = c.in-Ok.ensures.first })
+          there c.run_setup.ensures.booted ran.2,
+    )

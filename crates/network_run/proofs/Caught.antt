@@ -1,0 +1,186 @@
+-- A mote that got the time has it until the network rests.
+use Rattle.std.proofs.Common.{◌≡◌, ℕ, ◌+◌, ◌<◌, ◌≤◌, ◌==◌, ◌||◌, List, [], ◌∷◌, length, set, slice_get, refl, ap, sym, subst, ◌∙◌, arith, Bool, true, false, Option, Some, None, IsSomeAnd, nat_lt, if◌then◌else◌, Result, Ok, Err, IfOk}
+use Rattle.std.proofs.lemmas.Bool.Decides.{nat_tests}
+use Rattle.alarm_core.specs.Alarms.{first_come}
+use Rattle.kernel_core.specs.Machine.{Machine}
+use Rattle.medium_core.specs.Air.{arrival}
+use Rattle.medium_core.specs.declared.flight.Flight.{Flight}
+use Rattle.mote_session.specs.SessionView.{SessionView}
+use Rattle.mote_session.specs.declared.session.Next.{Next}
+use Rattle.mote_types.specs.declared.entry.Input.{Input}
+use Rattle.network_session.specs.Network.{NetworkView, wakes_of}
+use Rattle.network_session.specs.Schedule.{arriving, due_now, due_step, hearing, is_rest, waking}
+use Rattle.network_session.specs.Steps.{IsToldTime, Worked}
+use Rattle.network_session.specs.Waking.{due_ticks}
+use Rattle.network_session.specs.declared.outcome.Outcome.{Outcome}
+use Rattle.network_session.proofs.Due.{due_is}
+use Rattle.network_session.proofs.Timely.{fed_clock, landed_clock, none_at_work}
+use Rattle.network_run.specs.Code.Ready.{IsCaught, IsOnTime, IsReady, was_behind}
+use Rattle.network_run.specs.Code.Way.{Goes, Place}
+use Rattle.network_run.specs.Outside.{all_outside, was_halted}
+use Rattle.network_run.specs.declared.fault.RunFault.{RunFault}
+use Rattle.network_run.proofs.Ready.{aired_clock, each_with, move_ready}
+use Rattle.network_text.specs.NetworkRuns.{DoesStep, Leads, Move, TellsTime}
+
+-- ---- time is up at rest, and doesn't go on
+
+hearing_goes : (clock : ℕ) (f : Flight) (o : Option SessionView) → (hearing clock f o ≡ Outcome.Rest → ⊥) × (hearing clock f o ≡ Outcome.Passed → ⊥)
+hearing_goes clock f None = (λ e. absurd (cc), λ e. absurd (cc))
+hearing_goes clock f (Some mote) = by_tests (mote.machine.is_halted || length f.bytes.items == 0) (nat_lt mote.machine.clock clock)
+  where
+    by_tests : (a b : Bool) → ((if a then Outcome.Missed f.from f.to else if b then Outcome.Woken f.to else Outcome.Heard f.to) ≡ Outcome.Rest → ⊥)
+        × ((if a then Outcome.Missed f.from f.to else if b then Outcome.Woken f.to else Outcome.Heard f.to) ≡ Outcome.Passed → ⊥)
+    by_tests true b = (λ e. absurd (cc), λ e. absurd (cc))
+    by_tests false true = (λ e. absurd (cc), λ e. absurd (cc))
+    by_tests false false = (λ e. absurd (cc), λ e. absurd (cc))
+
+rest_by : (net : NetworkView) (o : Option Flight) → arriving net o ≡ Outcome.Rest → net.target ≤ net.air.clock
+rest_by net (Some f) h = absurd ((hearing_goes net.air.clock f (slice_get net.motes f.to)).0 h)
+rest_by net None h = by_test (nat_lt net.air.clock net.target) refl h
+  where
+    by_test : (b : Bool) → nat_lt net.air.clock net.target ≡ b → (if b then Outcome.Passed else Outcome.Rest) ≡ Outcome.Rest → net.target ≤ net.air.clock
+    by_test true e h = absurd (cc)
+    by_test false e h = grind (arith, nat_tests)
+
+rest_now : (net : NetworkView) (o : Option ℕ) → waking net o ≡ Outcome.Rest → net.target ≤ net.air.clock
+rest_now net None h = rest_by net (arrival net.air) h
+rest_now net (Some m) h = absurd (cc)
+
+is_rest_then : (x : Outcome) → is_rest x ≡ true → x ≡ Outcome.Rest
+is_rest_then Outcome.Rest h = refl
+is_rest_then Outcome.Passed h = absurd (cc)
+is_rest_then (Outcome.Missed from to) h = absurd (cc)
+is_rest_then Outcome.Exhausted h = absurd (cc)
+is_rest_then (Outcome.Started m) h = absurd (cc)
+is_rest_then (Outcome.Turn m) h = absurd (cc)
+is_rest_then (Outcome.Made m) h = absurd (cc)
+is_rest_then (Outcome.Rested m) h = absurd (cc)
+is_rest_then (Outcome.Stopped m) h = absurd (cc)
+is_rest_then (Outcome.Woken m) h = absurd (cc)
+is_rest_then (Outcome.Heard m) h = absurd (cc)
+
+pub rest_time : (net : NetworkView) → due_step net ≡ Outcome.Rest → net.target ≤ net.air.clock
+rest_time net h = by_tests (nat_lt net.started (length net.motes)) (net.rounds == 0) (is_rest (due_now net)) refl h
+  where
+    by_tests : (s r t : Bool) → is_rest (due_now net) ≡ t →
+        (if s then Outcome.Started net.started else if r then (if t then Outcome.Rest else Outcome.Exhausted) else due_now net) ≡ Outcome.Rest → net.target ≤ net.air.clock
+    by_tests true r t e h = absurd (cc)
+    by_tests false true true e h = rest_now net (first_come net.air.clock (wakes_of net.motes)) (is_rest_then (due_now net) e)
+    by_tests false true false e h = absurd (cc)
+    by_tests false false t e h = rest_now net (first_come net.air.clock (wakes_of net.motes)) h
+
+passed_by : (net : NetworkView) (o : Option Flight) → Outcome.Passed ≡ arriving net o → net.air.clock < net.target
+passed_by net (Some f) h = absurd ((hearing_goes net.air.clock f (slice_get net.motes f.to)).1 (sym h))
+passed_by net None h = by_test (nat_lt net.air.clock net.target) refl h
+  where
+    by_test : (b : Bool) → nat_lt net.air.clock net.target ≡ b → Outcome.Passed ≡ (if b then Outcome.Passed else Outcome.Rest) → net.air.clock < net.target
+    by_test true e h = grind (arith, nat_tests)
+    by_test false e h = absurd (cc)
+
+passed_now : (net : NetworkView) (o : Option ℕ) → Outcome.Passed ≡ waking net o → net.air.clock < net.target
+passed_now net None h = passed_by net (arrival net.air) h
+passed_now net (Some m) h = absurd (cc)
+
+passed_time : (net : NetworkView) → Outcome.Passed ≡ due_step net → net.air.clock < net.target
+passed_time net h = passed_now net (first_come net.air.clock (wakes_of net.motes)) (due_is net Outcome.Passed refl h).due
+
+-- ---- mote m keeps the time
+
+module _ (m : ℕ) (old new : NetworkView) (caught : IsCaught m old) where
+  caught_with : (k : ℕ) (before after : SessionView) → slice_get old.motes k ≡ Some before → new.motes ≡ set old.motes k after →
+      new.air.clock ≡ old.air.clock → new.target ≡ old.target → (before.machine.clock ≡ old.air.clock → after.machine.clock ≡ old.air.clock) → IsCaught m new
+  caught_with k before after there is clock target own = record {
+    up = omega (arith, clock, target, caught.up);
+    on_time = λ mote here. each_with (λ (i : ℕ) (one : SessionView). i ≡ m → one.machine.clock ≡ new.air.clock) old.motes new.motes k before after there is
+        (λ same. own (caught.on_time before (ap (slice_get old.motes) (sym same) ∙ there)) ∙ sym clock)
+        (λ i one other here same. caught.on_time one (ap (slice_get old.motes) (sym same) ∙ here) ∙ sym clock)
+        m mote here refl;
+  }
+
+  caught_same : new.motes ≡ old.motes → new.air.clock ≡ old.air.clock → new.target ≡ old.target → IsCaught m new
+  caught_same motes clock target = record {
+    up = omega (arith, clock, target, caught.up);
+    on_time = λ mote here. caught.on_time mote (ap (λ (l : List SessionView). slice_get l m) (sym motes) ∙ here) ∙ sym clock;
+  }
+
+  caught_worked : (next : Next) (k : ℕ) → Worked k next old new → IsCaught m new
+  caught_worked next k w =
+      let h = w.worked in
+      caught_with k h.before h.after h.mote h.others (ap (λ (v : NetworkView). v.air.clock) w.result ∙ aired_clock k next h.after old.air)
+      (ap (λ (v : NetworkView). v.target) w.result) (λ same. h.same.1 ∙ same)
+
+  caught_told : (k : ℕ) → IsToldTime k old new → IsCaught m new
+  caught_told k s =
+      let h = s.told in
+      let clock : h.after.machine.clock ≡ h.before.machine.clock + due_ticks old.air.clock h.before.machine.clock =
+      ap (λ (x : Machine). x.clock) h.fed.machine ∙ fed_clock (Input.Tick (due_ticks old.air.clock h.before.machine.clock)) h.before.machine in
+      caught_with k h.before h.after h.mote h.others (ap (λ (v : NetworkView). v.air.clock) s.result) (ap (λ (v : NetworkView). v.target) s.result)
+      (λ same. omega (arith, clock, same))
+
+step_caught : (m : ℕ) (x : Outcome) (old new : NetworkView) → IsCaught m old → DoesStep x old new → IsCaught m new
+step_caught m (Outcome.Started k) old new caught does = rw does.steps (record { up = caught.up; on_time = caught.on_time })
+step_caught m (Outcome.Turn k) old new caught does = caught_worked m old new caught Next.Turn k does.steps
+step_caught m (Outcome.Made k) old new caught does = caught_worked m old new caught Next.Entry k does.steps
+step_caught m (Outcome.Rested k) old new caught does = caught_worked m old new caught Next.Rest k does.steps
+step_caught m (Outcome.Stopped k) old new caught does = caught_worked m old new caught Next.Halted k does.steps
+step_caught m (Outcome.Woken k) old new caught does = caught_told m old new caught k does.steps
+step_caught m (Outcome.Heard k) old new caught does =
+    let s = does.steps in
+    let h = s.handed in
+    let clock : h.after.machine.clock ≡ h.before.machine.clock + 0 = ap (λ (x : Machine). x.clock) h.fed.machine ∙ fed_clock (Input.Frame s.flight.bytes) h.before.machine in
+    caught_with m old new caught k h.before h.after h.mote h.others (ap (λ (v : NetworkView). v.air.clock) s.result ∙ landed_clock (arrival old.air) old.air)
+    (ap (λ (v : NetworkView). v.target) s.result) (λ same. omega (arith, clock, same))
+step_caught m (Outcome.Missed from to) old new caught does =
+    let s = does.steps in
+    caught_same m old new caught (ap (λ (v : NetworkView). v.motes) s) (ap (λ (v : NetworkView). v.air.clock) s ∙ landed_clock (arrival old.air) old.air)
+    (ap (λ (v : NetworkView). v.target) s)
+step_caught m Outcome.Passed old new caught does =
+    let less = passed_time old (does.due (none_at_work old.active does.work)) in absurd (omega (arith, less, caught.up))
+step_caught m Outcome.Rest old new caught does = rw does.steps caught
+step_caught m Outcome.Exhausted old new caught does = rw does.steps caught
+
+pub leads_caught : (m : ℕ) (moves : List Move) (old new : NetworkView) → IsCaught m old → all_outside moves ≡ [] → Leads old moves new → IsCaught m new
+leads_caught m [] old new caught own leads = subst (IsCaught m) leads caught
+leads_caught m (Move.Step x mid ∷ moves) old new caught own leads = leads_caught m moves mid new (step_caught m x old mid caught leads.0) own leads.1
+leads_caught m (Move.Submit call mid ∷ moves) old new caught own leads =
+    let s = leads.0 in
+    let h = s.submitted in
+    leads_caught m moves mid new
+    (caught_with m old mid caught s.m h.before h.after h.mote h.others (ap (λ (v : NetworkView). v.air.clock) s.result) (ap (λ (v : NetworkView). v.target) s.result)
+    (λ same. h.same.1 ∙ same)) own leads.1
+leads_caught m (Move.Tick ticks mid ∷ moves) old new caught own leads = absurd (cc)
+leads_caught m (Move.Tell k mid ∷ moves) old new caught own leads = absurd (cc)
+leads_caught m (Move.Hand k input mid ∷ moves) old new caught own leads = absurd (cc)
+leads_caught m (Move.Miss k input mid ∷ moves) old new caught own leads = absurd (cc)
+
+-- a mote that just got the time
+pub told_caught : (m : ℕ) (old new : NetworkView) → IsReady old → TellsTime m old new → IsCaught m new
+told_caught m old new ready tells =
+    let result = tells.told.result in
+    let clock : new.air.clock ≡ old.air.clock = ap (λ (v : NetworkView). v.air.clock) result in
+    let target : new.target ≡ old.target = ap (λ (v : NetworkView). v.target) result in
+    let active : new.active ≡ Some m = ap (λ (v : NetworkView). v.active) result in
+    let before = rest_time old tells.rested.due in
+    let after = move_ready (Move.Tell m new) old ready tells in
+    record { up = omega (arith, clock, target, before); on_time = λ mote there. (after.time m mote there).at_work active }
+
+-- ---- and then it isn't behind
+
+caught_on_time : (m : ℕ) (net : NetworkView) → IsCaught m net → IsOnTime m net
+caught_on_time m net caught mote there up = let same = caught.on_time mote there in grind (arith, nat_tests)
+
+pub caught_after : (result : Result Bool RunFault) (quiet : Bool) (m : ℕ) (from to : Place) → IsCaught m from.net → Goes result quiet [] from to →
+    IfOk result (λ rests. rests ≡ true → IsOnTime m to.net)
+caught_after (Ok rests) quiet m from to caught went = λ yes. caught_on_time m to.net (leads_caught m went.moves from.net to.net caught went.carried went.leads)
+caught_after (Err fault) quiet m from to caught faulted = tt
+
+pub halted_on_time : (m : ℕ) (net : NetworkView) → was_halted (slice_get net.motes m) ≡ true → IsOnTime m net
+halted_on_time m net halted mote there up = let down : mote.machine.is_halted ≡ true = rw there at halted in absurd (cc)
+
+pub not_behind_on_time : (m : ℕ) (net : NetworkView) → was_behind (slice_get net.motes m) net.air.clock ≡ false → IsOnTime m net
+not_behind_on_time m net behind mote there up = rw there at behind
+
+pub untold_on_time : (m : ℕ) (old new : NetworkView) (told : Bool) → new ≡ old → told ≡ false →
+    IsSomeAnd (slice_get old.motes m) (λ (mote : SessionView). told ≡ nat_lt mote.machine.clock old.air.clock) → IsOnTime m new
+untold_on_time m old new told same untold behind =
+    rw same (λ mote there up. let late : told ≡ nat_lt mote.machine.clock old.air.clock = rw there at behind in sym late ∙ untold)
