@@ -205,8 +205,8 @@ settle(struct process *owner, unsigned slot)
   }
 }
 
-/* The same before the timer changes. An owner that awaits a reply is asked later, and stops the timer then: until it replies, the event counts as one in
- * the queue. */
+/* The same before the timer changes. An owner that awaits a reply is asked later, and stops the timer then: until it replies, the event
+ * counts as one in the queue. */
 static void
 settle_for_change(struct process *owner, unsigned slot)
 {
@@ -372,8 +372,8 @@ etimer_stop(struct etimer *et)
 
 /*
  * By the flag in the struct, as in Contiki-NG. It is cleared when the event is received; before that the mote is asked by
- * `timer-expired`, if the timer may have run out. An owner that awaits a reply isn't asked: the timer ran out if it was due in a round before. If the
- * timer's process has ended, the flag is unchanged.
+ * `timer-expired`, if the timer may have run out. An owner that awaits a reply isn't asked: the timer ran out if it was due in a round
+ * before. If the timer's process has ended, the flag is unchanged.
  */
 bool
 etimer_expired(struct etimer *et)
