@@ -311,7 +311,7 @@ def test_calls_on_the_page(environments: test_python.Environments, browser: Brow
     opened = browser.open(page.as_uri(), 400, 300, False)
     opened.wait_for("typeof isWholePage !== 'undefined'")
     by_page = opened.ask(f"return {json.dumps(texts)}.map((text) => {{ try {{ return readCall(text).text; }} catch (error) {{"
-                      " if (error instanceof BadCall) return null; throw error; } });")
+                         " if (error instanceof BadCall) return null; throw error; } });")
     opened.close()
     read = read_in_python(environments("environment"), "call", texts)
     found = differences(texts, ("Python", [text or "refused" for text in read]), ("the page", [text or "refused" for text in by_page]))

@@ -248,14 +248,14 @@ def told_line_by_line(folder, begin, *words):
     return process, lines
 
 
-@pytest.mark.parametrize("words, first", [(("--jobs", "1"), 1), (("--jobs", "2"), 1), (("--jobs", "1", "--dask", "local"), 0)],
+@pytest.mark.parametrize("words", [("--jobs", "1"), ("--jobs", "2"), ("--jobs", "1", "--dask", "local")],
                          ids=["here", "processes", "dask"])
-def test_progress_is_told_within_a_seed(tmp_path, words, first):
-    """The second case waits until that of the first is told; of Dask's workers only seeds are counted."""
+def test_progress_is_told_within_a_seed(tmp_path, words):
+    """The second case waits until the run of the first is reported."""
     if "--dask" in words:
         pytest.importorskip("distributed")
     (tmp_path / "waiting.py").write_text(WAITING)
-    begin = f"0 of 1 seeds, {first} of 2 runs, 0 faults, "
+    begin = "0 of 1 seeds, 1 of 2 runs, 0 faults, "
     process, lines = told_line_by_line(tmp_path, begin, "waiting.py:Target", "--seeds", "0:1", "--count", "2", *words)
     assert process.returncode == 0 and (tmp_path / "told").exists(), lines
     assert lines[-2].startswith("1 of 1 seeds, 2 of 2 runs, 0 faults, ") and "left" not in lines[-2]
