@@ -126,6 +126,80 @@ def test_event_from_before_a_start(contiki: Contiki, tmp_path: Path) -> None:
     assert calls[start:] == ["timer-set 0 0", "wait", "timer-expired 0", "wait", "wait"], told(ran)
 
 
+ENDED = """#include "contiki.h"
+PROCESS(first, "First");
+PROCESS(second, "Second");
+AUTOSTART_PROCESSES(&first, &second);
+static struct etimer own[20], other;
+static int starts, i;
+PROCESS_THREAD(first, ev, data)
+{
+  PROCESS_BEGIN();
+  etimer_set(&own[starts++], 5);
+  while(1) {
+    PROCESS_WAIT_EVENT();
+  }
+  PROCESS_END();
+}
+PROCESS_THREAD(second, ev, data)
+{
+  PROCESS_BEGIN();
+  for(i = 0; i < 19; i++) {
+    etimer_set(&other, 5);
+    PROCESS_WAIT_EVENT_UNTIL(etimer_expired(&other));
+    printf("%d", etimer_expired(&own[i]));
+    process_exit(&first);
+    etimer_set(&other, 1);
+    PROCESS_WAIT_EVENT_UNTIL(etimer_expired(&other));
+    process_start(&first, NULL);
+  }
+  printf("\\n%d starts\\n", starts);
+  PROCESS_END();
+}
+"""
+
+
+def test_events_of_ended_processes(contiki: Contiki, tmp_path: Path) -> None:
+    """A timer's event that waits where its process ends reaches nobody: after a new start no slot of the mote is held for it."""
+    ran = contiki("--text", write_source(tmp_path, ENDED), stdin=b"tick 1\n" * 120)
+    assert outcome(ran) == (0, "1" * 19 + "\n20 starts\n", "")
+
+
+STAYING = """#include "contiki.h"
+PROCESS(only, "Only");
+AUTOSTART_PROCESSES(&only);
+static struct etimer own[20];
+static struct ctimer again;
+static int starts;
+static void
+start_again(void *ptr)
+{
+  process_start(ptr, NULL);
+}
+PROCESS_THREAD(only, ev, data)
+{
+  PROCESS_BEGIN();
+  process_post(&only, 150, NULL);
+  etimer_set(&own[starts++], 0);
+  PROCESS_WAIT_EVENT_UNTIL(ev == 150);
+  printf("%d", etimer_expired(&own[starts - 1]));
+  if(starts < 20) {
+    ctimer_set(&again, AFTER, start_again, &only);
+  } else {
+    printf("\\n");
+  }
+  PROCESS_END();
+}
+"""
+
+
+@pytest.mark.parametrize("after", [0, 1], ids=["at once", "later"])
+def test_events_of_a_process_that_stays(contiki: Contiki, tmp_path: Path, after: int) -> None:
+    """The same where the last process has ended, and stays in the mote for a callback timer that starts it again."""
+    ran = contiki("--text", f"-DAFTER={after}", write_source(tmp_path, STAYING), stdin=b"tick 1\n" * 30)
+    assert outcome(ran) == (0, "1" * 20 + "\n", "")
+
+
 ENERGEST = """ENERGEST_ON(ENERGEST_TYPE_LISTEN);
   energest_type_set(ENERGEST_TYPE_TRANSMIT, (uint64_t)1000 * ENERGEST_SECOND / CLOCK_SECOND);
   PROCESS_WAIT_EVENT();
