@@ -422,8 +422,8 @@ def _by_dask(work: _Work, seeds: range, address: str, jobs: int, progress: _Prog
     except (OSError, ValueError) as fault:
         raise CampaignError(f"--dask {address}: no scheduler is reached there: {fault}") from None
     runs = _RunsOfWorkers()
+    client.subscribe_topic(runs.topic, runs.note)
     try:
-        client.subscribe_topic(runs.topic, runs.note)
         futures = distributed.as_completed(client.map(_WorkOfDask(work, runs.topic), seeds, pure=False))
         while not futures.is_empty():
             progress.runs = max(progress.runs, runs.count())
@@ -433,6 +433,7 @@ def _by_dask(work: _Work, seeds: range, address: str, jobs: int, progress: _Prog
                 continue
             yield _result_of(next(futures), address)
     finally:
+        client.unsubscribe_topic(runs.topic)
         client.close()
         if cluster is not None:
             cluster.close()
@@ -441,7 +442,8 @@ def _by_dask(work: _Work, seeds: range, address: str, jobs: int, progress: _Prog
 def _local_cluster(distributed: Any, jobs: int) -> Any:
     """Workers of Dask on this machine. They log nothing: what fails is raised here, and an interrupt ends them amid their work."""
     with _ignoring_interrupts():
-        return distributed.LocalCluster(n_workers=jobs, threads_per_worker=1, dashboard_address=None, silence_logs=logging.CRITICAL)
+        return distributed.LocalCluster(n_workers=jobs, threads_per_worker=1, dashboard_address=None,
+                                        silence_logs=logging.CRITICAL + 1)
 
 
 def _result_of(future: Any, address: str) -> Unit:
