@@ -98,8 +98,9 @@ def task_of_editor(file: Path) -> tuple[str, Path]:
     """The command that VS Code runs for an open file, and where."""
     task, = json.loads((ROOT / ".vscode/tasks.json").read_text(encoding="utf-8"))["tasks"]
     values = {"file": file, "fileDirname": file.parent, "fileBasenameNoExtension": file.stem, "workspaceFolder": ROOT}
-    texts = (task["command"], task["options"]["cwd"])
-    command, folder = (re.sub(r"\$\{(\w+)\}", lambda found: str(values[found[1]]), text) for text in texts)
+    command, folder = str(task["command"]), str(task["options"]["cwd"])
+    for name, value in values.items():
+        command, folder = (text.replace(f"${{{name}}}", str(value)) for text in (command, folder))
     return command, Path(folder)
 
 
