@@ -200,6 +200,35 @@ def test_events_of_a_process_that_stays(contiki: Contiki, tmp_path: Path, after:
     assert outcome(ran) == (0, "1" * 20 + "\n", "")
 
 
+ADDRESSES = {
+    "::": "::", "::1": "::1", "1::": "1::", "0:0:0:0:0:0:0:0": "::", "fe80::00Ab": "fe80::ab", "1:2:3:4:5:6:7:8": "1:2:3:4:5:6:7:8",
+    # One zero alone is written, and of two runs the first one is left out.
+    "1:0:3:4:5:6:7:8": "1:0:3:4:5:6:7:8", "1:0:3:0:0:6:0:0": "1:0:3::6:0:0", "1:2:3:4:5:6:0:0": "1:2:3:4:5:6::", "1:2:3:4:5:6:7::":
+    "1:2:3:4:5:6:7:0", "::2:3:4:5:6:7:8": "0:2:3:4:5:6:7:8", "ffff:ffff:ffff:ffff:ffff:ffff:ffff:ffff":
+    "ffff:ffff:ffff:ffff:ffff:ffff:ffff:ffff",
+}
+NO_ADDRESSES = ["", ":", "1", "1:2:3:4:5:6:7", "1:2:3:4:5:6:7:8:9", "1:2:3:4:5:6:7:8:", ":1:2:3:4:5:6:7:8", "1::2:", ":1::2", "1::2::3",
+                "1:::2", ":::", "1:2:3:4::5:6:7:8", "::12345", "::00001", "::g", "::1 ", " ::1"]
+
+
+def test_texts_of_addresses(contiki: Contiki, tmp_path: Path) -> None:
+    """IPv6 addresses are read, and written with two zeros or more as ::; what is no address is refused, and a buffer is never overrun."""
+    texts = ", ".join(f'"{text}"' for text in [*ADDRESSES, *NO_ADDRESSES])
+    source = write_source(tmp_path, program_of("""for(i = 0; i < sizeof texts / sizeof texts[0]; i++) {
+    uip_ipaddr_t address;
+    if(!uiplib_ipaddrconv(texts[i], &address)) {
+      printf("none\\n");
+    } else {
+      char text[4];
+      int length = uiplib_ipaddr_snprint(text, sizeof text, &address);
+      uiplib_ipaddr_print(&address);
+      printf(" %d %s\\n", length, text);
+    }
+  }""", f'#include "net/ipv6/uiplib.h"\nstatic unsigned i; static const char *const texts[] = {{{texts}}};'))
+    wanted = [f"{text} {len(text)} {text[:3]}" for text in ADDRESSES.values()] + ["none"] * len(NO_ADDRESSES)
+    assert outcome(contiki("--text", "--sanitize", source)) == (0, "".join(f"{line}\n" for line in wanted), "")
+
+
 ENERGEST = """ENERGEST_ON(ENERGEST_TYPE_LISTEN);
   energest_type_set(ENERGEST_TYPE_TRANSMIT, (uint64_t)1000 * ENERGEST_SECOND / CLOCK_SECOND);
   PROCESS_WAIT_EVENT();
