@@ -229,6 +229,47 @@ def test_texts_of_addresses(contiki: Contiki, tmp_path: Path) -> None:
     assert outcome(contiki("--text", "--sanitize", source)) == (0, "".join(f"{line}\n" for line in wanted), "")
 
 
+SENSOR = """#include "lib/sensors.h"
+static int value(int type) { return type; }
+static int configure(int type, int to) { return type == to; }
+SENSORS_SENSOR(level, "Level", value, configure, value);
+SENSORS(&level);
+static process_event_t first;"""
+
+
+def test_sensor_that_changes_twice(contiki: Contiki, tmp_path: Path) -> None:
+    """All changes have one event, which is allocated at the first of them."""
+    source = write_source(tmp_path, program_of("""printf("%d\\n", sensors_event == PROCESS_EVENT_NONE);
+  sensors_changed(&level);
+  first = sensors_event;
+  PROCESS_WAIT_EVENT_UNTIL(ev == first && data == &level);
+  sensors_changed(&level);
+  PROCESS_WAIT_EVENT_UNTIL(ev == first && data == &level);
+  printf("%d\\n", sensors_event == first);""", SENSOR))
+    assert outcome(contiki("--text", source)) == (0, "1\n1\n", "")
+
+
+COMMANDS = """#include "services/shell/shell.h"
+static PT_THREAD(greet(struct pt *pt, shell_output_func output, char *args))
+{
+  PT_BEGIN(pt);
+  SHELL_OUTPUT(output, "hello %s\\n", args);
+  PT_END(pt);
+}
+static const struct shell_command_t commands[] = {{"greet", greet, "greets"}, {NULL, NULL, NULL}};
+static struct shell_command_set_t set = {NULL, commands};"""
+
+
+def test_commands_that_are_registered_twice(contiki: Contiki, tmp_path: Path) -> None:
+    """A set of the shell's commands is in the list once, and can be removed once."""
+    source = write_source(tmp_path, program_of("""shell_command_set_register(&set);
+  shell_command_set_register(&set);
+  printf("%d %d\\n", shell_command_lookup("greet") == commands, shell_command_lookup("none") == NULL);
+  printf("%d ", shell_command_set_deregister(&set));
+  printf("%d %d\\n", shell_command_set_deregister(&set), shell_command_lookup("greet") == NULL);""", COMMANDS))
+    assert outcome(contiki("--text", source)) == (0, "1 1\n0 1 1\n", "")
+
+
 ENERGEST = """ENERGEST_ON(ENERGEST_TYPE_LISTEN);
   energest_type_set(ENERGEST_TYPE_TRANSMIT, (uint64_t)1000 * ENERGEST_SECOND / CLOCK_SECOND);
   PROCESS_WAIT_EVENT();
