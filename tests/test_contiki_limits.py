@@ -200,6 +200,18 @@ def test_events_of_a_process_that_stays(contiki: Contiki, tmp_path: Path, after:
     assert outcome(ran) == (0, "1" * 20 + "\n", "")
 
 
+def test_gap_of_the_shared_block(contiki: Contiki, tmp_path: Path) -> None:
+    """Parts of a process's last block have 16 bytes between them. After three of 16 bytes the middle one is freed: 20 bytes don't
+    fit there, 16 do."""
+    source = write_source(tmp_path, program_of("""for(i = 0; i < 15; i++) { heapmem_alloc(4); }
+  for(i = 0; i < 3; i++) { parts[i] = heapmem_alloc(16); }
+  heapmem_free(parts[1]);
+  heapmem_alloc(20);
+  heapmem_alloc(16);""", "static int i; static void *parts[3];"))
+    calls = re.findall(r"-> (heap-\w+ 15 \d+)$", contiki(source).stdout.decode(), re.M)
+    assert calls == ["heap-alloc 15 16", "heap-realloc 15 48", "heap-realloc 15 80", "heap-realloc 15 116"]
+
+
 ADDRESSES = {
     "::": "::", "::1": "::1", "1::": "1::", "0:0:0:0:0:0:0:0": "::", "fe80::00Ab": "fe80::ab", "1:2:3:4:5:6:7:8": "1:2:3:4:5:6:7:8",
     # One zero alone is written, and of two runs the first one is left out.
