@@ -723,6 +723,12 @@ def test_packets():
     assert data[24 + 12 * 17:24 + 13 * 17] == struct.pack("<4I", 1, 15_625_000, 1, 1) + b"b"
 
 
+def test_the_last_second_of_packets():
+    assert packets([Frame(2**32 - 1, 1, b"a")], 1)[24:32] == b"\xff\xff\xff\xff\0\0\0\0"
+    with pytest.raises(BadInput, match="^clock 4294967296 is beyond what a file of packets can have$"):
+        packets([Frame(2**32, 1, b"a")], 1)
+
+
 def test_a_file_of_packets(tmp_path):
     network = Network(["relay", "relay"]).link(1, 2, delay=64)
     # A data frame of IEEE 802.15.4 with short addresses: frame control, sequence number, PAN, to, from, payload.
