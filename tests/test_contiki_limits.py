@@ -200,6 +200,20 @@ def test_events_of_a_process_that_stays(contiki: Contiki, tmp_path: Path, after:
     assert outcome(ran) == (0, "1" * 20 + "\n", "")
 
 
+CALLED = 'static int i; static struct ctimer timers[6]; static void called(void *text) { printf("%s\\n", (char *)text); }'
+
+
+@pytest.mark.parametrize("others", [0, 3], ids=["in the mote", "waiting"])
+def test_callbacks_of_one_end(contiki: Contiki, tmp_path: Path, others: int) -> None:
+    """Of callback timers that end at once the one that was set last is first: in the mote, and where they wait for a slot of it."""
+    source = write_source(tmp_path, program_of(f"""for(i = 0; i < {others}; i++) {{ ctimer_set(&timers[i], 100, called, NULL); }}
+  ctimer_set(&timers[3], 5, called, "first");
+  ctimer_set(&timers[4], 10, called, "second");
+  ctimer_set(&timers[5], 10, called, "third");
+  PROCESS_WAIT_EVENT();""", CALLED))
+    assert outcome(contiki("--text", source, stdin=b"tick 5\ntick 5\n")) == (0, "first\nthird\nsecond\n", "")
+
+
 def test_gap_of_the_shared_block(contiki: Contiki, tmp_path: Path) -> None:
     """Parts of a process's last block have 16 bytes between them. After three of 16 bytes the middle one is freed: 20 bytes don't
     fit there, 16 do."""
