@@ -255,6 +255,13 @@ def test_a_network_goes_on_until_something_holds():
     assert network.clock == 25
 
 
+def test_a_halted_mote_is_not_waited_for():
+    """Its timer never runs out: the clock goes on to the timer of the other mote."""
+    network = Network([[[TimerSet(0, 7), Wait()], "clock-watcher"], [[TimerSet(0, 20), Wait()]]])
+    network.until(lambda network: network.clock > 0, most=100)
+    assert network.mote(1).halted and network.clock == 20
+
+
 def test_an_application_that_raises():
     def raises():
         yield PacketOpen()
