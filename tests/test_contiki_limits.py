@@ -200,6 +200,36 @@ def test_events_of_a_process_that_stays(contiki: Contiki, tmp_path: Path, after:
     assert outcome(ran) == (0, "1" * 20 + "\n", "")
 
 
+HEIR = """#include "contiki.h"
+PROCESS(heir, "Heir");
+PROCESS(owner, "Owner");
+AUTOSTART_PROCESSES(&heir, &owner);
+static struct ctimer timer;
+static void called(void *ptr) { printf("called\\n"); }
+PROCESS_THREAD(heir, ev, data)
+{
+  PROCESS_BEGIN();
+  PROCESS_WAIT_EVENT_UNTIL(ev == PROCESS_EVENT_EXITED);
+  printf("%d\\n", ctimer_expired(&timer));
+  PROCESS_WAIT_EVENT();
+  PROCESS_END();
+}
+PROCESS_THREAD(owner, ev, data)
+{
+  PROCESS_BEGIN();
+  PROCESS_WAIT_EVENT_UNTIL(ev == serial_line_event_message);
+  ctimer_set(&timer, 0, called, NULL);
+  PROCESS_END();
+}
+"""
+
+
+def test_callback_of_another_process(contiki: Contiki, tmp_path: Path) -> None:
+    """A callback timer that is due, and that another process has since its own has ended, runs out in the next round, not before."""
+    ran = contiki("--text", write_source(tmp_path, HEIR), stdin=b"serial 610a\n")
+    assert outcome(ran) == (0, "0\ncalled\n", "")
+
+
 CALLED = 'static int i; static struct ctimer timers[6]; static void called(void *text) { printf("%s\\n", (char *)text); }'
 
 
