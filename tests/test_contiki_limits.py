@@ -200,6 +200,13 @@ def test_events_of_a_process_that_stays(contiki: Contiki, tmp_path: Path, after:
     assert outcome(ran) == (0, "1" * 20 + "\n", "")
 
 
+@pytest.mark.parametrize("call", ["leds_on", "leds_toggle", "leds_set"])
+def test_leds_that_are_not_there(contiki: Contiki, tmp_path: Path, call: str) -> None:
+    statement = f'{call}((leds_mask_t)~0u); printf("%d\\n", leds_get() == LEDS_ALL);'
+    source = write_source(tmp_path, program_of(statement, '#include "dev/leds.h"'))
+    assert outcome(contiki("--text", source)) == (0, "1\n", "")
+
+
 HEIR = """#include "contiki.h"
 PROCESS(heir, "Heir");
 PROCESS(owner, "Owner");
