@@ -261,6 +261,16 @@ def test_progress_is_told_within_a_seed(tmp_path, words):
     assert lines[-2].startswith("1 of 1 seeds, 2 of 2 runs, 0 faults, ") and "left" not in lines[-2]
 
 
+def test_the_file_of_a_fault():
+    """The shortest that `./scenario` runs, or else the shortest; of equal ones that of the first seed."""
+    def unit(seed, text, is_scenario):
+        return campaigns.Unit(seed, found={"wrong": campaigns.Found("wrong", seed, text, is_scenario)})
+
+    units = [unit(0, "a", False), unit(1, "abcd", True), unit(2, "abc", True), unit(3, "abd", True)]
+    assert [(found.text, seeds) for found, seeds in campaigns.smallest(units)] == [("abc", 4)]
+    assert [(found.text, seeds) for found, seeds in campaigns.smallest([unit(0, "ab", False), unit(1, "b", False)])] == [("b", 2)]
+
+
 DYING = """import os
 import pathlib
 import time
