@@ -143,8 +143,8 @@ ALL_TAKE = "all proofs, 4 at a time, and all tests take about 37 minutes with 4 
 @pytest.mark.parametrize(("words", "load", "printed"), [
     ([], 0, f"{ALL_TAKE}; what this kit proved before isn't proved again"),
     ([], 4, f"{ALL_TAKE}, and about 74 while the machine is as busy as now; what this kit proved before isn't proved again"),
-    (["--quick"], 0, "this takes about 4 minutes with 4 processors"), (["first"], 0, ""),
-    (["--quick", "-x"], 1, "this takes about 4 minutes with 4 processors"),
+    (["--quick"], 0, "this takes about 3 minutes with 4 processors"), (["first"], 0, ""),
+    (["--quick", "-x"], 1, "this takes about 3 minutes with 4 processors"),
 ])
 def test_forecast(gate: Gate, words: list[str], load: int, printed: str) -> None:
     """How long it will take is printed first, for as many processors as there are and as busy as they are."""
