@@ -14,7 +14,8 @@ from typing import Any, Callable
 from hypothesis import HealthCheck, given, settings
 
 import toarmuts
-from toarmuts import Mote, Network, Options, Print, Script, TimerReset, TimerSet, TimerStop, Transcript, Turn, Turns, Wait, strategies
+from toarmuts import (Mote, Network, Options, Print, Script, TimerReset, TimerSet, TimerStop, Transcript, Turn, Turns, Wait, run_network,
+                      strategies)
 from toarmuts.coverage import Coverage
 from toarmuts.library import library
 
@@ -99,6 +100,34 @@ def bench_networks() -> None:
     tell("a frame handed over from relay to relay, 10 lines", best(lambda: network.tick(100), 50) / 100)
 
 
+MANY = 1_000_000
+
+
+def seconds(what: str, work: Callable[[], Any]) -> None:
+    """A line of the table, by the processor's time of one try."""
+    began = time.process_time()
+    work()
+    print(f"| {what} | {time.process_time() - began:.2f} s |", flush=True)
+
+
+def bench_many() -> None:
+    """A million inputs: in a script, and one by one."""
+    script = "tick 1\n" * MANY
+    mote, network = Mote(["hello"]), Network(["hello"])
+    seconds(f"`run(['hello'])`, {MANY:,} inputs", lambda: toarmuts.run(["hello"], script))
+    seconds(f"`run_network`, {MANY:,} inputs", lambda: run_network(network, script))
+    seconds(f"`mote.tick()`, {MANY:,} times", lambda: [mote.tick() for _ in range(MANY)])
+    seconds(f"`network.tick()`, {MANY:,} times", lambda: [network.tick() for _ in range(MANY)])
+    relays = Network(["relay", "relay"]).link(1, 2).link(2, 1)
+    relays.frame(1, b"a")
+    seconds("`until` with `len(network.sent())`, 10,000 frames", lambda: relays.until(lambda it: len(it.sent()) == 10_001))
+    seconds(f"a `Run` of it, `mote.so_far()`, after {MANY:,} inputs", mote.so_far)
+    seconds(f"`network.so_far()`, after {MANY:,} inputs", network.so_far)
+    tell(f"`printed()`, `sent()` and `clock` of a mote after {MANY:,} inputs", best(lambda: (mote.printed(), mote.sent(), mote.clock)))
+    tell(f"`mote.tick()` after {MANY:,} inputs", best(mote.tick))
+    tell(f"`network.tick()` after {MANY:,} inputs", best(network.tick))
+
+
 def bench_search(examples: int = 300) -> None:
     """Hypothesis: scripts drawn and run."""
     began = time.process_time()
@@ -127,5 +156,6 @@ if __name__ == "__main__":
     bench_runs()
     bench_motes()
     bench_networks()
+    bench_many()
     bench_search()
     bench_campaigns()

@@ -126,6 +126,213 @@ def test_event_from_before_a_start(contiki: Contiki, tmp_path: Path) -> None:
     assert calls[start:] == ["timer-set 0 0", "wait", "timer-expired 0", "wait", "wait"], told(ran)
 
 
+ENDED = """#include "contiki.h"
+PROCESS(first, "First");
+PROCESS(second, "Second");
+AUTOSTART_PROCESSES(&first, &second);
+static struct etimer own[20], other;
+static int starts, i;
+PROCESS_THREAD(first, ev, data)
+{
+  PROCESS_BEGIN();
+  etimer_set(&own[starts++], 5);
+  while(1) {
+    PROCESS_WAIT_EVENT();
+  }
+  PROCESS_END();
+}
+PROCESS_THREAD(second, ev, data)
+{
+  PROCESS_BEGIN();
+  for(i = 0; i < 19; i++) {
+    etimer_set(&other, 5);
+    PROCESS_WAIT_EVENT_UNTIL(etimer_expired(&other));
+    printf("%d", etimer_expired(&own[i]));
+    process_exit(&first);
+    etimer_set(&other, 1);
+    PROCESS_WAIT_EVENT_UNTIL(etimer_expired(&other));
+    process_start(&first, NULL);
+  }
+  printf("\\n%d starts\\n", starts);
+  PROCESS_END();
+}
+"""
+
+
+def test_events_of_ended_processes(contiki: Contiki, tmp_path: Path) -> None:
+    """A timer's event that waits where its process ends reaches nobody: after a new start no slot of the mote is held for it."""
+    ran = contiki("--text", write_source(tmp_path, ENDED), stdin=b"tick 1\n" * 120)
+    assert outcome(ran) == (0, "1" * 19 + "\n20 starts\n", "")
+
+
+STAYING = """#include "contiki.h"
+PROCESS(only, "Only");
+AUTOSTART_PROCESSES(&only);
+static struct etimer own[20];
+static struct ctimer again;
+static int starts;
+static void
+start_again(void *ptr)
+{
+  process_start(ptr, NULL);
+}
+PROCESS_THREAD(only, ev, data)
+{
+  PROCESS_BEGIN();
+  process_post(&only, 150, NULL);
+  etimer_set(&own[starts++], 0);
+  PROCESS_WAIT_EVENT_UNTIL(ev == 150);
+  printf("%d", etimer_expired(&own[starts - 1]));
+  if(starts < 20) {
+    ctimer_set(&again, AFTER, start_again, &only);
+  } else {
+    printf("\\n");
+  }
+  PROCESS_END();
+}
+"""
+
+
+@pytest.mark.parametrize("after", [0, 1], ids=["at once", "later"])
+def test_events_of_a_process_that_stays(contiki: Contiki, tmp_path: Path, after: int) -> None:
+    """The same where the last process has ended, and stays in the mote for a callback timer that starts it again."""
+    ran = contiki("--text", f"-DAFTER={after}", write_source(tmp_path, STAYING), stdin=b"tick 1\n" * 30)
+    assert outcome(ran) == (0, "1" * 20 + "\n", "")
+
+
+@pytest.mark.parametrize("call", ["leds_on", "leds_toggle", "leds_set"])
+def test_leds_that_are_not_there(contiki: Contiki, tmp_path: Path, call: str) -> None:
+    statement = f'{call}((leds_mask_t)~0u); printf("%d\\n", leds_get() == LEDS_ALL);'
+    source = write_source(tmp_path, program_of(statement, '#include "dev/leds.h"'))
+    assert outcome(contiki("--text", source)) == (0, "1\n", "")
+
+
+HEIR = """#include "contiki.h"
+PROCESS(heir, "Heir");
+PROCESS(owner, "Owner");
+AUTOSTART_PROCESSES(&heir, &owner);
+static struct ctimer timer;
+static void called(void *ptr) { printf("called\\n"); }
+PROCESS_THREAD(heir, ev, data)
+{
+  PROCESS_BEGIN();
+  PROCESS_WAIT_EVENT_UNTIL(ev == PROCESS_EVENT_EXITED);
+  printf("%d\\n", ctimer_expired(&timer));
+  PROCESS_WAIT_EVENT();
+  PROCESS_END();
+}
+PROCESS_THREAD(owner, ev, data)
+{
+  PROCESS_BEGIN();
+  PROCESS_WAIT_EVENT_UNTIL(ev == serial_line_event_message);
+  ctimer_set(&timer, 0, called, NULL);
+  PROCESS_END();
+}
+"""
+
+
+def test_callback_of_another_process(contiki: Contiki, tmp_path: Path) -> None:
+    """A callback timer that is due, and that another process has since its own has ended, runs out in the next round, not before."""
+    ran = contiki("--text", write_source(tmp_path, HEIR), stdin=b"serial 610a\n")
+    assert outcome(ran) == (0, "0\ncalled\n", "")
+
+
+CALLED = 'static int i; static struct ctimer timers[6]; static void called(void *text) { printf("%s\\n", (char *)text); }'
+
+
+@pytest.mark.parametrize("others", [0, 3], ids=["in the mote", "waiting"])
+def test_callbacks_of_one_end(contiki: Contiki, tmp_path: Path, others: int) -> None:
+    """Of callback timers that end at once the one that was set last is first: in the mote, and where they wait for a slot of it."""
+    source = write_source(tmp_path, program_of(f"""for(i = 0; i < {others}; i++) {{ ctimer_set(&timers[i], 100, called, NULL); }}
+  ctimer_set(&timers[3], 5, called, "first");
+  ctimer_set(&timers[4], 10, called, "second");
+  ctimer_set(&timers[5], 10, called, "third");
+  PROCESS_WAIT_EVENT();""", CALLED))
+    assert outcome(contiki("--text", source, stdin=b"tick 5\ntick 5\n")) == (0, "first\nthird\nsecond\n", "")
+
+
+def test_gap_of_the_shared_block(contiki: Contiki, tmp_path: Path) -> None:
+    """Parts of a process's last block have 16 bytes between them. After three of 16 bytes the middle one is freed: 20 bytes don't
+    fit there, 16 do."""
+    source = write_source(tmp_path, program_of("""for(i = 0; i < 15; i++) { heapmem_alloc(4); }
+  for(i = 0; i < 3; i++) { parts[i] = heapmem_alloc(16); }
+  heapmem_free(parts[1]);
+  heapmem_alloc(20);
+  heapmem_alloc(16);""", "static int i; static void *parts[3];"))
+    calls = re.findall(r"-> (heap-\w+ 15 \d+)$", contiki(source).stdout.decode(), re.M)
+    assert calls == ["heap-alloc 15 16", "heap-realloc 15 48", "heap-realloc 15 80", "heap-realloc 15 116"]
+
+
+ADDRESSES = {
+    "::": "::", "::1": "::1", "1::": "1::", "0:0:0:0:0:0:0:0": "::", "fe80::00Ab": "fe80::ab", "1:2:3:4:5:6:7:8": "1:2:3:4:5:6:7:8",
+    # One zero alone is written, and of two runs the first one is left out.
+    "1:0:3:4:5:6:7:8": "1:0:3:4:5:6:7:8", "1:0:3:0:0:6:0:0": "1:0:3::6:0:0", "1:2:3:4:5:6:0:0": "1:2:3:4:5:6::", "1:2:3:4:5:6:7::":
+    "1:2:3:4:5:6:7:0", "::2:3:4:5:6:7:8": "0:2:3:4:5:6:7:8", "ffff:ffff:ffff:ffff:ffff:ffff:ffff:ffff":
+    "ffff:ffff:ffff:ffff:ffff:ffff:ffff:ffff",
+}
+NO_ADDRESSES = ["", ":", "1", "1:2:3:4:5:6:7", "1:2:3:4:5:6:7:8:9", "1:2:3:4:5:6:7:8:", ":1:2:3:4:5:6:7:8", "1::2:", ":1::2", "1::2::3",
+                "1:::2", ":::", "1:2:3:4::5:6:7:8", "::12345", "::00001", "::g", "::1 ", " ::1"]
+
+
+def test_texts_of_addresses(contiki: Contiki, tmp_path: Path) -> None:
+    """IPv6 addresses are read, and written with two zeros or more as ::; what is no address is refused, and a buffer is never overrun."""
+    texts = ", ".join(f'"{text}"' for text in [*ADDRESSES, *NO_ADDRESSES])
+    source = write_source(tmp_path, program_of("""for(i = 0; i < sizeof texts / sizeof texts[0]; i++) {
+    uip_ipaddr_t address;
+    if(!uiplib_ipaddrconv(texts[i], &address)) {
+      printf("none\\n");
+    } else {
+      char text[4];
+      int length = uiplib_ipaddr_snprint(text, sizeof text, &address);
+      uiplib_ipaddr_print(&address);
+      printf(" %d %s\\n", length, text);
+    }
+  }""", f'#include "net/ipv6/uiplib.h"\nstatic unsigned i; static const char *const texts[] = {{{texts}}};'))
+    wanted = [f"{text} {len(text)} {text[:3]}" for text in ADDRESSES.values()] + ["none"] * len(NO_ADDRESSES)
+    assert outcome(contiki("--text", "--sanitize", source)) == (0, "".join(f"{line}\n" for line in wanted), "")
+
+
+SENSOR = """#include "lib/sensors.h"
+static int value(int type) { return type; }
+static int configure(int type, int to) { return type == to; }
+SENSORS_SENSOR(level, "Level", value, configure, value);
+SENSORS(&level);
+static process_event_t first;"""
+
+
+def test_sensor_that_changes_twice(contiki: Contiki, tmp_path: Path) -> None:
+    """All changes have one event, which is allocated at the first of them."""
+    source = write_source(tmp_path, program_of("""printf("%d\\n", sensors_event == PROCESS_EVENT_NONE);
+  sensors_changed(&level);
+  first = sensors_event;
+  PROCESS_WAIT_EVENT_UNTIL(ev == first && data == &level);
+  sensors_changed(&level);
+  PROCESS_WAIT_EVENT_UNTIL(ev == first && data == &level);
+  printf("%d\\n", sensors_event == first);""", SENSOR))
+    assert outcome(contiki("--text", source)) == (0, "1\n1\n", "")
+
+
+COMMANDS = """#include "services/shell/shell.h"
+static PT_THREAD(greet(struct pt *pt, shell_output_func output, char *args))
+{
+  PT_BEGIN(pt);
+  SHELL_OUTPUT(output, "hello %s\\n", args);
+  PT_END(pt);
+}
+static const struct shell_command_t commands[] = {{"greet", greet, "greets"}, {NULL, NULL, NULL}};
+static struct shell_command_set_t set = {NULL, commands};"""
+
+
+def test_commands_that_are_registered_twice(contiki: Contiki, tmp_path: Path) -> None:
+    """A set of the shell's commands is in the list once, and can be removed once."""
+    source = write_source(tmp_path, program_of("""shell_command_set_register(&set);
+  shell_command_set_register(&set);
+  printf("%d %d\\n", shell_command_lookup("greet") == commands, shell_command_lookup("none") == NULL);
+  printf("%d ", shell_command_set_deregister(&set));
+  printf("%d %d\\n", shell_command_set_deregister(&set), shell_command_lookup("greet") == NULL);""", COMMANDS))
+    assert outcome(contiki("--text", source)) == (0, "1 1\n0 1 1\n", "")
+
+
 ENERGEST = """ENERGEST_ON(ENERGEST_TYPE_LISTEN);
   energest_type_set(ENERGEST_TYPE_TRANSMIT, (uint64_t)1000 * ENERGEST_SECOND / CLOCK_SECOND);
   PROCESS_WAIT_EVENT();

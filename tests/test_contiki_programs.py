@@ -199,6 +199,8 @@ def test_modules_on_the_host(tmp_path: Path, sanitizing_compiler: str) -> None:
     ran = run(tmp_path / "plain")
     assert (ran.returncode, ran.stderr) == (0, b""), told(ran)
     assert ran.stdout.count(b"Result: success\n") == ran.stdout.count(b"Result: ") == 5
+    times = [tuple(map(int, it)) for it in re.findall(rb"^Start: (\d+)\nEnd: (\d+)\nDuration: (\d+)$", ran.stdout, re.M)]
+    assert len(times) == 5 and all(begin <= end and took == end - begin for begin, end, took in times) and times[-1][0] > 0
 
 
 # Uses of memory that nobody has, in a program over the memory modules.

@@ -1,5 +1,6 @@
 """The commands of docs/first-program.md, README.md and CONTRIBUTING.md. What they print is in files, written out from the rules."""
 
+import json
 import os
 import re
 import shutil
@@ -93,11 +94,24 @@ def test_unproved(tmp_path: Path) -> None:
     assert ran.stdout == (FIRST / "steady.transcript").read_bytes()
 
 
+def task_of_editor(file: Path) -> tuple[str, Path]:
+    """The command that VS Code runs for an open file, and where."""
+    task, = json.loads((ROOT / ".vscode/tasks.json").read_text(encoding="utf-8"))["tasks"]
+    values = {"file": file, "fileDirname": file.parent, "fileBasenameNoExtension": file.stem, "workspaceFolder": ROOT}
+    command, folder = str(task["command"]), str(task["options"]["cwd"])
+    for name, value in values.items():
+        command, folder = (text.replace(f"${{{name}}}", str(value)) for text in (command, folder))
+    return command, Path(folder)
+
+
+DEBUGGER = next(line for line in ELSEWHERE if "--gdb" in line)
+
+
 @needs("gcc", "gdb")
 @pytest.mark.usefixtures("built")
-def test_debugger() -> None:
-    """The commands of the page stop at the serial line's event, with its bytes."""
-    ran = run(ROOT / "contiki", "--gdb", FIRST / "pulse.c", stdin=FIRST / "pulse.script",
-              settings={"GDB": f"gdb -q -batch -x {FIRST / 'pulse.gdb'}"})
+@pytest.mark.parametrize(("command", "folder"), [(DEBUGGER, ROOT), task_of_editor(FIRST / "pulse.c")], ids=["page", "editor"])
+def test_debugger(command: str, folder: Path) -> None:
+    """The commands of the page stop at the serial line's event, with its bytes; so they do as a task of VS Code."""
+    ran = run("bash", "-c", command, cwd=folder, settings={"GDB": f"gdb -q -batch -x {FIRST / 'pulse.gdb'}"})
     assert re.search(rb'\$1 = 138 .*\$2 = 0x[0-9a-f]+ [^\n]*"hi"\n', ran.stdout, re.S), told(ran)
     assert ran.stdout.count(b"\nBreakpoint 1, ") == 1

@@ -140,20 +140,20 @@ def test_quick(gate: Gate) -> None:
 ALL_TAKE = "all proofs, 4 at a time, and all tests take about 37 minutes with 4 processors"
 
 
-@pytest.mark.parametrize(("words", "load", "told"), [
+@pytest.mark.parametrize(("words", "load", "printed"), [
     ([], 0, f"{ALL_TAKE}; what this kit proved before isn't proved again"),
     ([], 4, f"{ALL_TAKE}, and about 74 while the machine is as busy as now; what this kit proved before isn't proved again"),
-    (["--quick"], 0, "this takes about 4 minutes with 4 processors"), (["first"], 0, ""),
-    (["--quick", "-x"], 1, "this takes about 4 minutes with 4 processors"),
+    (["--quick"], 0, "this takes about 3 minutes with 4 processors"), (["first"], 0, ""),
+    (["--quick", "-x"], 1, "this takes about 3 minutes with 4 processors"),
 ])
-def test_forecast(gate: Gate, words: list[str], load: int, told: str) -> None:
+def test_forecast(gate: Gate, words: list[str], load: int, printed: str) -> None:
     """How long it will take is printed first, for as many processors as there are and as busy as they are."""
     code = ("import os, runpy, sys\nos.sched_getaffinity = lambda _: range(4)\n"
             f"os.getloadavg = lambda: ({load}, 0, 0)\nsys.argv = ['all', *{words}]\n"
             f"runpy.run_path({str(gate.tree / 'tests/all')!r}, run_name='__main__')\n")
     ran = run(sys.executable, "-c", code, settings={**gate.settings, "RT_JOBS": "4"}, cwd=gate.tree)
     first = ran.stderr.decode().partition("\n")[0]
-    assert first == (f"tests/all: {told}" if told else "") or not told and not first.startswith("tests/all: ")
+    assert first == (f"tests/all: {printed}" if printed else "") or not printed and not first.startswith("tests/all: ")
 
 
 @pytest.mark.parametrize(("settings", "status", "last", "notes"), [

@@ -38,16 +38,16 @@ def test_unproved_run(tree: Tree, script: str, words: list[str], proving: str) -
     """Arguments, input and output are passed on, and it is reported that the run is unproved. The first builds the program."""
     for number in range(2):
         tree.run(script, *words, stdin=SCRIPT)
-        told = f"{script}: this run is unproved; {proving} proves and builds the program\n"
-        assert tree.is_unproved() and tree.stderr.endswith(told) and ("is built without a proof" in tree.stderr) == (number == 0)
+        last = f"{script}: this run is unproved; {proving} proves and builds the program\n"
+        assert tree.is_unproved() and tree.stderr.endswith(last) and ("is built without a proof" in tree.stderr) == (number == 0)
         assert tree.ran.stdout == f"words {' '.join(words)}\n".encode() + SCRIPT
     assert builds(tree) == 1
 
 
 def test_status(tree: Tree) -> None:
     """The program's status and standard error are passed on."""
-    tree.run("mote", STATUS="6", SAYS="mote: told\n")
-    assert (tree.ran.returncode, tree.stderr.splitlines()[2:]) == (6, ["mote: told"])
+    tree.run("mote", STATUS="6", SAYS="mote: said\n")
+    assert (tree.ran.returncode, tree.stderr.splitlines()[2:]) == (6, ["mote: said"])
 
 
 @pytest.mark.parametrize(("change", "is_built"), [
@@ -67,8 +67,8 @@ def test_kept_program(tree: Tree, change: str, is_built: bool) -> None:
 
 def test_sources_that_are_refused(tree: Tree) -> None:
     tree.run("mote", REFUSES="error: refused")
-    told = "mote: no program is built from the present sources, neither proved nor unproved: error: refused\n"
-    assert (tree.ran.returncode, tree.stderr.endswith(told)) == (125, True)
+    last = "mote: no program is built from the present sources, neither proved nor unproved: error: refused\n"
+    assert (tree.ran.returncode, tree.stderr.endswith(last)) == (125, True)
     assert not (tree.crate("mote") / "out/unproved/mote").exists()
 
 
@@ -158,7 +158,7 @@ def test_no_rt(tree: Tree, script: str) -> None:
         assert tree.is_unproved()
 
 
-@pytest.mark.parametrize(("words", "told"), [
+@pytest.mark.parametrize(("words", "hints"), [
     (["hello", "a.script", "no such file"], [IS_FILE]), (["hello", "echo"], []), (["--mmem", "a.script", "--", "a.script"], [IS_FILE]),
     (["--mmem", "5"], ["--mmem 5: a multiple of 4 from 4 to 65536 is allowed"]),
     (["--mmem=65540"], ["--mmem 65540: a multiple of 4 from 4 to 65536 is allowed"]),
@@ -168,12 +168,12 @@ def test_no_rt(tree: Tree, script: str) -> None:
     (["--quota", "1028", "hello", "hello", "hello"], ["--quota 1028 for each application and the frames is 4112 bytes; --mmem has 4096"]),
     (["--quota=8", "--mmem=12", "hello"], ["--quota 8 for each application and the frames is 16 bytes; --mmem has 12"]),
 ])
-def test_hints(proved_tree: Tree, words: list[str], told: list[str]) -> None:
+def test_hints(proved_tree: Tree, words: list[str], hints: list[str]) -> None:
     """Arguments that mote refuses with few words get a line of the script's own. An application's name has none, though it is a file's."""
     for name in ("a.script", "echo"):
         (proved_tree.room / name).touch()
     proved_tree.run("mote", *words, cwd=proved_tree.room)
-    assert proved_tree.stderr.splitlines() == [f"mote: {line}" for line in told] and proved_tree.stdout == f"proved {' '.join(words)}\n"
+    assert proved_tree.stderr.splitlines() == [f"mote: {line}" for line in hints] and proved_tree.stdout == f"proved {' '.join(words)}\n"
 
 
 # ---- A proved program ----
@@ -188,9 +188,9 @@ def test_lines_of_windows_proved(proved_tree: Tree) -> None:
     files = {"windows": WINDOWS, "remark": REMARK}
     for name, text in files.items():
         (proved_tree.root / name).write_bytes(text)
-    told = "mote: line 3 ends with byte 13, as lines of Windows do; here a line ends with byte 10 only\n"
+    hint = "mote: line 3 ends with byte 13, as lines of Windows do; here a line ends with byte 10 only\n"
     rest = "{ read -r _; read -r _; ./mote; } <"
-    for command, stdout, stderr in (("./mote <windows", WINDOWS, told), ("./mote <remark", REMARK, ""), (f"{rest}remark", b"", ""),
+    for command, stdout, stderr in (("./mote <windows", WINDOWS, hint), ("./mote <remark", REMARK, ""), (f"{rest}remark", b"", ""),
                                     (f"{rest}windows", b"tick 1\r\n", "")):
         ran = proved_tree.shell(command)
         assert (ran.returncode, ran.stdout, proved_tree.stderr) == (3, b"proved \n" + stdout, stderr), command

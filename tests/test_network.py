@@ -4,6 +4,7 @@ A worked network is tests/networks/NAME.net, or one in examples/networks, with N
 docs/network.md. NAME.run, where it is there, has lines `status N` (none: 0) and `args WORD..`.
 """
 
+import os
 from pathlib import Path
 
 import pytest
@@ -90,6 +91,16 @@ def test_default_room() -> None:
     assert [line for line in lines if line.startswith("full")] == ["full 1 2"]
     begin = lines.index("2 > tick 1") + 1
     assert lines[begin:] == ["2 > frame 0a"] * 8 + ["2 > frame 0a", "2 note lost 1"] * 1016
+
+
+def test_delays_that_differ() -> None:
+    """A frame that overtakes others is put in its order without a walk over them: forty thousand are in flight on the long link."""
+    begun = os.times()
+    lines = transcript_of("mote 1 relay\nmote 2\nroom 50000\nlink 1 1 delay 1\nlink 1 2 delay 4000000000\n1 frame 0a\ntick 40000\n",
+                          "--quiet")
+    ended = os.times()
+    assert sum(line == "1 note sent 0a" for line in lines) == 40_001
+    assert ended.children_user - begun.children_user < 5
 
 
 def test_plain_network(sanitizing_compiler: str) -> None:

@@ -248,7 +248,7 @@ def wrong_comments(crate: str) -> Iterator[str]:
 
 @pytest.mark.parametrize("crate", CRATE_NAMES)
 def test_comments(crate: str) -> None:
-    """Each name that a comment of a crate tells of is code of this crate, of one below it, or a name of Contiki-NG's. A file that it names
+    """Each name that a comment of a crate names is code of this crate, of one below it, or a name of Contiki-NG's. A file that it names
     is there, from the top, in the crate or beside its own."""
     faults = list(wrong_comments(crate))
     assert not faults, "\n".join(faults)

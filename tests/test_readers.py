@@ -72,7 +72,7 @@ json.dump([globals()[kind](text) for kind, text in json.load(sys.stdin)], sys.st
 """
 
 
-class Told(NamedTuple):
+class Reading(NamedTuple):
     """What a reader says of a text."""
 
     reader: str
@@ -83,14 +83,14 @@ def differences(texts: Iterable[str], *readers: tuple[str, Iterable[object]]) ->
     """How many texts readers differ on, and the shortest one with what each says; empty if they agree. None: a reader doesn't read it."""
     found = []
     for text, *said in zip(texts, *(says for _, says in readers)):
-        told = [Told(name, says) for (name, _), says in zip(readers, said) if says is not None]
-        if len({json.dumps(says) for _, says in told}) > 1:
-            found.append((len(text), text, told))
+        readings = [Reading(name, says) for (name, _), says in zip(readers, said) if says is not None]
+        if len({json.dumps(says) for _, says in readings}) > 1:
+            found.append((len(text), text, readings))
     if not found:
         return ""
-    _, text, told = min(found, key=lambda it: it[:2])
+    _, text, readings = min(found, key=lambda it: it[:2])
     return "\n".join([f"{len(found)} texts are read differently, the shortest one is {text!r}:",
-                      *(f"  {it.reader}: {it.says}" for it in told)])
+                      *(f"  {it.reader}: {it.says}" for it in readings)])
 
 
 def each(work: Callable[[str], object], texts: Iterable[str]) -> list[object]:
@@ -310,12 +310,12 @@ def test_calls_on_the_page(environments: test_python.Environments, browser: Brow
                     encoding="utf-8")
     opened = browser.open(page.as_uri(), 400, 300, False)
     opened.wait_for("typeof isWholePage !== 'undefined'")
-    told = opened.ask(f"return {json.dumps(texts)}.map((text) => {{ try {{ return readCall(text).text; }} catch (error) {{"
-                      " if (error instanceof BadCall) return null; throw error; } });")
+    by_page = opened.ask(f"return {json.dumps(texts)}.map((text) => {{ try {{ return readCall(text).text; }} catch (error) {{"
+                         " if (error instanceof BadCall) return null; throw error; } });")
     opened.close()
     read = read_in_python(environments("environment"), "call", texts)
-    found = differences(texts, ("Python", [text or "refused" for text in read]), ("the page", [text or "refused" for text in told]))
-    assert 100 < sum(text is None for text in told) < len(texts) - 100 and not found, found
+    found = differences(texts, ("Python", [text or "refused" for text in read]), ("the page", [text or "refused" for text in by_page]))
+    assert 100 < sum(text is None for text in by_page) < len(texts) - 100 and not found, found
 
 
 # ---- Sizes of one mote ----

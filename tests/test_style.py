@@ -56,6 +56,18 @@ def test_text() -> None:
     assert not faults, "\n".join(faults)
 
 
+def long_lines(text: str) -> list[int]:
+    """The numbers of the lines that are longer than editors have them."""
+    return [number for number, line in enumerate(text.splitlines(), 1) if len(line) > longest_line()]
+
+
+def test_long_lines() -> None:
+    """clang-format leaves comments as they are. (Of Python flake8 says so.)"""
+    assert long_lines("/*" + 136 * "-" + "*/\n/*" + 137 * "-" + "*/\n") == [2]
+    faults = [f"{path}:{number}" for path in sources("shell", "C") for number in long_lines(path.read_text(encoding="utf-8"))]
+    assert not faults, "\n".join(faults)
+
+
 @needs("flake8")
 def test_flake8() -> None:
     succeed("flake8", *sources("python"), cwd=ROOT)
@@ -82,8 +94,12 @@ def test_clang_format() -> None:
     assert ran.returncode == 0 and ran.stderr == b"", told(ran)
 
 
+def longest_line() -> int:
+    longest, = re.findall(r"max_line_length = (\d+)", (ROOT / ".editorconfig").read_text(encoding="utf-8"))
+    return int(longest)
+
+
 def test_lines_of_editorconfig() -> None:
     """Editors have the same settings as flake8 and clang-format."""
-    longest, = re.findall(r"max_line_length = (\d+)", (ROOT / ".editorconfig").read_text(encoding="utf-8"))
-    assert f"max-line-length = {longest}" in (ROOT / ".flake8").read_text(encoding="utf-8")
-    assert f"ColumnLimit: {longest}" in (ROOT / ".clang-format").read_text(encoding="utf-8")
+    assert f"max-line-length = {longest_line()}\n" in (ROOT / ".flake8").read_text(encoding="utf-8")
+    assert f"ColumnLimit: {longest_line()}\n" in (ROOT / ".clang-format").read_text(encoding="utf-8")

@@ -104,6 +104,11 @@ VALUES: list[tuple[str, Any]] = [
     ("malformedLine('ring 1..2 delay 1', 1)", "write ring N..M delay D, of motes in lines above."),
     ("malformedLine('walk', 1)", "a line begins with mote, link, line, ring, mesh, grid, room, rounds, tick or the number of a mote."),
     ("networkClocks(['1 > tick 1', '= 5', '2 halt', '= 70', 'lost 1 2'])", [0, 5, 5, 70, 70]),
+    # A malformed line of an input's form starts the motes before it ends the run; one of the first lines doesn't.
+    ("['3 serial 61', 'walk'].map((line) => runNetwork({ run: () => ({ status: 2, output: utf8.encode('bad line 2\\n') }) },"
+     " { network: `mote 1 hello\\n${line}`, only: null, quiet: false })).map(({ transcript, end, fault }) =>"
+     " [transcript !== null, end, fault.editor, fault.line])",
+     [[True, {"name": "BAD_LINE", "line": 2}, "network", 2], [False, None, "network", 2]]),
     ("[...linesOfMotes(['12 a b', '= 3', '1 c', '12 d', 'lost 1 2'])]",
      [[12, {"places": [0, 3], "texts": ["a b", "d"]}], [1, {"places": [2], "texts": ["c"]}]]),
     ("['= 1234', 'lost 1 2', 'full 3 4', 'missed - 2', 'missed 1 2', 'halt', 'bad line 3'].map(networkWords)",
@@ -143,6 +148,8 @@ VALUES: list[tuple[str, Any]] = [
       {"first": 6, "count": 1, "period": 0}]),
     ("foldedRows(Array.from({ length: 192 }, (_, at) => String(at % 64))).at(-1)", {"first": 64, "count": 128, "period": 64}),
     ("foldedRows(Array.from({ length: 195 }, (_, at) => String(at % 65))).length", 195),
+    ("foldedRows([...'abcdeabcdeabcde']).map(({ count }) => count)", [1, 1, 1, 1, 1, 10]),
+    ("foldedRows([...'abcdeabcdeabcd']).length", 14),
     # The report of a run.
     ("[0.04, 9.96, 10.2, 999.4, 1000, 61240].map(milliseconds)", ["0.0 ms", "10.0 ms", "10 ms", "999 ms", "1.0 s", "61.2 s"]),
     ("outcomeInWords({ end: { name: 'HALTED' }, lines: ['a'], took: 5, rows: null })", "The mote halted: 1 line in 5.0 ms."),

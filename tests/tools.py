@@ -82,12 +82,16 @@ def is_quick() -> bool:
     return "TOARMUTS_TESTS_QUICK" in os.environ
 
 
+# What `./contiki`, `./mote` and the other commands have built where it isn't proved.
+UNPROVED = ("mote", "scenario", "network", "mote_picture", "network_picture", "toarmuts")
+
+
 @functools.lru_cache(maxsize=None)
-def proved_or_not(name: str) -> Path:
-    """A program as it is proved, or else built without a proof. Where neither is there, the test is skipped."""
+def proved_or_not(name: str, file: str) -> Path:
+    """A program, or the library for C, as it is proved, or else built without a proof. Where neither is there, the test is skipped."""
     if run(ROOT / "prove", "--is-current", name).returncode == 0:
-        return CRATES / name / "out" / name
-    ran = run(ROOT / "scripts/unproved.py", name) if (ROOT / name.replace("_", "-")).exists() else None
+        return CRATES / name / "out" / file
+    ran = run(ROOT / "scripts/unproved.py", name) if name in UNPROVED else None
     if ran is None or ran.returncode != 0:
         pytest.skip(f"crates/{name}: not built: ./prove {name}")
     return Path(ran.stdout.decode().rstrip("\n"))
@@ -96,7 +100,7 @@ def proved_or_not(name: str) -> Path:
 def program(name: str) -> Path:
     """A built program. tests/all has all proved and built; without that, it must be there."""
     if is_quick():
-        return proved_or_not(name)
+        return proved_or_not(name, name)
     built = CRATES / name / "out" / name
     if not built.exists():
         pytest.fail(f"crates/{name}: the program isn't built: ./prove {name}", pytrace=False)
@@ -105,6 +109,8 @@ def program(name: str) -> Path:
 
 def library(name: str) -> Path:
     """A library for C. tests/all has it proved and built, for both kinds of processor; without that, it must be there."""
+    if is_quick():
+        return proved_or_not(name, f"lib{name}.a")
     if os.environ.get("TOARMUTS_TESTS_PROVE"):
         for command in (ROOT / "prove", ROOT / "scripts/for-aarch64"):
             ran = run(command, name, timeout=10_800)

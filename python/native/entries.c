@@ -1,8 +1,8 @@
 /*
  * The rows of a transcript as objects of Python, made at once. Only Python's stable interface is used.
  *
- * A Row has the numbers of struct transcript_row as members, its position, and what it is read from (Source of transcript.py). The classes of
- * entries are made of it in Python. Words are attributes of such a class: what words of a line tell, read once for equal words. Where
+ * A Row has the numbers of struct transcript_row as members, its position, and what it is read from (Source of transcript.py). The classes
+ * of entries are made of it in Python. Words are attributes of such a class: what words of a line say, read once for equal words. Where
  * this module isn't built, toarmuts/rows.py does the same.
  */
 #define Py_LIMITED_API 0x030a0000

@@ -257,6 +257,13 @@ def test_names_of_earlier_versions_are_told(use, words):
     assert str(caught.value) == words
 
 
+def test_an_earlier_name_that_is_imported():
+    with pytest.raises(ImportError, match="^module 'toarmuts' has no name 'Answer': it is now 'Reply'$"):
+        from toarmuts import Answer  # noqa: F401
+    with pytest.raises(ImportError, match="cannot import name 'Frob'"):
+        from toarmuts import Frob  # noqa: F401
+
+
 @pytest.mark.parametrize("make, fault, reason", WRONG, ids=[reason[:60] for _, _, reason in WRONG])
 def test_wrong_arguments_are_told(make, fault, reason):
     with pytest.raises(fault, match=re.escape(reason)):

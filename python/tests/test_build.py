@@ -1,4 +1,4 @@
-"""A library that is missing or stale is told, with the command that makes it; both ways to the library answer the same."""
+"""A library that is missing or stale is reported, with the command that makes it; both ways to the library answer the same."""
 import email
 import importlib.metadata
 import json
@@ -29,18 +29,18 @@ def run_python(code, folder=ROOT / "python", **environment):
 
 
 def check_library(crate, **environment):
-    """What is told of the library that a build takes."""
+    """What is reported of the library that a build takes."""
     return run_python("import build_native; build_native.library_file()", TOARMUTS_CRATE=str(crate), **environment)
 
 
-def test_a_missing_library_is_told_before_it_is_built(tmp_path):
+def test_a_missing_library_is_reported_before_it_is_built(tmp_path):
     crate = tmp_path / "crates/toarmuts"
     crate.mkdir(parents=True)
     told = check_library(crate)
     assert f"there is no {crate}/out/libtoarmuts.a" in told and "`./prove toarmuts`" in told
 
 
-def test_a_library_that_is_older_than_its_header_is_told(tmp_path):
+def test_a_library_that_is_older_than_its_header_is_reported(tmp_path):
     crate = tmp_path / "crates/toarmuts"
     (crate / "include").mkdir(parents=True)
     (crate / "out").mkdir()
@@ -50,7 +50,7 @@ def test_a_library_that_is_older_than_its_header_is_told(tmp_path):
     assert "lacks toarmuts_newer, it is older than its header" in told and "`./prove toarmuts`" in told
 
 
-def test_a_library_of_other_sources_is_told(tmp_path):
+def test_a_library_of_other_sources_is_reported(tmp_path):
     """A stub of ./prove says that it isn't current."""
     crate = tmp_path / "crates/toarmuts"
     (crate / "include").mkdir(parents=True)
@@ -72,11 +72,11 @@ def test_a_library_of_other_sources_is_told(tmp_path):
     ({"TOARMUTS_LIBRARY": __file__}, "can't be loaded"),
     ({"TOARMUTS_BACKEND": "none"}, "TOARMUTS_BACKEND is 'none'; cffi or ctypes is allowed"),
 ])
-def test_a_library_that_cannot_be_taken_is_told(environment, reason):
+def test_a_library_that_cannot_be_taken_is_reported(environment, reason):
     assert reason in run_python(TOLD, **environment)
 
 
-def test_a_way_to_the_library_that_was_not_built_is_told():
+def test_a_way_to_the_library_that_was_not_built_is_reported():
     """With cffi's way that of ctypes is built, too."""
     asks = "import toarmuts.library as it; print(it.library().backend)"
     if "TOARMUTS_LIBRARY" in os.environ:
@@ -101,7 +101,7 @@ def test_what_an_earlier_build_left_is_not_installed(tmp_path):
     assert {"__init__.py", "mote.py", "rules.json", "built.json"} <= names and not {"_native.abi3.so", "gone.py"} & names
 
 
-def test_another_library_is_told(tmp_path):
+def test_another_library_is_reported(tmp_path):
     """One that was built of an empty file."""
     (tmp_path / "empty.c").write_text("int nothing;\n")
     subprocess.run(["gcc", "-shared", "-fPIC", "-o", tmp_path / "empty.so", tmp_path / "empty.c"], check=True)
@@ -124,7 +124,7 @@ def test_debians_setuptools_makes_no_wheel_for_another_python():
     assert run_python(f"{code}print(backend._has_wheel())") == "False"
 
 
-def test_a_repository_with_another_library_is_told(tmp_path):
+def test_a_repository_with_another_library_is_reported(tmp_path):
     """It may have been built anew since."""
     (tmp_path / "crates/toarmuts/out").mkdir(parents=True)
     code = "import toarmuts; from toarmuts.library import repository; print(repository()); toarmuts.run(['hello'])"
@@ -164,7 +164,7 @@ def test_an_unproved_library_is_built_where_there_is_no_proved_one(tmp_path, sta
 
 
 @pytest.mark.parametrize("is_proved", [True, False])
-def test_an_unproved_library_is_told(tmp_path, is_proved):
+def test_an_unproved_library_is_reported(tmp_path, is_proved):
     """A warning, once, where the package was built with an unproved library."""
     settings = copied(tmp_path, "/nowhere", is_proved=is_proved)
     if "TOARMUTS_LIBRARY" in os.environ:

@@ -248,17 +248,27 @@ def told_line_by_line(folder, begin, *words):
     return process, lines
 
 
-@pytest.mark.parametrize("words, first", [(("--jobs", "1"), 1), (("--jobs", "2"), 1), (("--jobs", "1", "--dask", "local"), 0)],
+@pytest.mark.parametrize("words", [("--jobs", "1"), ("--jobs", "2"), ("--jobs", "1", "--dask", "local")],
                          ids=["here", "processes", "dask"])
-def test_progress_is_told_within_a_seed(tmp_path, words, first):
-    """The second case waits until that of the first is told; of Dask's workers only seeds are counted."""
+def test_progress_is_told_within_a_seed(tmp_path, words):
+    """The second case waits until the run of the first is reported."""
     if "--dask" in words:
         pytest.importorskip("distributed")
     (tmp_path / "waiting.py").write_text(WAITING)
-    begin = f"0 of 1 seeds, {first} of 2 runs, 0 faults, "
+    begin = "0 of 1 seeds, 1 of 2 runs, 0 faults, "
     process, lines = told_line_by_line(tmp_path, begin, "waiting.py:Target", "--seeds", "0:1", "--count", "2", *words)
     assert process.returncode == 0 and (tmp_path / "told").exists(), lines
     assert lines[-2].startswith("1 of 1 seeds, 2 of 2 runs, 0 faults, ") and "left" not in lines[-2]
+
+
+def test_the_file_of_a_fault():
+    """The shortest that `./scenario` runs, or else the shortest; of equal ones that of the first seed."""
+    def unit(seed, text, is_scenario):
+        return campaigns.Unit(seed, found={"wrong": campaigns.Found("wrong", seed, text, is_scenario)})
+
+    units = [unit(0, "a", False), unit(1, "abcd", True), unit(2, "abc", True), unit(3, "abd", True)]
+    assert [(found.text, seeds) for found, seeds in campaigns.smallest(units)] == [("abc", 4)]
+    assert [(found.text, seeds) for found, seeds in campaigns.smallest([unit(0, "ab", False), unit(1, "b", False)])] == [("b", 2)]
 
 
 DYING = """import os

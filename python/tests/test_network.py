@@ -255,6 +255,13 @@ def test_a_network_goes_on_until_something_holds():
     assert network.clock == 25
 
 
+def test_a_halted_mote_is_not_waited_for():
+    """Its timer never runs out: the clock goes on to the timer of the other mote."""
+    network = Network([[[TimerSet(0, 7), Wait()], "clock-watcher"], [[TimerSet(0, 20), Wait()]]])
+    network.until(lambda network: network.clock > 0, most=100)
+    assert network.mote(1).halted and network.clock == 20
+
+
 def test_an_application_that_raises():
     def raises():
         yield PacketOpen()
@@ -721,6 +728,12 @@ def test_packets():
     data = packets(network.frames(), 128)
     assert data[24:41] == struct.pack("<4I", 0, 78_125_000, 1, 1) + b"b"
     assert data[24 + 12 * 17:24 + 13 * 17] == struct.pack("<4I", 1, 15_625_000, 1, 1) + b"b"
+
+
+def test_the_last_second_of_packets():
+    assert packets([Frame(2**32 - 1, 1, b"a")], 1)[24:32] == b"\xff\xff\xff\xff\0\0\0\0"
+    with pytest.raises(BadInput, match="^clock 4294967296 is beyond what a file of packets can have$"):
+        packets([Frame(2**32, 1, b"a")], 1)
 
 
 def test_a_file_of_packets(tmp_path):

@@ -337,7 +337,8 @@ static const struct kind {
 
 static unsigned long states, calls;
 
-/* Makes all lists anew, and the one of this kind with these items. A circular list adds each after the head, so these come from the last one on. */
+/* Makes all lists anew, and the one of this kind with these items. A circular list adds each after the head, so these come from the last
+ * one on. */
 static void
 make_state(const struct kind *kind, const int *numbers, int length)
 {

@@ -118,6 +118,7 @@ struct etimer *etimer_told(struct process *p, unsigned slot);
 void note_settled(const struct process *owner, unsigned slot, bool has_expired);
 void stop_event_timers(const struct process *p);
 void forget_event_timers(const struct process *p);
+void renew_event_timers(const struct process *p);
 void check_timers(const void *frame);
 
 /* callbacks.c */

@@ -92,8 +92,8 @@ give_block_back(struct memb *m, unsigned i)
   ASAN_POISON_MEMORY_REGION(memb_place(m, i), m->size);
 }
 
-/* `memb-alloc`, in the first pool with an unused block that is long enough: the numbers of the pool and the block, as in memb.h; 0 if there is
- * none. */
+/* `memb-alloc`, in the first pool with an unused block that is long enough: the numbers of the pool and the block, as in memb.h; 0 if there
+ * is none. */
 static unsigned char
 take_mote_block(unsigned size)
 {

@@ -274,6 +274,7 @@ note_started(struct process *p)
   running_count++;
   has_left[index_of(p)] = false;
   link_processes();
+  renew_event_timers(p);
 }
 
 /* Whether it is in an activation. */
@@ -395,7 +396,7 @@ begin_anew(struct process *p)
   return call_thread(p, PROCESS_EVENT_INIT, data);
 }
 
-/* The process that stays: it receives only frames, and a post from process_start. */
+/* The process that stays: it receives only frames, and a post from process_start. Timers' events that waited when it ended are over. */
 static bool
 activate_staying(const struct toarmuts_turn *turn, struct process *p)
 {
@@ -404,6 +405,8 @@ activate_staying(const struct toarmuts_turn *turn, struct process *p)
   }
   if(turn->event == TOARMUTS_EVENT_PACKET) {
     take_frame((size_t)turn->number);
+  } else if(turn->event == PROCESS_EVENT_TIMER) {
+    etimer_told(p, (unsigned)turn->number);
   }
   return false;
 }
@@ -559,6 +562,7 @@ void
 start_for_errand(struct process *p)
 {
   has_left[index_of(p)] = true;
+  renew_event_timers(p);
   MOTE_ASK(TOARMUTS_CALL_START, p->number);
 }
 

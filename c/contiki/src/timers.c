@@ -12,8 +12,9 @@
 
 enum { EVENT_TIMERS = 8, MOST_QUESTIONS = 1000000 };
 
-/* Those of each process. */
+/* Those of each process, and when it ended last. */
 static struct cell (*event_cells)[EVENT_TIMERS];
+static clock_time_t *ended_at;
 
 /* Whether a timer on the stack was ever set. Few programs have one, and only then all timers are checked before each wait. */
 static bool has_any_on_stack;
@@ -23,6 +24,7 @@ void
 make_cells(void)
 {
   event_cells = take_bytes(process_count * sizeof *event_cells);
+  ended_at = take_bytes(process_count * sizeof *ended_at);
   make_callbacks();
 }
 
@@ -205,8 +207,8 @@ settle(struct process *owner, unsigned slot)
   }
 }
 
-/* The same before the timer changes. An owner that awaits a reply is asked later, and stops the timer then: until it replies, the event counts as one in
- * the queue. */
+/* The same before the timer changes. An owner that awaits a reply is asked later, and stops the timer then: until it replies, the event
+ * counts as one in the queue. */
 static void
 settle_for_change(struct process *owner, unsigned slot)
 {
@@ -372,8 +374,8 @@ etimer_stop(struct etimer *et)
 
 /*
  * By the flag in the struct, as in Contiki-NG. It is cleared when the event is received; before that the mote is asked by
- * `timer-expired`, if the timer may have run out. An owner that awaits a reply isn't asked: the timer ran out if it was due in a round before. If the
- * timer's process has ended, the flag is unchanged.
+ * `timer-expired`, if the timer may have run out. An owner that awaits a reply isn't asked: the timer ran out if it was due in a round
+ * before. If the timer's process has ended, the flag is unchanged.
  */
 bool
 etimer_expired(struct etimer *et)
@@ -484,12 +486,23 @@ check_timers(const void *frame)
 void
 forget_event_timers(const struct process *p)
 {
+  ended_at[index_of(p)] = clock_now();
   for(unsigned slot = 0; slot < EVENT_TIMERS; slot++) {
     struct cell *cell = &event_cells[index_of(p)][slot];
     if(cell->is_armed && has_run_out(cell)) {
       note_expired(cell);
     }
     cell->is_armed = false;
+  }
+}
+
+/* A process starts again. Events that waited when it ended were delivered in that tick: if it is over, to nobody, so none waits. */
+void
+renew_event_timers(const struct process *p)
+{
+  unsigned index = index_of(p);
+  for(unsigned slot = 0; clock_now() != ended_at[index] && slot < EVENT_TIMERS; slot++) {
+    event_cells[index][slot].waiting = 0;
   }
 }
 

@@ -315,8 +315,8 @@ uint32_t toarmuts_next(struct toarmuts_mote *mote, uint32_t *step, struct toarmu
 /* Submits the call of the application whose turn it is: it is executed, and the turn is an entry. */
 uint32_t toarmuts_submit(struct toarmuts_mote *mote, const struct toarmuts_call *call);
 
-/* In place of toarmuts_submit: submits the call that this application makes in the turn. The struct is that of the process whose turn it is;
- * it is then as after the turn. NO_APPLICATION where it says none. */
+/* In place of toarmuts_submit: submits the call that this application makes in the turn. The struct is that of the process whose turn it
+ * is; it is then as after the turn. NO_APPLICATION where it says none. */
 uint32_t toarmuts_submit_bundled(struct toarmuts_mote *mote, struct toarmuts_application *application);
 
 /* Writes the transcript's line of the last entry to the front of the buffer, without its line end. A turn is an entry once its call was

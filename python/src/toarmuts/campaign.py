@@ -28,6 +28,7 @@ import sys
 import threading
 import time
 import traceback
+import uuid
 from collections.abc import Callable, Generator, Iterable, Iterator
 from dataclasses import dataclass, field
 from typing import Any, Protocol, Union
@@ -44,6 +45,8 @@ PATIENCE = 10
 """The seconds that a scheduler has to reply."""
 PAUSE, PAUSE_ON_TERMINAL = 10.0, 0.2
 """The seconds from one line of the progress to the next."""
+PAUSE_OF_WORKERS = 0.5
+"""The seconds after which a worker of Dask reports its runs again."""
 
 # What begins the inputs in a file that is not a scenario itself.
 _INPUTS = "# what was run:"
@@ -251,6 +254,44 @@ class _Work:
         return carry_out_seed(self.name, seed, self.count, self.cover, _count_run)
 
 
+@dataclass(frozen=True)
+class _WorkOfDask:
+    """The same for a worker of Dask, which reports its runs by events of this topic."""
+
+    work: _Work
+    topic: str
+
+    def __call__(self, seed: int) -> Unit:
+        worker: Any = importlib.import_module("distributed").get_worker()
+        runs, reported = 0, -PAUSE_OF_WORKERS
+
+        def report(more: int) -> None:
+            nonlocal runs, reported
+            runs += more
+            if more and time.monotonic() - reported >= PAUSE_OF_WORKERS:
+                reported = time.monotonic()
+                worker.log_event(self.topic, (seed, runs))
+
+        return carry_out_seed(self.work.name, seed, self.work.count, self.work.cover, report)
+
+
+class _RunsOfWorkers:
+    """The number of runs of each seed, as far as Dask's workers have reported it."""
+
+    def __init__(self) -> None:
+        self.topic = f"toarmuts-campaign-{uuid.uuid4()}"
+        self._runs: dict[int, int] = {}
+
+    def note(self, event: tuple[Any, tuple[int, int]]) -> None:
+        """In Dask's own thread: a worker reports its runs. A seed that is carried out again is counted once."""
+        seed, runs = event[1]
+        self._runs[seed] = max(self._runs.get(seed, 0), runs)
+
+    def count(self) -> int:
+        """The runs of all seeds."""
+        return sum(list(self._runs.values()))
+
+
 # In a process that a campaign has started: where all processes count their runs.
 _counter: Any = None
 
@@ -368,7 +409,7 @@ def _by_processes(work: _Work, seeds: range, jobs: int, progress: _Progress) -> 
                 yield None
 
 
-def _by_dask(work: _Work, seeds: range, address: str, jobs: int) -> Units:
+def _by_dask(work: _Work, seeds: range, address: str, jobs: int, progress: _Progress) -> Units:
     try:
         distributed: Any = importlib.import_module("distributed")
     except ImportError:
@@ -380,15 +421,19 @@ def _by_dask(work: _Work, seeds: range, address: str, jobs: int) -> Units:
         client = distributed.Client(cluster if cluster is not None else address, timeout=PATIENCE)
     except (OSError, ValueError) as fault:
         raise CampaignError(f"--dask {address}: no scheduler is reached there: {fault}") from None
+    runs = _RunsOfWorkers()
+    client.subscribe_topic(runs.topic, runs.note)
     try:
-        futures = distributed.as_completed(client.map(work, seeds, pure=False))
+        futures = distributed.as_completed(client.map(_WorkOfDask(work, runs.topic), seeds, pure=False))
         while not futures.is_empty():
+            progress.runs = max(progress.runs, runs.count())
             if not futures.has_ready():
                 time.sleep(0.1)
                 yield None
                 continue
             yield _result_of(next(futures), address)
     finally:
+        client.unsubscribe_topic(runs.topic)
         client.close()
         if cluster is not None:
             cluster.close()
@@ -397,7 +442,8 @@ def _by_dask(work: _Work, seeds: range, address: str, jobs: int) -> Units:
 def _local_cluster(distributed: Any, jobs: int) -> Any:
     """Workers of Dask on this machine. They log nothing: what fails is raised here, and an interrupt ends them amid their work."""
     with _ignoring_interrupts():
-        return distributed.LocalCluster(n_workers=jobs, threads_per_worker=1, dashboard_address=None, silence_logs=logging.CRITICAL)
+        return distributed.LocalCluster(n_workers=jobs, threads_per_worker=1, dashboard_address=None,
+                                        silence_logs=logging.CRITICAL + 1)
 
 
 def _result_of(future: Any, address: str) -> Unit:
@@ -535,7 +581,7 @@ def main(words: list[str] | None = None) -> int:
         load_target(asked.target)
         progress = _Progress(len(asked.seeds), asked.count)
         units = (_by_processes(work, asked.seeds, asked.jobs, progress) if asked.dask is None
-                 else _by_dask(work, asked.seeds, asked.dask, asked.jobs))
+                 else _by_dask(work, asked.seeds, asked.dask, asked.jobs, progress))
         with contextlib.closing(units):
             made, end = carry_out(units, progress)
         if isinstance(end, CampaignError) and not made:

@@ -257,10 +257,10 @@ class Network:
             malformed = self._started().execute(script, until_halt)
         return None if malformed is None else script.count(b"\n", 0, malformed) + 1
 
-    def _submit(self, told: InputLine) -> NetworkTranscript:
+    def _submit(self, line: InputLine) -> NetworkTranscript:
         """Takes an input as it was read."""
         __tracebackhide__ = True
-        return self._do(lambda stepper: stepper.execute(told.text.encode() + b"\n"))
+        return self._do(lambda stepper: stepper.execute(line.text.encode() + b"\n"))
 
     def tick(self, ticks: int = 1) -> NetworkTranscript:
         """Advances the clock by 0 to 4,294,967,295 ticks."""
@@ -416,10 +416,10 @@ class Network:
 
     def _repr_mimebundle_(self, include: object = None, exclude: object = None) -> dict[str, str]:
         """In a notebook: the chart of the run so far, or its first lines in words; before the start nothing but :func:`repr`."""
-        run, told = self.so_far(), {"text/plain": repr(self)}
+        run, shown_as = self.so_far(), {"text/plain": repr(self)}
         svg = run._repr_svg_() if len(run.transcript) else None
         table = run._repr_html_() if len(run.transcript) and svg is None else None
-        return told | ({"image/svg+xml": svg} if svg is not None else {}) | ({"text/html": table} if table is not None else {})
+        return shown_as | ({"image/svg+xml": svg} if svg is not None else {}) | ({"text/html": table} if table is not None else {})
 
     @property
     def closed(self) -> bool:

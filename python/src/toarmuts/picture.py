@@ -124,11 +124,11 @@ def draw_for_notebook(run: Run | NetworkRun) -> str | None:
     made_by = program(drawing.crate)
     if made_by is None:
         return None
-    with tempfile.TemporaryFile() as told:
-        told.write(drawing.data)
-        told.seek(0)
+    with tempfile.TemporaryFile() as transcript:
+        transcript.write(drawing.data)
+        transcript.seek(0)
         try:
-            process = subprocess.Popen([str(made_by), *drawing.words], stdin=told, stdout=subprocess.PIPE, stderr=subprocess.DEVNULL)
+            process = subprocess.Popen([str(made_by), *drawing.words], stdin=transcript, stdout=subprocess.PIPE, stderr=subprocess.DEVNULL)
         except OSError:
             return None
         with process:
@@ -157,9 +157,9 @@ def table_for_notebook(entries: Transcript | NetworkTranscript, ended: str | Non
     except BadTranscript:
         return None
     count = len(entries)
-    told = f"The first {MOST_ENTRIES_SHOWN} of {count:,} entries." if count > MOST_ENTRIES_SHOWN else ""
-    told += f" It ended with: {html.escape(ended)}." if ended is not None else ""
-    return f"<table>{_HEAD}{rows}</table>" + (f"<p>{told.strip()}</p>" if told else "")
+    below = f"The first {MOST_ENTRIES_SHOWN} of {count:,} entries." if count > MOST_ENTRIES_SHOWN else ""
+    below += f" It ended with: {html.escape(ended)}." if ended is not None else ""
+    return f"<table>{_HEAD}{rows}</table>" + (f"<p>{below.strip()}</p>" if below else "")
 
 
 _HEAD = "<tr><th>Clock</th><th>Line</th><th>Text</th><th>In words</th></tr>"
@@ -189,25 +189,25 @@ def _rows(entries: Transcript | NetworkTranscript) -> Iterator[str]:
 def page(run: Run, title: str = "") -> str:
     """A page in HTML that needs no other file."""
     options = " ".join(run.options.words()) or "the usual sizes"
-    told = [f"<p>It ended with: {html.escape(run.ended)}. Options: {html.escape(options)}.</p>", "<h2>Applications</h2><ol start=4>"]
-    told += [f"<li><code>{html.escape(application)}</code></li>" for application in run.applications]
-    told += ["</ol>"]
-    return _page(run, title, f"A run of {', '.join(named.told for named in run.named) or 'no applications'}", told,
+    parts = [f"<p>It ended with: {html.escape(run.ended)}. Options: {html.escape(options)}.</p>", "<h2>Applications</h2><ol start=4>"]
+    parts += [f"<li><code>{html.escape(application)}</code></li>" for application in run.applications]
+    parts += ["</ol>"]
+    return _page(run, title, f"A run of {', '.join(named.told for named in run.named) or 'no applications'}", parts,
                  run.script.decode("utf-8", "replace"))
 
 
 def page_of_network(run: NetworkRun, title: str = "") -> str:
     """The same of a network."""
     motes = [" ".join([mote.told, *size_words(mote.options)]) for mote in run.setup.motes]
-    told = [f"<p>It ended with: {html.escape(run.ended)}. Frames sent: {len(run.frames()):,}; lost: {len(run.lost()):,}; without room in "
-            f"flight: {len(run.full()):,}.</p>", "<h2>Motes</h2><ol>"]
-    told += [*(f"<li><code>{html.escape(mote)}</code></li>" for mote in motes), "</ol><h2>Links</h2>"]
-    told += [f"<pre>{html.escape(''.join(f'{link}{chr(10)}' for link in run.setup.links))}</pre>"]
-    return _page(run, title, f"A network of {len(motes)} mote{'' if len(motes) == 1 else 's'}", told,
+    parts = [f"<p>It ended with: {html.escape(run.ended)}. Frames sent: {len(run.frames()):,}; lost: {len(run.lost()):,}; without room in "
+             f"flight: {len(run.full()):,}.</p>", "<h2>Motes</h2><ol>"]
+    parts += [*(f"<li><code>{html.escape(mote)}</code></li>" for mote in motes), "</ol><h2>Links</h2>"]
+    parts += [f"<pre>{html.escape(''.join(f'{link}{chr(10)}' for link in run.setup.links))}</pre>"]
+    return _page(run, title, f"A network of {len(motes)} mote{'' if len(motes) == 1 else 's'}", parts,
                  "".join(f"{line}\n" for line in run.inputs))
 
 
-def _page(run: Run | NetworkRun, title: str, name: str, told: list[str], script: str) -> str:
+def _page(run: Run | NetworkRun, title: str, name: str, parts: list[str], script: str) -> str:
     """A page with what was run, the script, the picture and the transcript."""
     if not isinstance(title, str):
         raise WrongType(f"a page's title must be a str, not {type(title).__name__}")
@@ -216,7 +216,7 @@ def _page(run: Run | NetworkRun, title: str, name: str, told: list[str], script:
     except NoPicture as fault:
         picture = f"<p>There is no picture: {html.escape(str(fault))}</p>"
     head = html.escape(shown(title) or name)
-    told = [*told, "<h2>Script</h2>", f"<pre>{html.escape(shown(script))}</pre>", "<h2>Picture</h2>", picture,
-            f"<h2>Transcript</h2><table>{_HEAD}", *_rows(run.transcript), "</table>"]
+    parts = [*parts, "<h2>Script</h2>", f"<pre>{html.escape(shown(script))}</pre>", "<h2>Picture</h2>", picture,
+             f"<h2>Transcript</h2><table>{_HEAD}", *_rows(run.transcript), "</table>"]
     return (f"<!DOCTYPE html>\n<html lang=en><head><meta charset=utf-8><title>{head}</title><style>{_STYLE}</style></head>\n"
-            f"<body><h1>{head}</h1>\n" + "\n".join(told) + "\n</body></html>\n")
+            f"<body><h1>{head}</h1>\n" + "\n".join(parts) + "\n</body></html>\n")

@@ -86,7 +86,7 @@ PROCESS_THREAD(bounds, ev, data)
   stimer_restart(&seconds);
   printf("%lu %d %lu\n", seconds.start, stimer_expired(&seconds), stimer_remaining(&seconds));
 
-  /* A process that ends, and one that is ended: its event timers don't run out, and are set as far as their structs tell. */
+  /* A process that ends, and one that is ended: its event timers don't run out, and are set as far as their structs say. */
   process_post_synch(&neighbour, PROCESS_EVENT_MSG, NULL);
   printf("%d %lu\n", etimer_pending(), etimer_next_expiration_time());
   process_post_synch(&neighbour, PROCESS_EVENT_CONTINUE, NULL);

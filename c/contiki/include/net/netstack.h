@@ -19,8 +19,8 @@ struct network_driver {
 extern const struct network_driver nullnet_driver;
 #define NETSTACK_NETWORK nullnet_driver
 
-/* The radio. It is on from the start. While it is off, frames that arrive are dropped; sending works all the same. In a program that names it,
- * ENERGEST_TYPE_LISTEN is on while the radio is. */
+/* The radio. It is on from the start. While it is off, frames that arrive are dropped; sending works all the same. In a program that names
+ * it, ENERGEST_TYPE_LISTEN is on while the radio is. */
 struct radio_driver {
   /* Both return 1. */
   int (*on)(void);

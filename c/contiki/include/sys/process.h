@@ -106,8 +106,8 @@ struct process_entry {
 extern struct process *process_current;
 #define PROCESS_CURRENT() process_current
 
-/* The processes of the program that run, the one that was started last first. Those of the kernel aren't in this list, nor is one that ends,
- * from when the others receive EXITED. */
+/* The processes of the program that run, the one that was started last first. Those of the kernel aren't in this list, nor is one that
+ * ends, from when the others receive EXITED. */
 extern struct process *process_list;
 #define PROCESS_LIST() process_list
 

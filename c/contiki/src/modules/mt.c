@@ -49,8 +49,8 @@ mt_remove(void)
 {
 }
 
-/* Goes on with another context. The present one continues here once it is gone on with. This isn't swapcontext, of which the address sanitizer
- * warns that it can't follow it. */
+/* Goes on with another context. The present one continues here once it is gone on with. This isn't swapcontext, of which the address
+ * sanitizer warns that it can't follow it. */
 static void
 go_on_with(ucontext_t *present, const ucontext_t *next)
 {

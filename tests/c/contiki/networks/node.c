@@ -1,4 +1,5 @@
-/* Prints who it is, and whatever frame it is given. A line has it send: to itself, to mote 2, to all, by a NULL, or under another address. */
+/* Prints who it is, and whatever frame it is given. A line has it send: to itself, to mote 2, to all, by a NULL, or under another
+ * address. */
 #include "contiki.h"
 #include "contiki-net.h"
 #include "sys/node-id.h"
