@@ -160,7 +160,7 @@ class Crate:
         """The times of all files that a check reads: they tell whether one was changed meanwhile."""
         libraries = (Path(it.rlib) / "format" for it in self.crate.below())
         parts = (path for part in self.rt.PARTS for path in sorted((self.folder / part).rglob("*")))
-        return [(str(path), path.stat().st_ctime_ns) for path in (*self.paths, *parts, *libraries)]
+        return [(str(path), path.stat().st_ctime_ns) for path in (*self.paths, *parts, *libraries) if path.is_file()]
 
     def try_all(self, pool: Executor) -> list[Result]:
         """Tries all edits, the rounds side by side as far as the pool allows."""
@@ -285,11 +285,11 @@ class Kept:
             pass
         return None
 
-    def keep(self, crate: Crate, results: list[Result]) -> None:
-        """Stores the results, if all were refused."""
+    def keep(self, crate: Crate, name: str, results: list[Result]) -> None:
+        """Stores the results under the hash that the crate had before, if all were refused."""
         if self.folder is None or any(it.kind != Kind.REFUSED for it in results):
             return
-        text = json.dumps({"sum": crate.sum(), "refused": [(it.edit, it.why) for it in results]})
+        text = json.dumps({"sum": name, "refused": [(it.edit, it.why) for it in results]})
         with contextlib.suppress(OSError):
             self.folder.mkdir(exist_ok=True)
             new = self.folder / f"{crate.name}.{os.getpid()}.new"
@@ -302,8 +302,8 @@ def try_crate(crate: Crate, kept: Kept, pool: Executor) -> tuple[list[Result], b
     known = kept.results_of(crate)
     if known is not None:
         return known, True
-    before, _ = crate.touched(), crate.sum()
+    name, before = crate.sum(), crate.touched()
     results = crate.try_all(pool)
     if crate.touched() == before:
-        kept.keep(crate, results)
+        kept.keep(crate, name, results)
     return results, False

@@ -156,7 +156,8 @@ def test_library_below(wrong: Wrong) -> None:
     """A library below that isn't built is built first. Where it can't be, nothing is tried over it."""
     wrong.tree.source("high").write_text(FIRST, encoding="utf-8")
     write_edit(wrong.tree.crate("high") / "must-fail", "two_is_wrong", *EDITS["two_is_wrong"])
-    assert wrong("high")[0] == "1 passed, 0 failed" and "high" in wrong.checks()
+    assert wrong("high")[0] == "1 passed, 0 failed" and wrong.checks() == ["high: two"]
+    assert (wrong.tree.crate("low") / "out/rlib/stamp").exists()
     assert wrong("high", FAILS="high")[:2] == ["0 passed, 1 failed", "high: a library below it can't be built, so its edits aren't tried"]
 
 
