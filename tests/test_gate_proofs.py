@@ -81,7 +81,8 @@ def test_built_beside_it(tree: Tree) -> None:
     """A library that was built in the tree while `rt ci` ran on a copy stays, and none is taken."""
     kit = Path(succeed("rt", "doc").stdout.decode().strip()).parent
     stamp = "import sys, rtlib; print(next(it for it in rtlib.crates_below(sys.argv[1]) if it.name == 'low').stamp(), end='')"
-    build = f'mkdir -p crates/low/out/rlib/low.rlib && PYTHONPATH={kit}/bin {sys.executable} -Bc "{stamp}" "$PWD" >crates/low/out/rlib/stamp'
+    command = f'PYTHONPATH={kit}/bin {sys.executable} -Bc "{stamp}" "$PWD" >crates/low/out/rlib/stamp'
+    build = f"mkdir -p crates/low/out/rlib/low.rlib && {command}"
     assert prove_all(tree, MEANWHILE=build)[-2:] == takes(0, 2)
     assert built(tree) == ["low"] and tree.runs_proved()
 
