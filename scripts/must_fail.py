@@ -31,6 +31,7 @@ OWN_FAULT = re.compile(r"not proved(?!; it calls)|no proof: expected answers")
 # A line that places a fault, and one of a proof file that only lacks a name: that says nothing of a contract.
 PLACED = re.compile(r"(?:note: )?(?:\./)?(\S+?):(\d+):\d+: ")
 LACKS_NAME = re.compile(r"(?:note: )?(?:\./)?proofs/.*(?:has no field|is not in scope|has no `|was not admitted)")
+ONLY_NAMES = "only since a proof file names what it took away, which says little of the contract"
 # A text that antt can't read, where one that is only false reads well.
 UNREAD = re.compile(r"is not in scope|has no field|is no name|operand is missing|expected the end|cannot continue")
 
@@ -207,7 +208,7 @@ class Crate:
             told = [line for line in lines if is_about(function, line)]
             told = told or [line for line in lines if is_alone and PLACED.match(line)]
             if told and all(LACKS_NAME.match(line) for line in told):
-                return self._result(edit, Kind.BAD, f"a proof file names what it took away, so no contract refuses it: {told[0]}")
+                return self._result(edit, Kind.REFUSED, f"{ONLY_NAMES}: {told[0]}")
             faults = [line for line in told if not LACKS_NAME.match(line)]
             return self._result(edit, Kind.REFUSED, f"{function.path}: {faults[0] if faults else said}")
         return None
@@ -224,7 +225,7 @@ class Crate:
             return self._result(edit, Kind.UNSURE, f"its check ended with status {status}: {lines[-1]}")
         told = [line for line in lines if PLACED.match(line) and (": error" in line or line.startswith("note: "))]
         if told and all(LACKS_NAME.match(line) for line in told):
-            return self._result(edit, Kind.BAD, f"a proof file names what it took away, so no contract refuses it: {told[0]}")
+            return self._result(edit, Kind.REFUSED, f"{ONLY_NAMES}: {told[0]}")
         return self._result(edit, Kind.REFUSED, next((line for line in told if not LACKS_NAME.match(line)), "it isn't proved"))
 
     def _result(self, edit: Edit, kind: Kind, why: str) -> Result:

@@ -91,8 +91,8 @@ def test_callee_is_edited_too(wrong: Wrong) -> None:
 @pytest.mark.parametrize(("new", "told", "checks"), [
     ("right", "NOT REFUSED: the crate is still proved with it", ["all", "four", "four two"]),
     ("hidden", f"refused: note: src/lib.rt:6:1: {ONE}", ["all", "four", "four two"]),
-    ("nameless", "BAD EDIT: a proof file names what it took away, so no contract refuses it: ./proofs/four/Answers.antt:3:5: error: "
-     "`returns`: `c.gone` is not in scope", ["four two"]),
+    ("nameless", "refused: only since a proof file names what it took away, which says little of the contract: "
+     "./proofs/four/Answers.antt:3:5: error: `returns`: `c.gone` is not in scope", ["four two"]),
     ("nonsense", "BAD EDIT: its text can't be compiled or read: error[E0308]: mismatched types", ["all", "four", "four two", "two"]),
     ("endless", "NOT TRIED: its check ended with status -9: ", ["all", "four", "four two", "two"]),
 ], ids=lambda value: value if isinstance(value, str) and " " not in value else "")
