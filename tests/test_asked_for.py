@@ -61,7 +61,7 @@ def test_test(what: str, file: str, texts: list[str]) -> None:
 
 @pytest.mark.parametrize(("what", "edits"), ASKED_FOR["wrong bodies"])
 def test_wrong_body(what: str, edits: list[str]) -> None:
-    """An edit in must-fail/ of its crate, which `rt ci` tries and the check must refuse. What it changes is in the source."""
+    """An edit in must-fail/ of its crate, which the gate tries and the check must refuse. What it changes is in the source."""
     for edit in edits:
         crate, _, name = edit.partition("/")
         lines = (CRATES / crate / "must-fail" / f"{name}.edit").read_text(encoding="utf-8").splitlines()

@@ -98,7 +98,7 @@ def test_order(gate: Gate) -> None:
 
 def test_help(gate: Gate) -> None:
     names = re.findall(r"^  (\w+)  +(\S.*)$", "\n".join(gate("--help")[1]).partition("Names:\n")[2], re.M)
-    assert names == [("proofs", "Every proof from nothing, the must-fail edits, tests and programs, by `rt ci`."),
+    assert names == [("proofs", "Every proof from nothing, tests and programs, by `rt ci`; the wrong bodies."),
                      ("first", "The first tests."), ("first_more", "More of the first."), ("second", "The second test.")]
     assert not gate.begun()
 

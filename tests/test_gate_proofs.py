@@ -26,8 +26,13 @@ def built(tree: Tree) -> list[str]:
 
 
 def prove_all(tree: Tree, **settings: str) -> list[str]:
-    tree.run("tests/proofs", stdin=b"", cwd=None, **settings)
+    """The lines of a run: `rt ci` on a copy, or with TOARMUTS_EDITS=rt in the tree."""
+    tree.run("tests/proofs", stdin=b"", cwd=None, **{"TOARMUTS_EDITS": "", "TOP": str(tree.root), **settings})
+    assert not list((tree.root / ".git").glob("proofs-*"))
     return tree.stdout.splitlines()
+
+
+in_both = pytest.mark.parametrize("edits", ["", "rt"], ids=["on a copy", "in the tree"])
 
 
 def takes(libraries: int, programs: int) -> list[str]:
@@ -35,46 +40,58 @@ def takes(libraries: int, programs: int) -> list[str]:
     return [f"tests/proofs: ./prove takes {libraries} libraries and {programs} programs of this as proved", LAST]
 
 
-def test_all_is_taken(tree: Tree) -> None:
+@in_both
+def test_all_is_taken(tree: Tree, edits: str) -> None:
     """What `rt ci` proved is taken as proved, until a source is edited."""
-    assert prove_all(tree)[-2:] == takes(3, 2) and tree.ran.returncode == 0
+    assert prove_all(tree, TOARMUTS_EDITS=edits)[-2:] == takes(3, 2) and tree.ran.returncode == 0
     assert built(tree) == ["beside", "low", "high"]
     assert tree.runs_proved()
     assert tree.run("prove", "--is-current", "scenario").returncode == 0
     assert tree.run("prove", "--is-current", "toarmuts").returncode == 1
-    assert prove_all(tree)[-2:] == takes(0, 2) and built(tree) == ["beside", "low", "high"]
+    assert prove_all(tree, TOARMUTS_EDITS=edits)[-2:] == takes(0, 2) and built(tree) == ["beside", "low", "high"]
     tree.edit("low")
     assert tree.runs_unproved() and built(tree) == ["beside"]
     # What is left of other sources doesn't come in the place of what was proved.
     shutil.rmtree(tree.crate("beside") / "out")
-    assert prove_all(tree)[-2:] == takes(3, 2)
+    assert prove_all(tree, TOARMUTS_EDITS=edits)[-2:] == takes(3, 2)
     assert (tree.crate("low") / "out/rlib/low.rlib/lib.rt").read_bytes() == tree.source("low").read_bytes()
     assert built(tree) == ["beside", "low", "high"]
 
 
+@in_both
 @pytest.mark.parametrize("meanwhile", [
     'echo "// more" >>crates/low/src/lib.rt',
     'sed -i "s/fn/gn/" crates/low/src/lib.rt && sed -i "s/gn/fn/" crates/low/src/lib.rt',
     "touch crates/high/src/other.rt && rm crates/high/src/other.rt",
     "cp -p crates.txt kept && echo more: >>crates.txt && mv kept crates.txt",
 ], ids=["edited", "edited back", "added and taken away", "another list"])
-def test_touched_meanwhile(tree: Tree, meanwhile: str) -> None:
+def test_touched_meanwhile(tree: Tree, meanwhile: str, edits: str) -> None:
     """Where a source was touched meanwhile, nothing is taken as proved."""
     touched = "tests/proofs: a source was touched meanwhile, so ./prove takes nothing of this as proved"
-    assert prove_all(tree, MEANWHILE=meanwhile)[-2:] == [touched, LAST]
+    assert prove_all(tree, MEANWHILE=meanwhile, TOARMUTS_EDITS=edits)[-2:] == [touched, LAST]
     assert tree.ran.returncode == 0 and not built(tree) and not (tree.crate("mote") / "out/proved").exists()
 
 
 def test_built_after_it(tree: Tree) -> None:
     """Where a library was built over others, none is taken."""
-    assert prove_all(tree, BEHIND="touch crates/low/out/rlib/stamp")[-2:] == takes(0, 2)
+    assert prove_all(tree, BEHIND="touch crates/low/out/rlib/stamp", TOARMUTS_EDITS="rt")[-2:] == takes(0, 2)
+
+
+def test_built_beside_it(tree: Tree) -> None:
+    """A library that was built in the tree while `rt ci` ran on a copy stays, and none is taken."""
+    kit = Path(succeed("rt", "doc").stdout.decode().strip()).parent
+    stamp = "import sys, rtlib; print(next(it for it in rtlib.crates_below(sys.argv[1]) if it.name == 'low').stamp(), end='')"
+    command = f'PYTHONPATH={kit}/bin {sys.executable} -Bc "{stamp}" "$PWD" >crates/low/out/rlib/stamp'
+    build = f"mkdir -p crates/low/out/rlib/low.rlib && {command}"
+    assert prove_all(tree, MEANWHILE=build)[-2:] == takes(0, 2)
+    assert built(tree) == ["low"] and tree.runs_proved()
 
 
 @pytest.mark.parametrize(("wish", "told"), [("3", "jobs 3"), ("0", r"jobs [1-9]\d*"), ("", r"jobs [1-9]\d*")])
 def test_jobs_of_rt_ci(tree: Tree, wish: str, told: str) -> None:
     """`rt ci` gets a number of jobs: that of RT_JOBS, or one that suits the machine."""
     lines = prove_all(tree, RT_JOBS=wish)
-    assert re.fullmatch(told, lines[0]), lines
+    assert [line for line in lines if re.fullmatch(told, line)], lines
 
 
 def test_list_that_rt_refuses(tree: Tree) -> None:
@@ -85,13 +102,14 @@ def test_list_that_rt_refuses(tree: Tree) -> None:
     assert not (tree.crate("mote") / "out/proved").exists()
 
 
-def test_notes_of_programs(tree: Tree) -> None:
+@in_both
+def test_notes_of_programs(tree: Tree, edits: str) -> None:
     """What `rt ci` notes of a program, and soon removes, is copied beside it with a name of its sources. Nothing is left elsewhere."""
     room = tree.room / "temporary"
     room.mkdir()
     removed = 'until compgen -G "$TMPDIR/proofs-*/mote" && compgen -G "$TMPDIR/proofs-*/scenario"; do sleep 0.05; done >/dev/null; '
     removed += 'rm -r "$TMPDIR"/rt-proved-*'
-    assert prove_all(tree, MEANWHILE=removed, TMPDIR=str(room))[-2:] == takes(3, 2) and not list(room.iterdir())
+    assert prove_all(tree, MEANWHILE=removed, TMPDIR=str(room), TOARMUTS_EDITS=edits)[-2:] == takes(3, 2) and not list(room.iterdir())
     for name in ("mote", "scenario"):
         note = tree.crate(name) / "out/checked"
         assert [(it.name, it.read_text(encoding="utf-8")) for it in note.iterdir()] == [("inputs", f"crate {name} program\n")]
@@ -100,7 +118,8 @@ def test_notes_of_programs(tree: Tree) -> None:
     assert not (tree.crate("low") / "out/checked").exists()
 
 
-def test_failure(tree: Tree) -> None:
+@in_both
+def test_failure(tree: Tree, edits: str) -> None:
     """What fails isn't taken as proved, and its last line and status are those of `rt ci`."""
-    assert prove_all(tree, FAULTS="1")[-1] == "7 passed, 1 failed" and tree.ran.returncode == 1
+    assert prove_all(tree, FAULTS="1", TOARMUTS_EDITS=edits)[-1] == "7 passed, 1 failed" and tree.ran.returncode == 1
     assert not built(tree) and not (tree.crate("mote") / "out/proved").exists() and not (tree.crate("mote") / "out/checked").exists()

@@ -235,13 +235,24 @@ def test_malformed_file(folder: Folder, text: str, reason: str) -> None:
     assert folder("bad") == (2, "", f"scenario: bad: {reason}")
 
 
-@pytest.mark.parametrize(("words", "told"), [(["end", "none"], "none: no such file"), (["bytes"], "bytes: not text"),
+@pytest.mark.parametrize(("words", "told"), [(["end", "none"], "none: no such file"), (["bytes"], "bytes: line 1: not text"),
                                              (["."], ".: a folder")])
 def test_file_that_cannot_be_read(folder: Folder, words: list[str], told: str) -> None:
     """Files that can't be read, beside one that can: nothing is run."""
     folder.write("end", "tick 1\n")
     folder.write("bytes", b"\377\n")
     assert folder(*words) == (2, "", f"scenario: {told}")
+
+
+@pytest.mark.parametrize(("text", "line"), [
+    (b"tick 1\n\ntick \377\n", 3), (b"\n\n\n\300\200\n\377\n", 4), (b"tick 1\ntext \303", 2), (b"tick 1\n# \355\240\200\ntock\n", 2),
+    (b"# " + b"\303\244" * 200 + b"\n" * 1_000 + b"# \303\244\303", 1_001), (b"tick 1\n\303\n\244\n", 2),
+], ids=["a byte that is none", "an overlong one", "the end within a letter", "a surrogate", "far below", "a letter over two lines"])
+def test_file_that_is_not_text(folder: Folder, text: bytes, line: int) -> None:
+    """The first line with a byte that is no UTF-8 is named, also where an earlier one is malformed."""
+    for above in (b"", b"tock\n"):
+        folder.write("bytes", above + text)
+        assert folder("bytes") == (2, "", f"scenario: bytes: line {line + len(above) // 5}: not text")
 
 
 # ---- Transcripts that are put in their places ----

@@ -40,9 +40,37 @@ struct Count {
 fn reason(kind: io::ErrorKind) -> &'static str {
     match kind {
         io::ErrorKind::NotFound => "no such file",
-        io::ErrorKind::InvalidData => "not text",
         io::ErrorKind::IsADirectory => "a folder",
         _ => "it can't be read",
+    }
+}
+
+/// The number of the line in which a byte is.
+fn line_at(bytes: &[u8], place: usize) -> u64 {
+    let mut line = 1u64;
+    for byte in bytes.iter().take(place) {
+        line = line.saturating_add(u64::from(*byte == b'\n'));
+    }
+    line
+}
+
+/// The text of the file of this path, or nothing where it can't be read or isn't UTF-8: the reason is reported on standard error.
+fn text_at<R: AllocGlobal + Files + Eprint>(rt: &R, path: &str) -> io::Result<Option<String>> {
+    let bytes = match fs::read(rt, path) {
+        Ok(bytes) => bytes,
+        Err(error) if error.kind() == io::ErrorKind::OutOfMemory => return Err(error),
+        Err(error) => {
+            let _ = eprintln!(rt; "scenario: {path}: {}", reason(error.kind()));
+            return Ok(None);
+        }
+    };
+    match String::from_utf8(bytes) {
+        Ok(text) => Ok(Some(text)),
+        Err(error) => {
+            let line = line_at(error.as_bytes(), error.utf8_error().valid_up_to());
+            let _ = eprintln!(rt; "scenario: {path}: line {line}: not text");
+            Ok(None)
+        }
     }
 }
 
@@ -52,17 +80,11 @@ impl<'a> ScenarioFile<'a> {
         rt: &R,
         path: &'a str,
     ) -> io::Result<Option<Self>> {
-        match fs::read_to_string(rt, path) {
-            Ok(text) => {
-                let plain = plain_text(rt.alloc(), text.as_str())?;
-                Ok(Some(ScenarioFile { path, text, plain }))
-            }
-            Err(error) if error.kind() == io::ErrorKind::OutOfMemory => Err(error),
-            Err(error) => {
-                let _ = eprintln!(rt; "scenario: {path}: {}", reason(error.kind()));
-                Ok(None)
-            }
-        }
+        let Some(text) = text_at(rt, path)? else {
+            return Ok(None);
+        };
+        let plain = plain_text(rt.alloc(), text.as_str())?;
+        Ok(Some(ScenarioFile { path, text, plain }))
     }
 
     /// The parts of the file. A well-formed one has parts.
