@@ -2,7 +2,7 @@
 const MOST_LINES_DRAWN = 3000;
 const FRONT_DRAWN = `The first ${MOST_LINES_DRAWN.toLocaleString("en")} lines. Choose clocks to see others.`;
 const WHOLE_DRAWN = "Time goes down. Point at a row for its lines.";
-const CHART_DRAWN = "Time goes down. Each mote has a column; an arrow is a frame on its way.";
+const CHART_DRAWN = "Time goes down. An arrow is a frame on its way.";
 
 // The first lines of a transcript, up to a number: they are a transcript, too.
 function frontOf(transcript, most) {
