@@ -1,5 +1,6 @@
 """tests/proofs on a small tree of crates, with a stand-in for `rt ci`: what that proved counts as proved, for exactly these sources."""
 
+import os
 import re
 import shutil
 import sys
@@ -98,6 +99,45 @@ def test_notes_of_programs(tree: Tree) -> None:
         named = note.with_name("checked.sources").read_text(encoding="utf-8")
         assert named == (tree.crate(name) / "out/proved").read_text(encoding="utf-8").splitlines()[0]
     assert not (tree.crate("low") / "out/checked").exists()
+
+
+def test_notes_of_earlier_runs(tree: Tree) -> None:
+    """What `rt ci` proved in another checkout it takes from its own store, and notes nothing: then the note of the earlier run is taken,
+    if it is of the same sources, libraries and kit."""
+    room = tree.room / "temporary"
+    room.mkdir()
+    copied = 'until compgen -G "$TMPDIR/proofs-*/mote" && compgen -G "$TMPDIR/proofs-*/scenario"; do sleep 0.05; done >/dev/null; '
+    prove_all(tree, MEANWHILE=copied + 'rm -r "$TMPDIR"/rt-proved-*', TMPDIR=str(room))
+    note = tree.crate("mote") / "out/checked"
+    wanted = (note / "inputs").read_text(encoding="utf-8"), note.with_name("checked.sources").read_text(encoding="utf-8")
+
+    def prove_in_another(**settings: str) -> list[str]:
+        """The lines of the same in a new checkout, where `rt ci` notes nothing."""
+        for name in ("mote", "scenario", "low", "high", "beside"):
+            shutil.rmtree(tree.crate(name) / "out", ignore_errors=True)
+        return prove_all(tree, NOTES="none", TMPDIR=str(room), **settings)
+
+    assert prove_in_another()[-2:] == takes(3, 2)
+    assert ((note / "inputs").read_text(encoding="utf-8"), note.with_name("checked.sources").read_text(encoding="utf-8")) == wanted
+    lacking = [f"tests/proofs: rt ci noted nothing of {name}: what needs its module, as the web page, needs ./prove {name}"
+               for name in ("mote", "scenario")]
+    assert prove_in_another(KIT="another kit")[-4:-2] == lacking and not note.exists()
+    tree.edit("high")
+    assert prove_in_another()[-3] == lacking[0] and not note.exists() and (tree.crate("scenario") / "out/checked").exists()
+
+
+def test_notes_are_bounded(tree: Tree) -> None:
+    """The oldest notes go."""
+    stored, room = tree.bin / "toarmuts-notes", tree.room / "temporary"
+    for number in range(60):
+        (stored / f"old-{number:02}").mkdir(parents=True)
+        os.utime(stored / f"old-{number:02}", (number, number))
+    room.mkdir()
+    copied = 'until compgen -G "$TMPDIR/proofs-*/mote" && compgen -G "$TMPDIR/proofs-*/scenario"; do sleep 0.05; done >/dev/null'
+    prove_all(tree, MEANWHILE=copied, TMPDIR=str(room))
+    left = sorted(it.name for it in stored.iterdir())
+    assert len(left) == 40 and [it.split("-")[0] for it in left if not it.startswith("old-")] == ["mote", "scenario"]
+    assert left[-1].startswith("scenario") and "old-22" in left and "old-21" not in left
 
 
 def test_failure(tree: Tree) -> None:

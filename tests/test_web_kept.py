@@ -61,7 +61,8 @@ def test_each_change_is_kept(mote_page: Opened, change: str) -> None:
 def test_hand_is_kept(mote_page: Opened) -> None:
     """What was played becomes an experiment, and is kept as such."""
     set_fields(mote_page, "", "")
-    mote_page.ask("await click('tab-hand'); byId('call').value = 'print \"hi\"'; byId('ask').requestSubmit(); await idle(); await click('take');")
+    play = "byId('call').value = 'print \"hi\"'; byId('ask').requestSubmit(); await idle();"
+    mote_page.ask(f"await click('tab-hand'); {play} await click('take');")
     mote_page.reload()
     assert mote_page.ask("await idle(); return editors.applications.text;") == 'calls print "hi"\n'
 

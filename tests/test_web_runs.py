@@ -37,7 +37,7 @@ PROGRAM_RUNS = PROGRAM_CLASS + script("program_runs")
 
 def with_cases(body: str, cases: list[Any], program: str = "") -> str:
     """A script with its data before it: cases, and the module of a program, which has its name."""
-    module = {"mote_picture": "picture"}.get(program, program)
+    module = {"mote_picture": "picture", "network_picture": "chart"}.get(program, program)
     return f"const CASES = {json.dumps(cases)}, NAME = {json.dumps(program)}, PROGRAM = {json.dumps(module)};\n{body}"
 
 
@@ -114,6 +114,21 @@ def test_networks(mote_page: Opened, part: int) -> None:
     told = mote_page.ask(with_cases(PROGRAM_RUNS, given, "network"))
     assert differing(told, [outcome(native("network", it["words"], it["input"].encode())) for it in given], given) == []
     assert {status for status, _, _ in told} >= {0, 64}
+
+
+@of_each_part
+def test_charts(mote_page: Opened, part: int) -> None:
+    """Charts and captures of random networks are the native program's; so is what it refuses."""
+    options: list[list[str]] = [[], ["--from", "3", "--to", "20"], ["--pcap"], [], ["--from", "9", "--to", "3"]]
+    given: list[dict[str, Any]] = []
+    for place in range(NETWORKS):
+        text = drawn_network(FIRST_NETWORK + PARTS * place + part).script()
+        transcript = native("network", [], text.encode()).stdout.decode()
+        given.append({"words": options[place % len(options)], "file": None,
+                      "input": text * (place % 3 > 0) + transcript + "nonsense\n" * (place % 20 == 0)})
+    told = mote_page.ask(with_cases(PROGRAM_RUNS, given, "network_picture"))
+    assert differing(told, [outcome(native("network_picture", it["words"], it["input"].encode())) for it in given], given) == []
+    assert {status for status, _, _ in told} >= {0, 2, 64}
 
 
 def test_worked_networks(mote_page: Opened) -> None:
