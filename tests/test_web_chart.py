@@ -11,6 +11,8 @@ from tools import ROOT, program
 from web_page import Opened, in_chromium, set_fields, set_network
 
 pytestmark = in_chromium
+# The worked networks that run to their end, with all lines.
+PLAIN = [it for it in WORKED if how(it) == (0, [])]
 THREE = ROOT / "examples/networks/three.net"
 QUOTES = 'mote 1 calls print "hi\\n", post 4 MSG x"é"\nmote 2 echo\nlink 1 2 delay 1\n2 serial "ab\\n"\ntick 1\n'
 
@@ -36,7 +38,7 @@ def test_chart(mote_page: Opened) -> None:
         assert mote_page.ask("await idle(); return shown.chart;") == told[0]
 
 
-@pytest.mark.parametrize("script", [it for it in WORKED if how(it) == (0, [])], ids=lambda it: it.stem)
+@pytest.mark.parametrize("script", PLAIN, ids=[it.stem for it in PLAIN])
 def test_worked_charts(mote_page: Opened, script: Path) -> None:
     text = script.read_text(encoding="utf-8")
     mote_page.ask("await click('many-motes'); await click('tab-chart');")
@@ -129,4 +131,3 @@ def test_explained_texts(mote_page: Opened) -> None:
     assert "It calls print “on⏎” (print 6f6e0a). " in said
     said = mote_page.ask("view.choose(1); return byId('line-about').textContent;")
     assert "It calls post 4 140 x“hi” (post 4 140 x6869). " in said
-

@@ -53,7 +53,8 @@ def test_network_kept(mote_page: Opened) -> None:
 ], ids=["size", "quiet", "application", "input"])
 def test_each_change_is_kept(mote_page: Opened, change: str) -> None:
     set_fields(mote_page, "hello\n", "")
-    told = mote_page.ask(f"{change} await new Promise((done) => setTimeout(done, TYPING_PAUSE + 50)); await idle(); return readExperiment();")
+    settled = "await new Promise((done) => setTimeout(done, TYPING_PAUSE + 50)); await idle();"
+    told = mote_page.ask(f"{change} {settled} return readExperiment();")
     mote_page.reload()
     assert mote_page.ask("await idle(); return readExperiment();") == told
 
