@@ -110,6 +110,20 @@ def test_quotes_in_a_network(mote_page: Opened, tmp_path: Path) -> None:
     assert downloaded(mote_page, tmp_path / "fault", ["script.net"]) == [QUOTES + "tick x\n"]
 
 
+def test_long_line_of_a_network(mote_page: Opened) -> None:
+    set_network(mote_page, f"mote 1 relay\nmote 2 {'relay ' * 200}\n")
+    assert mote_page.ask("return byId('said').textContent;") == (
+        "Network, line 2: a line of a network's script has at most 1024 bytes. Nothing was run.")
+
+
+def test_fault_beside_a_mote_that_is_chosen(mote_page: Opened) -> None:
+    """A malformed line is reported, and not the mote that is chosen, which it would have set up."""
+    set_network(mote_page, "mote 1 relay\nmote 2 relya\n", only=2)
+    assert mote_page.ask("return byId('said').textContent;") == "Network, line 2: no application relya. Nothing was run."
+    set_network(mote_page, 'mote 1 calls print "a"\n', only=2)
+    assert mote_page.ask("return byId('said').textContent;") == "There is no mote 2: choose another one. Nothing was run."
+
+
 @pytest.mark.parametrize("applications, inputs, told", [
     ("blink\n", "tick 10\ntick 1x\ntick 5\n", "bad line 2"), ("blink\n", "text hi\nat 0\ntick 4294967296\n", "bad line 2"),
     ("rows\non any: wait\n", "tick 1\nserial 6\nnonsense", "bad line 2"), ("echo\n", "tock\n", "bad line 1"),

@@ -92,7 +92,8 @@ function plainScript(program, lines) {
   return { fault: fault(message, line > 1 ? "network" : null, Math.max(0, line - 1)) };
 }
 
-// Runs a script in which `network` found a malformed line: it takes no quotes and gives no reason, `scenario` does both.
+// Runs a script in which `network` found a malformed line, or not the mote that is chosen: it takes no quotes and gives no reason, while
+// `scenario` does both.
 function runAsScenario({ network, scenario }, experiment, found) {
   const lines = linesIn(experiment.network), asked = plainScript(scenario, lines);
   if (!asked.fault) return runScript(network, asked.script, experiment);
@@ -106,7 +107,7 @@ function runAsScenario({ network, scenario }, experiment, found) {
 // Runs a network, as runScript does; its script may have quotes, too.
 function runNetwork(programs, experiment) {
   const ran = runScript(programs.network, experiment.network, experiment);
-  return ran.end?.name === "BAD_LINE" ? runAsScenario(programs, experiment, ran) : ran;
+  return ran.fault?.editor ? runAsScenario(programs, experiment, ran) : ran;
 }
 
 // The clock of the network at each line.
