@@ -81,7 +81,7 @@ def test_mistakes_of_a_network(mote_page: Opened, network: str, line: int, words
     """A malformed line is marked, with the reason; the run up to there is shown."""
     set_network(mote_page, network)
     assert marks(mote_page) == [["network", line, words]]
-    told = mote_page.ask("return [byId('said').textContent, shown.run.lines.at(-1), byId('results').classList.contains('stale')];")
+    told = mote_page.ask("return [byId('said').textContent, shown.run?.lines.at(-1), byId('results').classList.contains('stale')];")
     is_started = "tick" in network
     assert told[0].startswith(f"Network, line {line}: {words.rstrip('.')}. ")
     assert told[1:] == [f"bad line {line}", False] if is_started else told[2]
