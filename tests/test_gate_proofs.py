@@ -26,13 +26,13 @@ def built(tree: Tree) -> list[str]:
 
 
 def prove_all(tree: Tree, **settings: str) -> list[str]:
-    """The lines of a run: `rt ci` on a copy, or with TOARMUTS_EDITS=rt in the tree."""
-    tree.run("tests/proofs", stdin=b"", cwd=None, **{"TOARMUTS_EDITS": "", "TOP": str(tree.root), **settings})
+    """The lines of a run: `rt ci` on a copy, or without TOARMUTS_EDITS in the tree."""
+    tree.run("tests/proofs", stdin=b"", cwd=None, **{"TOARMUTS_EDITS": "together", "TOP": str(tree.root), **settings})
     assert not list((tree.root / ".git").glob("proofs-*"))
     return tree.stdout.splitlines()
 
 
-in_both = pytest.mark.parametrize("edits", ["", "rt"], ids=["on a copy", "in the tree"])
+in_both = pytest.mark.parametrize("edits", ["together", ""], ids=["on a copy", "in the tree"])
 
 
 def takes(libraries: int, programs: int) -> list[str]:
@@ -74,7 +74,7 @@ def test_touched_meanwhile(tree: Tree, meanwhile: str, edits: str) -> None:
 
 def test_built_after_it(tree: Tree) -> None:
     """Where a library was built over others, none is taken."""
-    assert prove_all(tree, BEHIND="touch crates/low/out/rlib/stamp", TOARMUTS_EDITS="rt")[-2:] == takes(0, 2)
+    assert prove_all(tree, BEHIND="touch crates/low/out/rlib/stamp", TOARMUTS_EDITS="")[-2:] == takes(0, 2)
 
 
 def test_built_beside_it(tree: Tree) -> None:

@@ -11,7 +11,7 @@ import pytest
 from call_rules import RULES
 from devtools import Browser
 from tools import ROOT, cases, program
-from web_page import Opened, in_chromium, opened, script
+from web_page import Opened, in_chromium, opened, script, set_fields, set_network
 
 pytestmark = in_chromium
 EXAMPLES: list[dict[str, Any]] = json.loads((ROOT / "web/examples.json").read_text(encoding="utf-8"))
@@ -21,7 +21,7 @@ TAB, ENTER, SPACE = ("Tab", 9), ("Enter", 13), (" ", 32)
 CONTROL = 2
 # The roles, as Chromium calls them, whose elements must have a name.
 NAMED = {"button", "textbox", "combobox", "checkbox", "spinbutton", "tab", "tabpanel", "region", "Iframe", "progressbar",
-         "ComboBoxGrouping"}
+         "ComboBoxGrouping", "grid", "image", "splitter"}
 
 
 def transcripts_wanted() -> dict[str, str]:
@@ -32,14 +32,6 @@ def transcripts_wanted() -> dict[str, str]:
         lines = re.sub(r"^as (.*)\n", lambda told: (ROOT / told[1]).read_text(encoding="utf-8"), lines, flags=re.M)
         found[name] = re.sub(r"^(\d+) times (.*\n)", lambda told: told[2] * int(told[1]), lines, flags=re.M)
     return found
-
-
-def set_fields(it: Opened, applications: str = "", inputs: str = "", **sizes: Any) -> None:
-    it.ask(f"await showExperiment({json.dumps({'applications': applications, 'script': inputs, **sizes})}); await idle();")
-
-
-def set_network(it: Opened, network: str, only: int | None = None, quiet: bool = False) -> None:
-    it.ask(f"await showExperiment({json.dumps({'network': network, 'only': only, 'quiet': quiet})}); await idle();")
 
 
 def marks(it: Opened) -> list[Any]:
@@ -66,7 +58,7 @@ def test_examples_by_the_native_program(mote_page: Opened, tmp_path: Path) -> No
     for place, example in enumerate(EXAMPLES):
         if "network" in example["experiment"]:
             continue
-        text = mote_page.ask(f"await showExample({place}); await idle(); return scenarioFileOf(shown.experiment, shown.run.transcript);")
+        text = mote_page.ask(f"await showExample({place}); await idle(); return scenarioFileOf(shown.experiment, shown.run);")
         (tmp_path / "example").write_text(text, encoding="utf-8")
         ran = subprocess.run([program("scenario"), "example"], cwd=tmp_path, capture_output=True, text=True, check=False)
         assert (ran.returncode, ran.stdout, ran.stderr) == (0, "example: 1 of 1 runs as told\n", ""), example["name"]
@@ -86,12 +78,12 @@ def test_mistakes(mote_page: Opened, applications: str, inputs: str, editor: str
 
 @pytest.mark.parametrize("network, line, words", cases("web_network_mistakes"))
 def test_mistakes_of_a_network(mote_page: Opened, network: str, line: int, words: str) -> None:
-    """A malformed line is marked, with what to write; the run up to there is shown."""
+    """A malformed line is marked, with the reason; the run up to there is shown."""
     set_network(mote_page, network)
-    assert marks(mote_page) == [["network", line, f"This line is malformed: {words}"]]
-    told = mote_page.ask("return [byId('said').textContent, shown.run.lines.at(-1), byId('results').classList.contains('stale')];")
+    assert marks(mote_page) == [["network", line, words]]
+    told = mote_page.ask("return [byId('said').textContent, shown.run?.lines.at(-1), byId('results').classList.contains('stale')];")
     is_started = "tick" in network
-    assert told[0].startswith(f"Network, line {line}: This line is malformed: {words} ")
+    assert told[0].startswith(f"Network, line {line}: {words.rstrip('.')}. ")
     assert told[1:] == [f"bad line {line}", False] if is_started else told[2]
     set_network(mote_page, "mote 1 relay\n")
     assert marks(mote_page) == []
@@ -445,7 +437,8 @@ def test_keys(mote_page: Opened) -> None:
 
 def test_names_for_screen_readers(mote_page: Opened) -> None:
     """Each field, button, region and frame has a name, of a mote and of a network."""
-    for tab, kind in [*((tab, "one-mote") for tab in TABS), ("transcript", "many-motes"), ("picture", "many-motes")]:
+    of_network = [(tab, "many-motes") for tab in ("transcript", "chart", "picture")]
+    for tab, kind in [*((tab, "one-mote") for tab in TABS), *of_network]:
         mote_page.ask(f"await click('{kind}'); await click('tab-{tab}');")
         nodes = mote_page.page.call("Accessibility.getFullAXTree")["nodes"]
         named = [it for it in nodes if not it["ignored"] and it["role"]["value"] in NAMED]
@@ -461,7 +454,7 @@ def test_looks(browser: Browser, page_file: Path, width: int, is_dark: bool) -> 
             told = it.ask(f"const PANEL = '{tab}';\n{script('looks')}")
             assert told["over"] <= 0 and told["wide"] == [] and told["height"] >= 300 and told["width"] >= min(400, width - 20), (tab, told)
         it.ask(f"await showExample({len(EXAMPLES) - 1}); await idle();")
-        for tab in ("transcript", "picture", "explorer"):
+        for tab in ("transcript", "chart", "picture", "explorer"):
             told = it.ask(f"const PANEL = '{tab}';\n{script('looks')}")
             assert told["over"] <= 0 and told["wide"] == [] and told["height"] >= 300, (tab, told)
         assert it.ask(script("contrast")) == []

@@ -72,6 +72,8 @@ VALUES: list[tuple[str, Any]] = [
     ("optionsOf({ mmem: 64, heap: 4096, header: 16, quota: 16 })", ["--mmem", "64", "--quota", "16"]),
     ("scenarioText({ applications: 'hello\\ncalls wait', mmem: 64, heap: 4096, header: 16, quota: null, quiet: true,"
      " script: 'tick 1\\n# x\\ntext hi' })", "app hello\ncalls wait\nmmem 64\nquiet\ntick 1\nscript # x\ntext hi\n"),
+    ("scenarioText({ applications: 'hello', ...DEFAULT_SIZES, quiet: false, script: 'tick 1\\ntick x\\ntext hi\\n' }, 2)",
+     "app hello\ntick 1\nscript tick x\nscript text hi\n"),
     ("scenarioLines({ applications: '', ...DEFAULT_SIZES, quiet: false, script: 'tick 1\\n\\nwalk' })"
      ".map(({ editor, line }) => [editor, line])", [["script", 1], ["script", 2], ["script", 3]]),
     ("endOf(utf8.encode('x\\nbad line 12\\n'))", {"name": "BAD_LINE", "line": 12}),
@@ -94,15 +96,23 @@ VALUES: list[tuple[str, Any]] = [
     ("moteNumbered(motesIn('mote 1..3 hello'), 4).names", []),
     ("numberOfMotes(motesIn('mote 1..3 hello\\nmote 4 blink'))", 4),
     ("numberOfMotes(motesIn(''))", 0),
-    ("malformedLine('mote 1 hello\\nmote 3 hello', 2)", "the next mote has number 2."),
-    ("malformedLine('mote 1 hello\\nmote 2 none', 2)", "write names of applications and sizes, and last calls and a list of calls."),
-    ("malformedLine('mote 1 hello\\ntick 1\\nlink 1 1 delay 1', 3)", "motes, links and limits must be before the first input."),
-    ("malformedLine('mote 1 hello\\n1 serial 61\\nroom 1', 3)", "motes, links and limits must be before the first input."),
-    ("malformedLine('mote 1 hello\\n3 walk', 2)", "write 3 serial HEX or 3 frame HEX, for a mote that exists."),
-    ("malformedLine('tick x', 1)", "write tick N."),
-    ("malformedLine('room x', 1)", "write room N."),
-    ("malformedLine('ring 1..2 delay 1', 1)", "write ring N..M delay D, of motes in lines above."),
-    ("malformedLine('walk', 1)", "a line begins with mote, link, line, ring, mesh, grid, room, rounds, tick or the number of a mote."),
+    ("['3 walk', '12', 'walk', ''].map(formOfLine).map((words) => words.slice(0, 20))",
+     ["an input of a mote i", "an input of a mote i", "a line begins with m", "a line begins with m"]),
+    ("formOfLine('walk')", "a line begins with mote, link, line, ring, mesh, grid, room, rounds, tick or the number of a mote."),
+    ("['mote 1 x', 'tick 1', 'tick', '3 serial 61', '12 frame', 'walk', 'ats', ' ', '\\t'].every(isForScenario)", True),
+    ("['', '# x', '#', '= 5', '==', '3 walk', '12', '3 serials 61', '1 4 synch 129', 'lost 1 2', 'halt', 'bad line 3', 'at 5', '...',"
+     " 'script tick 1', 'times 3 tick 1', 'quiet', 'ends finished', 'network'].some(isForScenario)", False),
+    # What the program scenario says.
+    ("refusalOf({ status: 2, errors: utf8.encode('scenario: experiment: line 12: no call prnt\\n') })",
+     {"message": "no call prnt", "line": 12}),
+    ("refusalOf({ status: 2, errors: utf8.encode('scenario: experiment: line 2: tick 4294967296 is no line of a script\\n') })",
+     {"message": "tick 4294967296 is no line of a script: N is a number from 0 to 4,294,967,295, with no zero before it", "line": 2}),
+    ("refusalOf({ status: 2, errors: utf8.encode('scenario: experiment: line 2: 3 frame 0 is no line of a script\\n') }).message",
+     "3 frame 0 is no line of a script: HEX is two digits for each of 1 to 127 bytes"),
+    ("refusalOf({ status: 70, errors: utf8.encode('scenario: out of memory\\n') })",
+     {"message": "The mote ran out of memory.", "line": 0}),
+    ("refusalOf({ status: 2, errors: utf8.encode('scenario: experiment: not text\\n') })", {"message": "not text", "line": 0}),
+    ("refusalOf({ status: 9, errors: utf8.encode('') })", {"message": "The program scenario ended with 9.", "line": 0}),
     ("networkClocks(['1 > tick 1', '= 5', '2 halt', '= 70', 'lost 1 2'])", [0, 5, 5, 70, 70]),
     # A malformed line of an input's form starts the motes before it ends the run; one of the first lines doesn't.
     ("['3 serial 61', 'walk'].map((line) => runNetwork({ run: () => ({ status: 2, output: utf8.encode('bad line 2\\n') }) },"
@@ -136,6 +146,12 @@ VALUES: list[tuple[str, Any]] = [
     ("lineInWords('4 answer bytes - -> wait', []).split('. ')[0]", "Process 4 goes on: the reply to its call is no bytes"),
     ("lineInWords('4 answer num 5 -> wait', []).split('. ')[0]", "Process 4 goes on: the reply to its call is 5"),
     ("lineInWords('4 answer refused 3 -> wait', []).includes(REFUSALS.get(3))", True),
+    ("callInWords('print 6f6e0a').split('. ')[0]", "It calls print “on⏎” (print 6f6e0a)"),
+    ("callInWords('print -').split('. ')[0]", "It calls print -"),
+    ("callInWords('print 00').split('. ')[0]", "It calls print 00"),
+    ("callInWords('post 4 140 x6869').split('. ')[0]", "It calls post 4 140 x“hi” (post 4 140 x6869)"),
+    ("['post 4 140 x', 'post 4 140 7', 'kill 61'].map((call) => callInWords(call).split('. ')[0])",
+     ["It calls post 4 140 x", "It calls post 4 140 7", "It calls kill 61"]),
     ("networkLineInWords('= 5')", "The clock goes on to 5."),
     ("networkLineInWords('bad line 4')", "Line 4 of the script is malformed: the run ends here."),
     # Repeated lines.
@@ -155,8 +171,13 @@ VALUES: list[tuple[str, Any]] = [
     ("outcomeInWords({ end: { name: 'HALTED' }, lines: ['a'], took: 5, rows: null })", "The mote halted: 1 line in 5.0 ms."),
     ("outcomeInWords({ end: { name: 'FINISHED' }, lines: ['a', 'b'], took: 5, rows: [] })",
      "The script was run to its end: 2 lines in 5.0 ms, repeated lines folded."),
+    ("outcomeInWords({ end: { name: 'FINISHED' }, lines: ['a', 'b'], took: 5, rows: ['a', 'b'] })",
+     "The script was run to its end: 2 lines in 5.0 ms."),
+    ("[4, 1005, 18000].map((waited) => outcomeInWords({ end: { name: 'FINISHED' }, lines: ['a'], took: 5, waited, rows: null }))",
+     ["The script was run to its end: 1 line in 5.0 ms.", "The script was run to its end: 1 line in 5.0 ms.",
+      "The script was run to its end: 1 line in 5.0 ms, shown after 18.0 s."]),
     ("[faultInWords({ message: 'm', editor: 'script', line: 3 }), faultInWords({ message: 'm', editor: 'network', line: 4 }),"
-     " faultInWords({ message: 'm', editor: 'quota', line: 1 })]", ["Inputs, line 3: m", "Network, line 4: m", "m"]),
+     " faultInWords({ message: 'm.', editor: 'quota', line: 1 })]", ["Inputs, line 3: m.", "Network, line 4: m.", "m."]),
     # Links.
     ("[null, 5, {}, { network: '', quiet: false }, { network: '', quiet: false, only: null }, { network: '', quiet: false, only: 3 },"
      " { network: 5, quiet: false, only: null }, { applications: '', script: '', ...DEFAULT_SIZES, quiet: false },"
@@ -166,6 +187,9 @@ VALUES: list[tuple[str, Any]] = [
     ("await experimentOf(await linkOf({ network: 'mote 1 ✓', quiet: true, only: 2 }))", {"network": "mote 1 ✓", "quiet": True, "only": 2}),
     ("await experimentOf('#e=AAAA')", "The link is incomplete: it holds no experiment."),
     ("await experimentOf(await linkOf({ network: 5 }))", "The link holds no experiment of this page."),
+    ("(await linkOf({ network: 'a'.repeat(2 ** 25), quiet: true, only: null })).length < 100000", True),
+    ("await experimentOf(await linkOf({ network: 'a'.repeat(2 ** 24), quiet: true, only: null }))", "The link holds more than 16 MB."),
+    ("(await experimentOf(await linkOf({ network: 'a'.repeat(2 ** 24 - 60), quiet: true, only: null }))).network.length", 2 ** 24 - 60),
 ]
 
 

@@ -3,6 +3,7 @@
 import base64
 import hashlib
 import json
+import random
 import subprocess
 from pathlib import Path
 from typing import Any
@@ -30,6 +31,12 @@ of_each_part = pytest.mark.parametrize("part", range(PARTS))
 # The page itself leaves programs to its worker.
 PROGRAM_CLASS = (ROOT / "web/js/program.js").read_text(encoding="utf-8")
 
+# Lines of a network's script, well-formed ones and others; also what files of scenarios take for something else.
+LINES = ["mote 1 relay", "mote 2 echo", "mote 2 calls print 00", "link 1 2 delay 1", "link 1 2 delay 0", "line 1..2 delay 2 every 2",
+         "room 5", "rounds x", "tick 5", "tick 5", "tick x", "1 frame 00", "1 serial 610a", "3 walk", "# c", "", "at 5", "quiet", "walk",
+         "1 4 synch 129 - -> wait", "= 3", "halt", " mote 1", "mote 1 relay ", "times 2 tick 1", "script tick 1", "last tick 1",
+         "ends finished", "...", "== x", "network", "app hello", "text hi", "mmem 64", "9 frame 00", "1 frame 0", "tick 4294967296"]
+
 LIBRARY_RUNS = script("library_runs")
 PLAYED_RUNS = script("played_runs")
 PROGRAM_RUNS = PROGRAM_CLASS + script("program_runs")
@@ -37,7 +44,7 @@ PROGRAM_RUNS = PROGRAM_CLASS + script("program_runs")
 
 def with_cases(body: str, cases: list[Any], program: str = "") -> str:
     """A script with its data before it: cases, and the module of a program, which has its name."""
-    module = {"mote_picture": "picture"}.get(program, program)
+    module = {"mote_picture": "picture", "network_picture": "chart"}.get(program, program)
     return f"const CASES = {json.dumps(cases)}, NAME = {json.dumps(program)}, PROGRAM = {json.dumps(module)};\n{body}"
 
 
@@ -114,6 +121,33 @@ def test_networks(mote_page: Opened, part: int) -> None:
     told = mote_page.ask(with_cases(PROGRAM_RUNS, given, "network"))
     assert differing(told, [outcome(native("network", it["words"], it["input"].encode())) for it in given], given) == []
     assert {status for status, _, _ in told} >= {0, 64}
+
+
+@of_each_part
+def test_charts(mote_page: Opened, part: int) -> None:
+    """Charts and captures of random networks are the native program's; so is what it refuses."""
+    options: list[list[str]] = [[], ["--from", "3", "--to", "20"], ["--pcap"], [], ["--from", "9", "--to", "3"]]
+    given: list[dict[str, Any]] = []
+    for place in range(NETWORKS):
+        text = drawn_network(FIRST_NETWORK + PARTS * place + part).script()
+        transcript = native("network", [], text.encode()).stdout.decode()
+        given.append({"words": options[place % len(options)], "file": None,
+                      "input": text * (place % 3 > 0) + transcript + "nonsense\n" * (place % 20 == 0)})
+    told = mote_page.ask(with_cases(PROGRAM_RUNS, given, "network_picture"))
+    assert differing(told, [outcome(native("network_picture", it["words"], it["input"].encode())) for it in given], given) == []
+    assert {status for status, _, _ in told} >= {0, 2, 64}
+
+
+def test_malformed_networks(mote_page: Opened) -> None:
+    """The page has a reason at the line that the native program finds malformed, whatever stands above and below it."""
+    drawn = random.Random(400)
+    scripts = ["mote 1 relay\n" + "".join(f"{drawn.choice(LINES)}\n" for _ in range(drawn.randint(1, 5))) for _ in range(200)]
+    told = mote_page.ask(PROGRAM_CLASS + with_cases(script("network_faults"), scripts))
+    wanted: list[Any] = []
+    for it in scripts:
+        ran = native("network", [], it.encode())
+        wanted.append(["network", int(ran.stdout.split()[-1]), True] if ran.returncode == 2 else None)
+    assert differing(told, wanted, scripts) == [] and None in wanted
 
 
 def test_worked_networks(mote_page: Opened) -> None:

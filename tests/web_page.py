@@ -4,6 +4,7 @@ A page that a test has opened may ask for nothing outside, break no policy of it
 """
 
 import contextlib
+import json
 import os
 import re
 import subprocess
@@ -18,6 +19,7 @@ from tools import ROOT, once
 from web_cases import NativeLibrary
 
 in_chromium = pytest.mark.skipif(not chromium(), reason="no Chromium here (Debian: chromium)")
+IS_READY = "document.body?.dataset.isReady === 'yes'"
 OWN_ADDRESSES = ("blob:null/", "data:,", "about:")
 
 
@@ -59,12 +61,38 @@ class Opened(NamedTuple):
     def ask(self, body: str) -> Any:
         return self.page.ask(f"{HELPERS}\n{{\n{body}\n}}")
 
+    def reload(self) -> None:
+        """Loads the page again, as its reader may, and waits until it is ready."""
+        self.page.ask("globalThis.isOld = true;")
+        self.page.call("Page.reload")
+        self.page.wait_for(f"!globalThis.isOld && {IS_READY}")
+
+
+def set_fields(it: Opened, applications: str = "", inputs: str = "", **sizes: Any) -> None:
+    it.ask(f"await showExperiment({json.dumps({'applications': applications, 'script': inputs, **sizes})}); await idle();")
+
+
+def set_network(it: Opened, network: str, only: int | None = None, quiet: bool = False) -> None:
+    it.ask(f"await showExperiment({json.dumps({'network': network, 'only': only, 'quiet': quiet})}); await idle();")
+
+
+def type_into(it: Opened, editor: str, text: str) -> None:
+    """Types a text at the end of an editor, and waits until it has run."""
+    it.ask(f"editors.{editor}.focus(); editors.{editor}.code.setCursor(editors.{editor}.code.lastLine(), 999);")
+    it.page.insert(text)
+    it.page.wait_for(f"editors.{editor}.text.endsWith({json.dumps(text)})")
+    it.ask("await new Promise((done) => setTimeout(done, TYPING_PAUSE + 50)); await idle();")
+
 
 @contextlib.contextmanager
 def opened(browser: Browser, address: str, width: int = 1200, dark: bool = False, height: int = 900) -> Iterator[Opened]:
     page = browser.open(address, width, height, dark)
-    page.wait_for("document.body?.dataset.isReady === 'yes'")
-    yield Opened(page)
+    page.wait_for(IS_READY)
+    try:
+        yield Opened(page)
+    finally:
+        # What a page keeps, a later test would find.
+        page.ask("localStorage.clear();")
     own = (address.partition("#")[0], *OWN_ADDRESSES)
     outside, errors = [it for it in page.requests() if not it.startswith(own)], page.errors()
     page.close()

@@ -20,7 +20,7 @@ EDITOR_STYLES = ("lib/codemirror.css", "addon/hint/show-hint.css")
 
 # The files of web/js, in the order in which a script has them: those of the page, and those of its worker.
 PAGE_SCRIPTS = ("bytes", "memory", "library", "calls", "experiment", "network", "explain", "transcript_view", "runner", "editor", "fields",
-                "outcome", "link", "save", "tabs", "hand", "hand_view", "page")
+                "outcome", "link", "keep", "save", "tabs", "divider", "pictures", "hand", "hand_view", "page")
 WORKER_SCRIPTS = ("bytes", "memory", "library", "program", "experiment", "network", "folding", "worker")
 
 

@@ -1,6 +1,6 @@
-// An experiment { applications, script, mmem, heap, header, quota, quiet } and its run. The library runs names and lists. If an application
-// or a line of the script is malformed for it, the program `scenario` runs the experiment: it also reads rows, quotes and names of
-// events, and explains what is wrong.
+// An experiment { applications, script, mmem, heap, header, quota, quiet } and its run. The library runs names and lists. If there is a
+// row, or an application or a line of the script is malformed for the library, the program `scenario` runs the experiment: it also reads
+// rows, quotes and names of events, and explains what is wrong.
 const DEFAULT_SIZES = { mmem: 4096, heap: 4096, header: 16, quota: null };
 const SIZES = Object.keys(DEFAULT_SIZES);
 const FILE_NAME = "experiment";
@@ -35,20 +35,22 @@ const optionsOf = (experiment) => unusualSizes(experiment).flatMap((name) => [`-
 // The mote of an experiment, for a picture.
 const moteOf = (experiment) => ({ names: namesOf(experiment), options: optionsOf(experiment) });
 
-// The experiment as the lines of a scenario file, each with its position: { text, editor, line }.
-function scenarioLines(experiment) {
+// The experiment as the lines of a scenario file, each with its position: { text, editor, line }. From the malformed line of the script on,
+// which ends the run, the lines are taken as they are.
+function scenarioLines(experiment, malformed = Infinity) {
   const applications = linesIn(experiment.applications).map((text, place) => ({
     text: isNothing(text) || /^(app|calls|rows|on)\b/.test(text) ? text : `app ${text}`, editor: "applications", line: place + 1,
   }));
   const sizes = unusualSizes(experiment).map((name) => ({ text: `${name} ${experiment[name]}`, editor: name, line: 1 }));
   const quiet = experiment.quiet ? [{ text: "quiet", editor: "quiet", line: 1 }] : [];
+  const isRead = (text, line) => line < malformed && /^(tick|serial|frame|text|at|times|script|last)\b/.test(text);
   const script = linesIn(experiment.script).map((text, place) => ({
-    text: /^(tick|serial|frame|text|at|times|script|last)\b/.test(text) ? text : `script ${text}`, editor: "script", line: place + 1,
+    text: isRead(text, place + 1) ? text : `script ${text}`, editor: "script", line: place + 1,
   }));
   return [...applications, ...sizes, ...quiet, ...script];
 }
 
-const scenarioText = (experiment) => scenarioLines(experiment).map(({ text }) => `${text}\n`).join("");
+const scenarioText = (experiment, malformed) => scenarioLines(experiment, malformed).map(({ text }) => `${text}\n`).join("");
 
 // How a transcript ended: { name, line }, where line is the malformed one of the script.
 function endOf(transcript) {
@@ -60,16 +62,34 @@ function endOf(transcript) {
 
 const fault = (message, editor = null, line = 0) => ({ message, editor, line });
 
+// What is added where `scenario` names a malformed line of a script alone.
+const SCRIPT_FORMS = {
+  tick: "N is a number from 0 to 4,294,967,295, with no zero before it", serial: "HEX is two digits for each of 1 to 256 bytes",
+  frame: "HEX is two digits for each of 1 to 127 bytes",
+};
+
+// Why the program scenario refuses a file: { message, line }, where line is 0 if the reason is in no line.
+function refusalOf({ status, errors }) {
+  if (status === SCENARIO.OUT_OF_MEMORY) return { message: "The mote ran out of memory.", line: 0 };
+  const told = textOf(errors).trim().replace(`scenario: ${FILE_NAME}: `, ""), placed = /^line (\d+): ([^]*)$/.exec(told);
+  if (status !== SCENARIO.MALFORMED || !placed) return { message: told || `The program scenario ended with ${status}.`, line: 0 };
+  const form = SCRIPT_FORMS[/^(?:\d+ )?(tick|serial|frame) .* is no line of a script$/.exec(placed[2])?.[1]];
+  return { message: form ? `${placed[2]}: ${form}` : placed[2], line: Number(placed[1]) };
+}
+
 // A run by the program scenario: { transcript, end } or { fault }.
-function runScenario(program, experiment) {
-  const lines = scenarioLines(experiment), file = { name: FILE_NAME, bytes: utf8.encode(scenarioText(experiment)) };
-  const ran = program.run([FILE_NAME], new Uint8Array(), file);
+function runScenario(program, experiment, malformed) {
+  const lines = scenarioLines(experiment, malformed), bytes = utf8.encode(scenarioText(experiment, malformed));
+  const ran = program.run([FILE_NAME], new Uint8Array(), { name: FILE_NAME, bytes });
   if (ran.status === SCENARIO.DONE) return { transcript: ran.output, end: endOf(ran.output) };
-  if (ran.status === SCENARIO.OUT_OF_MEMORY) return { fault: fault("The mote ran out of memory.") };
-  const told = textOf(ran.errors).trim().replace(`scenario: ${FILE_NAME}: `, ""), placed = /^line (\d+): ([^]*)$/.exec(told);
-  const at = placed && lines[Number(placed[1]) - 1];
-  if (ran.status !== SCENARIO.MALFORMED || !at) return { fault: fault(told || `The program scenario ended with ${ran.status}.`) };
-  return { fault: fault(placed[2], at.editor, at.line) };
+  const { message, line } = refusalOf(ran), at = lines[line - 1];
+  return { fault: at ? fault(message, at.editor, at.line) : fault(message) };
+}
+
+// An experiment with a malformed line of its script, run up to there: { transcript, end, fault }.
+function runUpTo(program, experiment, found) {
+  const { transcript, end } = runScenario(program, experiment, found.line);
+  return { transcript: transcript ?? null, end: end ?? null, fault: found };
 }
 
 // Says why the library refuses an experiment: its sizes, its memory or the number of its applications.
@@ -84,17 +104,23 @@ function faultOf(answer, applications) {
   }
 }
 
-// Runs an experiment: { transcript, end, fault }; there is no transcript where there is no run.
-function runExperiment(library, scenario, experiment) {
+// What the library makes of an experiment: { transcript, end, fault }, or null if `scenario` must read it.
+function runByLibrary(library, experiment) {
   const applications = applicationsIn(experiment.applications);
   const answer = library.run(experiment, applications.map(({ text }) => text).join("\n"), utf8.encode(experiment.script));
-  const own = answer.transcript && { transcript: answer.transcript, end: { name: answer.name, line: answer.line }, fault: null };
-  if (["FINISHED", "HALTED", "TOO_LONG"].includes(answer.name)) return own;
-  if (!["BAD_LINE", "NO_APPLICATION"].includes(answer.name)) return { transcript: null, end: null, fault: faultOf(answer, applications) };
-  const other = runScenario(scenario, experiment);
-  if (!other.fault) return { ...other, fault: other.end.name === "BAD_LINE" ? fault(MALFORMED_INPUT, "script", other.end.line) : null };
-  if (own) return { ...own, fault: { ...other.fault, editor: "script", line: answer.line } };
-  return { transcript: null, end: null, fault: other.fault };
+  if (["BAD_LINE", "NO_APPLICATION"].includes(answer.name)) return null;
+  if (!answer.transcript) return { transcript: null, end: null, fault: faultOf(answer, applications) };
+  return { transcript: answer.transcript, end: { name: answer.name, line: answer.line }, fault: null };
+}
+
+// Runs an experiment: { transcript, end, fault }; there is no transcript where there is no run.
+function runExperiment(library, scenario, experiment) {
+  const own = linesIn(experiment.applications).some(isRowOf) ? null : runByLibrary(library, experiment);
+  if (own) return own;
+  const ran = runScenario(scenario, experiment);
+  if (ran.fault?.editor === "script") return runUpTo(scenario, experiment, ran.fault);
+  if (ran.fault) return { transcript: null, end: null, fault: ran.fault };
+  return { ...ran, fault: ran.end.name === "BAD_LINE" ? fault(MALFORMED_INPUT, "script", ran.end.line) : null };
 }
 
 const MALFORMED_INPUT = "This line is malformed: write tick N, serial HEX, frame HEX or text WORDS.";

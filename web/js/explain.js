@@ -43,9 +43,17 @@ function stimulusInWords(origin, stimulus) {
   return `goes on: the reply to its call is ${first === "bytes" ? bytesInWords(rest[0]) : rest.join(" ")}`;
 }
 
+// An argument of a call, with bytes as a text where they are one.
+function argumentInWords(name, word) {
+  if (name === "data" && word !== "-") return bytesInWords(word);
+  return name === "payload" && /^x./.test(word) ? `x${bytesInWords(word.slice(1))}` : word;
+}
+
+// A call as the transcript has it comes after it where bytes are shown as a text.
 function callInWords(text) {
-  const call = CALLS.get(text.split(" ")[0]);
-  return `It calls ${text}. ${call.about}.`;
+  const [name, ...words] = text.split(" "), call = CALLS.get(name);
+  const shown = [name, ...words.map((word, place) => argumentInWords(call.arguments[place], word))].join(" ");
+  return `It calls ${shown === text ? text : `${shown} (${text})`}. ${call.about}.`;
 }
 
 function noteInWords(kind, value) {

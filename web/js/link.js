@@ -1,5 +1,7 @@
 // The experiment as the end of an address: its JSON, deflated, in base64.
 const LINK_START = "#e=";
+// The bytes of the JSON at most, as of a script.
+const MOST_INFLATED = 2 ** 24;
 // The members of an experiment with one mote and of a network, with their types; those of the last one may be null instead.
 const MEMBERS = {
   mote: { applications: "string", script: "string", mmem: "number", heap: "number", header: "number", quiet: "boolean" },
@@ -15,8 +17,20 @@ function isWhole(read) {
 
 class BadLink extends Error {}
 
-async function piped(bytes, stream) {
-  return new Uint8Array(await new Response(new Blob([bytes]).stream().pipeThrough(stream)).arrayBuffer());
+// The bytes that come out of a stream. Throws BadLink over this number of them.
+async function piped(bytes, stream, most = Infinity) {
+  const parts = [];
+  let length = 0;
+  const reader = new Blob([bytes]).stream().pipeThrough(stream).getReader();
+  for (let read = await reader.read(); !read.done; read = await reader.read()) {
+    length += read.value.length;
+    if (length > most) {
+      await reader.cancel();
+      throw new BadLink("The link holds more than 16 MB.");
+    }
+    parts.push(read.value);
+  }
+  return joined(parts);
 }
 
 async function linkOf(experiment) {
@@ -28,9 +42,10 @@ async function linkOf(experiment) {
 async function experimentOf(hash) {
   let read;
   try {
-    read = JSON.parse(textOf(await piped(bytesOfBase64(hash.slice(LINK_START.length)), new DecompressionStream("deflate-raw"))));
-  } catch {
-    throw new BadLink("The link is incomplete: it holds no experiment.");
+    const bytes = bytesOfBase64(hash.slice(LINK_START.length));
+    read = JSON.parse(textOf(await piped(bytes, new DecompressionStream("deflate-raw"), MOST_INFLATED)));
+  } catch (error) {
+    throw error instanceof BadLink ? error : new BadLink("The link is incomplete: it holds no experiment.");
   }
   if (!isWhole(read)) throw new BadLink("The link holds no experiment of this page.");
   return read;

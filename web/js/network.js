@@ -1,5 +1,5 @@
 // A network { network: its script, only: the number of the only mote whose lines are shown, or null, quiet }, and its run by the program
-// `network`.
+// `network`. The program `scenario` explains what is malformed.
 const NETWORK = { DONE: 0, BAD_LINE: 2, HALTED: 3, TOO_LONG: 4, NO_MOTE: 64 };
 const NETWORK_ENDS = {
   [NETWORK.DONE]: "FINISHED", [NETWORK.BAD_LINE]: "BAD_LINE", [NETWORK.HALTED]: "EXHAUSTED", [NETWORK.TOO_LONG]: "TOO_LONG",
@@ -52,37 +52,62 @@ function namesAndOptions(text) {
 const moteNumbered = (motes, number) => motes.find(({ first, last }) => first <= number && number <= last) ?? { names: [], options: [] };
 const numberOfMotes = (motes) => motes.at(-1)?.last ?? 0;
 
-// How the line of the next mote is written.
-function moteRule(line, next) {
-  const isNext = /^mote (\d+)/.exec(line)?.[1] === String(next);
-  return isNext ? "write names of applications and sizes, and last calls and a list of calls." : `the next mote has number ${next}.`;
+// Lines that the program scenario would take for something else than a line of a network's script: a comment, a line of a transcript, one
+// of its own files.
+const WORDS_OF_SCENARIO = [
+  "quiet", "at", "script", "last", "times", "ends", "network", "lost", "full", "missed", "halt", "bad", "too", "...",
+];
+const OF_TRANSCRIPT = /^(?:$|#|=|\d(?!\S* (?:serial|frame)(?: |$)))/;
+const isForScenario = (line) => !OF_TRANSCRIPT.test(line) && !WORDS_OF_SCENARIO.includes(line.split(" ")[0]);
+
+// What a line begins with that is malformed by its first words.
+function formOfLine(line) {
+  return /^\d/.test(line) ? "an input of a mote is N serial HEX or N frame HEX."
+    : `a line begins with ${SETUP_WORDS.join(", ")}, tick or the number of a mote.`;
 }
 
-// Says why a line is malformed, as far as its first words show.
-function malformedLine(script, number) {
-  const lines = linesIn(script), word = (lines[number - 1] ?? "").split(" ")[0], before = lines.slice(0, number - 1);
-  const next = numberOfMotes(motesIn(before.join("\n"))) + 1;
-  if (/^\d+$/.test(word)) return `write ${word} serial HEX or ${word} frame HEX, for a mote that exists.`;
-  if (word === "tick") return "write tick N.";
-  if (!SETUP_WORDS.includes(word)) return `a line begins with ${SETUP_WORDS.join(", ")}, tick or the number of a mote.`;
-  if (before.some((line) => INPUT_LINE.test(line))) return "motes, links and limits must be before the first input.";
-  const form = NETWORK_LINES.find(([it]) => it.startsWith(`${word} `))[0];
-  if (word === "mote") return moteRule(lines[number - 1], next);
-  return /^(?:room|rounds)$/.test(word) ? `write ${form}.` : `write ${form}, of motes in lines above.`;
-}
-
-// Runs a network: { transcript, end, fault }; there is no transcript where no mote is started.
-function runNetwork(program, { network, only, quiet }) {
+// Runs a script: { transcript, end, fault, script }, the script up to a malformed line. There is no transcript where no mote is started.
+function runScript(program, script, { only, quiet }) {
   const options = [...(quiet ? ["--quiet"] : []), ...(only === null ? [] : ["--only", String(only)])];
-  const ran = program.run(options, utf8.encode(network)), name = NETWORK_ENDS[ran.status];
+  const ran = program.run(options, utf8.encode(script)), name = NETWORK_ENDS[ran.status];
   const none = (message, editor = null, line = 0) => ({ transcript: null, end: null, fault: fault(message, editor, line) });
   if (ran.status === NETWORK.NO_MOTE) return none(`There is no mote ${only}: choose another one.`, "only");
   if (name === undefined) return none(`The network ended early: ${textOf(ran.errors).trim().replace("network: ", "")}.`);
-  const end = { name, line: endOf(ran.output).line };
-  if (name !== "BAD_LINE") return { transcript: ran.output, end, fault: null };
-  const message = `This line is malformed: ${malformedLine(network, end.line)}`;
-  const isStarted = linesIn(network).slice(0, end.line).some((line) => INPUT_LINE.test(line));
-  return isStarted ? { transcript: ran.output, end, fault: fault(message, "network", end.line) } : none(message, "network", end.line);
+  const { line } = endOf(ran.output), lines = linesIn(script);
+  if (name !== "BAD_LINE") return { transcript: ran.output, end: { name, line }, fault: null, script };
+  const isStarted = lines.slice(0, line).some((it) => INPUT_LINE.test(it));
+  return {
+    transcript: isStarted ? ran.output : null, end: { name, line }, fault: fault(formOfLine(lines[line - 1]), "network", line),
+    script: lines.slice(0, line - 1).map((it) => `${it}\n`).join(""),
+  };
+}
+
+// A script with hex in place of quotes, and numbers in place of names, by the program scenario: { script }, or { fault }.
+function plainScript(program, lines) {
+  const told = lines.map((line) => (isForScenario(line) ? line : `script ${line}`));
+  const bytes = utf8.encode(["network", ...told].map((line) => `${line}\n`).join(""));
+  const ran = program.run(["--json", FILE_NAME], new Uint8Array(), { name: FILE_NAME, bytes });
+  if (ran.status === SCENARIO.DONE) return { script: JSON.parse(textOf(ran.output)).script };
+  const { message, line } = refusalOf(ran);
+  return { fault: fault(message, line > 1 ? "network" : null, Math.max(0, line - 1)) };
+}
+
+// Runs a script in which `network` found a malformed line, or not the mote that is chosen: it takes no quotes and gives no reason, while
+// `scenario` does both.
+function runAsScenario({ network, scenario }, experiment, found) {
+  const lines = linesIn(experiment.network), asked = plainScript(scenario, lines);
+  if (!asked.fault) return runScript(network, asked.script, experiment);
+  const { line } = asked.fault;
+  if (line === 0) return { ...found, fault: asked.fault };
+  const before = plainScript(scenario, lines.slice(0, line - 1));
+  const ran = before.fault ? found : runScript(network, `${before.script}${lines[line - 1]}\n`, experiment);
+  return ran.end?.name === "BAD_LINE" && ran.end.line < line ? ran : { ...ran, fault: asked.fault };
+}
+
+// Runs a network, as runScript does; its script may have quotes, too.
+function runNetwork(programs, experiment) {
+  const ran = runScript(programs.network, experiment.network, experiment);
+  return ran.fault?.editor ? runAsScenario(programs, experiment, ran) : ran;
 }
 
 // The clock of the network at each line.

@@ -8,13 +8,18 @@ function milliseconds(time) {
   return time < 1000 ? `${time.toFixed(time < 10 ? 1 : 0)} ms` : `${(time / 1000).toFixed(1)} s`;
 }
 
-function outcomeInWords({ end, lines, took, rows }) {
-  const folded = rows ? ", repeated lines folded" : "";
-  return `${ENDS[end.name]}: ${plural(lines.length, "line")} in ${milliseconds(took)}${folded}.`;
+// What the page took longer than the run, in milliseconds, is worth a word.
+const LONG_WAIT = 1000;
+
+// `took` is the time of the run, `waited` that of the page.
+function outcomeInWords({ end, lines, took, waited, rows }) {
+  const late = waited > took + LONG_WAIT ? `, shown after ${milliseconds(waited)}` : "";
+  const folded = rows && rows.length < lines.length ? ", repeated lines folded" : "";
+  return `${ENDS[end.name]}: ${plural(lines.length, "line")} in ${milliseconds(took)}${late}${folded}.`;
 }
 
-// A fault, with its position.
+// A fault, with its position, as a sentence.
 function faultInWords({ message, editor, line }) {
   const places = { applications: `Applications, line ${line}: `, script: `Inputs, line ${line}: `, network: `Network, line ${line}: ` };
-  return `${places[editor] ?? ""}${message}`;
+  return `${places[editor] ?? ""}${message}${/[.?!]$/.test(message) ? "" : "."}`;
 }

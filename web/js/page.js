@@ -1,16 +1,23 @@
 // The page: its runs, its buttons and what they show.
-const MOST_LINES_DRAWN = 3000;
-const FRONT_DRAWN = `The first ${MOST_LINES_DRAWN.toLocaleString("en")} lines. Choose clocks to see others.`;
-const WHOLE_DRAWN = "Time goes down. Point at a row for its lines.";
 const TYPING_PAUSE = 150;
 const PAUSE_BEFORE_PROGRESS = 300;
 const SAVES = ["save-transcript", "save-scenario", "save-picture"];
+// Narrower windows have the experiment above its results, with what is seldom needed folded.
+const NARROW = matchMedia("(max-width: 760px)");
+const LINK_SHOWN = "The experiment of the link that you opened.";
 const view = new TranscriptView(byId("lines"), byId("line-about"));
-// The run that is shown, with its experiment; for a network also the mote of the pictures. `picture` is its SVG.
-const shown = { experiment: null, run: null, picture: null, mote: null };
-let runner, tabs, hand, typing = 0, isRunning = false, isWaiting = false, progressTimer = 0;
+const NOT_SHOWN = { experiment: null, run: null, picture: null, mote: null, chart: null };
+// The run that is shown, with its experiment; for a network also the mote of the pictures. `picture` and `chart` are SVGs.
+const shown = { ...NOT_SHOWN };
+let runner, tabs, hand, kept, typing = 0, isRunning = false, isWaiting = false, progressTimer = 0;
 
 // ---- The experiment ----
+
+// Says what is in the fields: the example of this number, or, with "", another experiment.
+function introduce(example, about) {
+  byId("example").value = example;
+  byId("lesson").textContent = about;
+}
 
 function showExperiment(given) {
   fillFields(given);
@@ -19,9 +26,34 @@ function showExperiment(given) {
 
 function showExample(place) {
   const { about, experiment } = EXAMPLES[place];
-  byId("example").value = place;
-  byId("lesson").textContent = about;
+  introduce(place, about);
   return showExperiment(experiment);
+}
+
+function showKept() {
+  const { mote, network, isNetwork: isOfMany } = kept.read();
+  introduce("", KEPT_SHOWN);
+  fillFields(mote);
+  fillFields(network);
+  return showExperiment(isOfMany ? network : mote);
+}
+
+function keepWork() {
+  kept.write({ mote: readMote(), network: readNetwork(), isNetwork: byId("many-motes").checked });
+}
+
+function showKeeping(words, canForget) {
+  byId("kept").hidden = words === "";
+  byId("kept-words").textContent = words;
+  byId("forget").hidden = !canForget;
+  byId("example").options[0].hidden = !canForget;
+}
+
+// What the reader writes becomes the reader's own: it is kept, and a link in the address, which has an older text, goes.
+function ownWork() {
+  byId("example").value = "";
+  keepWork();
+  if (location.hash.startsWith(LINK_START)) history.replaceState(null, "", location.href.split("#")[0]);
 }
 
 // ---- A run ----
@@ -56,7 +88,7 @@ function unmark() {
 function mark({ message, editor, line }) {
   if (editors[editor]) editors[editor].mark(line, message);
   else if (editor) {
-    byId("sizes").open ||= SIZES.includes(editor);
+    if (SIZES.includes(editor)) byId("sizes").open = byId("more-inputs").open = true;
     byId(editor).setAttribute("aria-invalid", "true");
   }
 }
@@ -66,9 +98,10 @@ async function run() {
   isWaiting = isRunning;
   if (isRunning) return;
   isRunning = true;
-  const experiment = readExperiment();
+  const experiment = readExperiment(), begun = performance.now();
   try {
-    showRun(experiment, await runner.ask("run", { experiment }));
+    const ran = await runner.ask("run", { experiment });
+    showRun(experiment, { ...ran, waited: performance.now() - begun });
   } catch (error) {
     say(error instanceof Stopped ? "The run was stopped." : error.message, !(error instanceof Stopped));
   }
@@ -82,11 +115,12 @@ function showRun(experiment, ran) {
   if (found) mark(found);
   const words = ran.transcript ? outcomeInWords(ran) : "Nothing was run.";
   say(found ? `${faultInWords(found)} ${words}` : words, Boolean(found));
+  if (!ran.transcript && shown.run && isNetwork(shown.experiment) !== isNetwork(experiment)) clearShown();
   byId("results").classList.toggle("stale", !ran.transcript);
   if (!ran.transcript) return;
   for (const name of SAVES) byId(name).disabled = false;
   byId("save-scenario").textContent = isNetwork(experiment) ? "Save network script" : "Save scenario file";
-  Object.assign(shown, { experiment, run: ran, picture: null, mote: null });
+  Object.assign(shown, { ...NOT_SHOWN, experiment, run: ran });
   showLines(experiment, ran);
   showPanel(tabs.current);
 }
@@ -102,89 +136,13 @@ function showLines(experiment, ran) {
   else view.show({ ...ran, motes: null, names: moteNumbered(ran.motes, experiment.only).names });
 }
 
-// ---- The panels ----
-
-// The first lines of a transcript, up to a number: they are a transcript, too.
-function frontOf(transcript, most) {
-  const lines = linesIn(textOf(transcript));
-  return lines.length <= most ? transcript : utf8.encode(lines.slice(0, most).map((line) => `${line}\n`).join(""));
-}
-
-function pictureOptions() {
-  const clocks = ["from", "to"].filter((name) => byId(name).value !== "").flatMap((name) => [`--${name}`, byId(name).value]);
-  return [...clocks, ...(byId("unfolded").checked ? ["--unfolded"] : [])];
-}
-
-// The mote of a network for pictures: the one whose lines are shown; otherwise that of the chosen line; otherwise the first one.
-const moteOfPictures = () => shown.experiment.only ?? view.chosenMote ?? 1;
-
-// The data of pictures: { mote, transcript, page }, and the number in a network. Throws an Error if there is no such mote.
-async function pictured() {
-  const { experiment, run: ran } = shown;
-  if (!isNetwork(experiment)) return { mote: moteOf(experiment), transcript: ran.transcript, page: ran.page };
-  const number = moteOfPictures();
-  if (shown.mote?.number === number) return shown.mote;
-  const asked = await runner.ask("mote", { experiment, number });
-  if (asked.fault) throw new Error(asked.fault);
-  if (shown.run === ran) Object.assign(shown, { mote: asked, picture: null });
-  return asked;
-}
-
-async function drawPicture() {
-  const { run: ran } = shown, options = pictureOptions(), { mote, transcript, number } = await pictured();
-  const isLong = options.length === 0 && (ran.rows ?? ran.lines).length > MOST_LINES_DRAWN;
-  const front = isLong ? frontOf(transcript, MOST_LINES_DRAWN) : transcript;
-  const drawn = await runner.ask("picture", { mote, options, transcript: front });
-  if (shown.run !== ran) return;
-  shown.picture = drawn.svg ?? null;
-  const about = drawn.fault ?? (front === transcript ? WHOLE_DRAWN : FRONT_DRAWN);
-  byId("picture-about").textContent = number === undefined ? about : `Mote ${number}. ${about}`;
-  byId("drawing").innerHTML = drawn.svg ?? "";
-}
-
-// Shows a picture or the explorer; a fault is shown above the picture.
-async function attempt(work) {
-  try {
-    await work();
-  } catch (error) {
-    if (!(error instanceof Stopped)) byId("picture-about").textContent = error.message;
-  }
-}
-
-const showPicture = () => attempt(drawPicture);
-
-async function drawExplorer() {
-  const { run: ran } = shown, { page } = await pictured();
-  if (shown.run === ran) byId("page").srcdoc = page;
-}
-
-// The choice of a network's mote, and the mote of the pictures.
-function showChoice(panel) {
-  const isOfNetwork = Boolean(shown.run) && isNetwork(shown.experiment), isPicture = ["picture", "explorer"].includes(panel);
-  byId("choice").hidden = !isOfNetwork || !(isPicture || panel === "transcript");
-  if (!isOfNetwork) return;
-  const number = moteOfPictures(), isOfAll = shown.experiment.only === null;
-  byId("of-which").textContent = isPicture && isOfAll ? `This is mote ${number}: a picture is of one mote.` : "";
-}
-
-function showPanel(panel) {
-  showChoice(panel);
-  if (panel === "hand") {
-    if (!hand.hand) hand.boot();
-  } else if (shown.run && panel === "picture") {
-    const isOther = isNetwork(shown.experiment) && shown.mote?.number !== moteOfPictures();
-    if (shown.picture === null || isOther) showPicture();
-  } else if (shown.run && panel === "explorer") attempt(drawExplorer);
-}
-
 // ---- Inputs, files, links ----
 
 // The other kind starts with its last text, or with an example.
 function showOtherKind() {
   const isOfMany = byId("many-motes").checked, { experiment } = EXAMPLES.find((it) => isNetwork(it.experiment));
   if (isOfMany && editors.network.text === "") editors.network.text = experiment.network;
-  byId("example").value = "";
-  byId("lesson").textContent = "";
+  introduce("", "");
   showKind(isOfMany);
   run();
 }
@@ -225,29 +183,34 @@ function saveTranscript() {
 
 function saveScenario() {
   const { experiment, run: ran } = shown;
-  if (isNetwork(experiment)) saveFile("script.net", "text/plain", experiment.network);
-  else saveFile("mote.scenario", "text/plain", scenarioFileOf(experiment, ran.transcript));
+  if (isNetwork(experiment)) saveFile("script.net", "text/plain", ran.fault ? experiment.network : ran.script);
+  else saveFile("mote.scenario", "text/plain", scenarioFileOf(experiment, ran));
 }
 
 async function savePicture() {
-  const isOther = isNetwork(shown.experiment) && shown.mote?.number !== moteOfPictures();
-  if (shown.picture === null || isOther) await showPicture();
+  if (tabs.current === "chart") {
+    if (shown.chart === null) await showChart();
+    if (shown.chart !== null) saveFile("network.svg", "image/svg+xml", shown.chart);
+    return;
+  }
+  if (shown.picture === null || isOtherMote()) await showPicture();
   if (shown.picture !== null) saveFile(shown.mote ? `mote-${shown.mote.number}.svg` : "mote.svg", "image/svg+xml", shown.picture);
 }
 
+// Without a link in the address, the work that is kept is shown, or the first example.
 async function openAddress() {
   if (location.hash === "#about") {
     tabs.choose("about");
     byId("what-is-proved-and-what-is-tested")?.scrollIntoView();
   }
-  if (!location.hash.startsWith(LINK_START)) return shown.run ? null : showExample(0);
+  const showOwn = () => (kept.read() === null ? showExample(0) : showKept());
+  if (!location.hash.startsWith(LINK_START)) return shown.run ? null : showOwn();
   try {
     const experiment = await experimentOf(location.hash);
-    byId("example").value = "";
-    byId("lesson").textContent = "The experiment of the link that you opened.";
+    introduce("", kept.read() === null ? LINK_SHOWN : `${LINK_SHOWN} Your own work is the first of the examples.`);
     return showExperiment(experiment);
   } catch (error) {
-    await showExample(0);
+    await showOwn();
     byId("saved").textContent = error.message;
   }
 }
@@ -255,35 +218,51 @@ async function openAddress() {
 // ---- The start ----
 
 function typed() {
+  ownWork();
   clearTimeout(typing);
   if (byId("live").checked) typing = setTimeout(run, TYPING_PAUSE);
 }
 
-function listen() {
-  byId("example").addEventListener("change", () => showExample(byId("example").value));
+function listenToFields() {
+  byId("example").addEventListener("change", () => (byId("example").value === "" ? showKept() : showExample(byId("example").value)));
+  byId("forget").addEventListener("click", () => {
+    kept.forget();
+    showExample(0);
+  });
   for (const name of ["one-mote", "many-motes"]) byId(name).addEventListener("change", showOtherKind);
   byId("add").addEventListener("click", () => addLine("applications", byId("kind").value));
   byId("add-line").addEventListener("click", () => {
     addSetupLine(byId("line-kind").value);
     run();
   });
+  for (const name of [...SIZES, "quiet"]) byId(name).addEventListener("input", typed);
+  for (const button of document.querySelectorAll("[data-input]")) button.addEventListener("click", () => takeInput(button));
+}
+
+function listen() {
+  listenToFields();
   byId("only").addEventListener("change", () => {
     only = byId("only").value === "" ? null : Number(byId("only").value);
     run();
   });
   byId("run").addEventListener("click", run);
   byId("stop").addEventListener("click", () => runner.stop());
-  for (const name of [...SIZES, "quiet"]) byId(name).addEventListener("input", typed);
-  for (const button of document.querySelectorAll("[data-input]")) button.addEventListener("click", () => takeInput(button));
-  byId("part").addEventListener("submit", (event) => {
-    event.preventDefault();
-    showPicture();
-  });
+  for (const [form, show] of [["part", showPicture], ["chart-part", showChart]]) {
+    byId(form).addEventListener("submit", (event) => {
+      event.preventDefault();
+      show();
+    });
+  }
   byId("save-transcript").addEventListener("click", saveTranscript);
   byId("save-scenario").addEventListener("click", saveScenario);
   byId("save-picture").addEventListener("click", savePicture);
   byId("link").addEventListener("click", copyLink);
   addEventListener("hashchange", () => (location.hash === "#about" || location.hash.startsWith(LINK_START)) && openAddress());
+}
+
+// In a narrow window a result is in sight at the start, since what is seldom needed is folded.
+function foldMore() {
+  for (const part of document.querySelectorAll("details.more")) part.open = !NARROW.matches;
 }
 
 async function compile() {
@@ -297,9 +276,9 @@ function makeHand(modules) {
     sizes: readMote,
     take: (experiment) => {
       tabs.choose("transcript");
-      byId("example").value = "";
-      byId("lesson").textContent = "The calls that you have made, as lists.";
+      introduce("", "The calls that you have made, as lists.");
       showExperiment(experiment);
+      keepWork();
     },
     tell: (lines, sizes) => runner.ask("tell", { experiment: { ...DEFAULT_SIZES, ...sizes, applications: "" }, lines }),
   });
@@ -308,6 +287,11 @@ function makeHand(modules) {
 async function start() {
   makeEditors(typed);
   fillLists();
+  foldMore();
+  NARROW.addEventListener("change", foldMore);
+  makeDivider(byId("divider"), byId("experiment"));
+  kept = new KeptWork(() => localStorage, showKeeping);
+  kept.tell();
   tabs = new Tabs(byId("tabs"), showPanel);
   const modules = await compile();
   runner = new Runner({ ...modules, most: MOST_MEMORY }, byId("worker").textContent, showProgress);

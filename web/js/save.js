@@ -5,8 +5,8 @@ function saveFile(name, type, content) {
   setTimeout(() => URL.revokeObjectURL(address), 10000);
 }
 
-// A scenario file with the transcript of its run, so that `./scenario FILE` compares the two.
-function scenarioFileOf(experiment, transcript) {
-  const text = scenarioText(experiment);
+// A scenario file with the transcript of its run, so that `./scenario FILE` compares the two. A malformed line of the script ends the run.
+function scenarioFileOf(experiment, { transcript, fault: found }) {
+  const text = scenarioText(experiment, found?.line);
   return `# Saved from the mote in a web page. ./scenario FILE runs it and compares the transcript.\n${text}${textOf(transcript)}`;
 }

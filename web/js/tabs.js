@@ -1,4 +1,4 @@
-// Tabs, by the pattern of the ARIA guide: arrow keys go from one to the next, Tab into the panel.
+// Tabs, by the pattern of the ARIA guide: arrow keys go from one to the next, Tab into the panel. A tab may be hidden.
 class Tabs {
   // `list` has a button for each panel, which its attribute aria-controls names; `chosen` is called with the panel's id.
   constructor(list, chosen) {
@@ -26,11 +26,12 @@ class Tabs {
   }
 
   takeKey(event) {
-    const at = this.buttons.indexOf(document.activeElement), last = this.buttons.length - 1;
+    const buttons = this.buttons.filter((button) => !button.hidden), last = buttons.length - 1;
+    const at = buttons.indexOf(document.activeElement);
     const to = { ArrowRight: at === last ? 0 : at + 1, ArrowLeft: at === 0 ? last : at - 1, Home: 0, End: last }[event.key];
     if (to === undefined || at < 0) return;
     event.preventDefault();
-    this.buttons[to].focus();
-    this.choose(this.panelOf(this.buttons[to]));
+    buttons[to].focus();
+    this.choose(this.panelOf(buttons[to]));
   }
 }

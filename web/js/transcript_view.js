@@ -1,4 +1,5 @@
-// A transcript as a table. Its rows are made when they are close to the visible part, so it may have any number of lines.
+// A transcript as a grid, by the pattern of the ARIA guide: the grid has the focus, and names the chosen row. Rows are made when they are
+// close to the visible part, so it may have any number of lines.
 const ROWS_OF_A_PART = 200;
 const ROW_HEIGHT = 26;
 
@@ -8,6 +9,11 @@ function element(name, look, text, parent) {
   if (text !== undefined) made.textContent = text;
   if (parent) parent.append(made);
   return made;
+}
+
+function withRole(role, of) {
+  of.setAttribute("role", role);
+  return of;
 }
 
 const CHOOSE = "Choose a line, by a click or with ↑ and ↓, to read what it means.";
@@ -22,6 +28,7 @@ class TranscriptView {
   // `host` scrolls; `about` is where the chosen line is explained.
   constructor(host, about) {
     Object.assign(this, { host, about, rows: [], lines: [], chosen: -1 });
+    host.setAttribute("aria-readonly", "true");
     const fillSeen = (parts) => parts.filter((part) => part.isIntersecting).forEach((part) => this.fill(part.target));
     this.observer = new IntersectionObserver(fillSeen, { root: host, rootMargin: "800px" });
     host.addEventListener("keydown", (event) => this.takeKey(event));
@@ -39,11 +46,12 @@ class TranscriptView {
 
   build() {
     this.observer.disconnect();
-    const table = element("table", "transcript");
-    table.setAttribute("aria-rowcount", this.rows.length + 1);
-    table.setAttribute("aria-label", "Transcript");
-    const head = element("tr", "", undefined, element("thead", "", undefined, table));
-    for (const [title, look] of this.columns) element("th", look, title, head).setAttribute("scope", "col");
+    this.host.removeAttribute("aria-activedescendant");
+    this.host.setAttribute("aria-rowcount", this.rows.length + 1);
+    this.host.setAttribute("aria-colcount", this.columns.length);
+    const table = withRole("presentation", element("table", "transcript"));
+    const head = withRole("row", element("tr", "", undefined, withRole("presentation", element("thead", "", undefined, table))));
+    for (const [title, look] of this.columns) withRole("columnheader", element("th", look, title, head));
     for (let first = 0; first < this.rows.length; first += ROWS_OF_A_PART) this.addPart(table, first);
     this.host.replaceChildren(table);
     for (const part of table.tBodies) this.observer.observe(part);
@@ -68,9 +76,11 @@ class TranscriptView {
   }
 
   addPart(table, first) {
-    const part = element("tbody", "", undefined, table), count = Math.min(ROWS_OF_A_PART, this.rows.length - first);
+    const part = withRole("presentation", element("tbody", "", undefined, table));
+    const count = Math.min(ROWS_OF_A_PART, this.rows.length - first);
     part.dataset.first = first;
-    element("td", "", undefined, element("tr", "gap", undefined, part)).style.height = `${count * ROW_HEIGHT}px`;
+    const gap = withRole("presentation", element("tr", "gap", undefined, part));
+    withRole("presentation", element("td", "", undefined, gap)).style.height = `${count * ROW_HEIGHT}px`;
   }
 
   fill(part) {
@@ -85,16 +95,20 @@ class TranscriptView {
   makeRow(row) {
     const { first, count } = this.rows[row], made = element("tr", count > 1 ? "fold" : kindOf(this.lineAt(first).text));
     made.dataset.row = row;
+    made.id = `${this.host.id}-${row}`;
     made.setAttribute("aria-rowindex", row + 2);
+    made.setAttribute("aria-selected", "false");
     element("td", "number", shownNumber(first + 1), made);
     if (count > 1) this.fillFold(made, row);
     else this.fillLine(made, row, first);
+    for (const cell of withRole("row", made).cells) withRole("gridcell", cell);
     return made;
   }
 
   fillFold(made, row) {
     const { first, count, period } = this.rows[row], cell = element("td", "", undefined, made);
     cell.colSpan = this.columns.length - 1;
+    cell.setAttribute("aria-colspan", this.columns.length - 1);
     const what = period === 1 ? "the line above" : `the ${period} lines above`;
     element("span", "", `to ${shownNumber(first + count)}: ${what}, ${shownNumber(count / period)} times more `, cell);
     element("button", "unfold", "Show these lines", cell).type = "button";
@@ -133,8 +147,12 @@ class TranscriptView {
   choose(row) {
     if (this.rows.length === 0) return;
     const next = Math.max(0, Math.min(row, this.rows.length - 1)), made = this.rowElement(next), { first, count } = this.rows[next];
-    this.host.querySelector("tr.chosen")?.classList.remove("chosen");
+    const last = this.host.querySelector("tr.chosen");
+    last?.classList.remove("chosen");
+    last?.setAttribute("aria-selected", "false");
     made.classList.add("chosen");
+    made.setAttribute("aria-selected", "true");
+    this.host.setAttribute("aria-activedescendant", made.id);
     made.scrollIntoView({ block: "nearest" });
     this.chosen = next;
     const line = shownNumber(first + 1);

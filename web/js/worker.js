@@ -9,8 +9,10 @@ let tools = null;
 // New instances: after a trap, nothing is known of the old ones.
 function makeTools() {
   const { library, most } = modules, program = (module, name) => new Program(modules[module], name, most);
-  const [picture, scenario, network] = [program("picture", "mote_picture"), program("scenario", "scenario"), program("network", "network")];
-  tools = { library: new Library(library, most), picture, scenario, network };
+  tools = {
+    library: new Library(library, most), picture: program("picture", "mote_picture"), scenario: program("scenario", "scenario"),
+    network: program("network", "network"), chart: program("chart", "network_picture"),
+  };
 }
 
 // The arguments of mote_picture for a mote { names, options }. A name that begins with a dash is no option.
@@ -25,6 +27,12 @@ function tellLines(mote, transcript) {
   const page = textOf(made.output);
   const data = JSON.parse(/<script id="data" type="application\/json">([^]*?)<\/script>/.exec(page)[1]);
   return { page, words: linesIn(data.words), clocks: data.clocks, answers: data.answers };
+}
+
+// A picture by one of the programs that draw: { svg }, or { fault } with the reason.
+function drawnBy(program, words, input) {
+  const drawn = program.run(words, input);
+  return drawn.status === 0 ? { svg: textOf(drawn.output) } : { fault: textOf(drawn.errors).trim().replace(`${program.name}: `, "") };
 }
 
 const bytesOfLines = (lines) => utf8.encode(lines.map((line) => `${line}\n`).join(""));
@@ -53,7 +61,7 @@ const TASKS = {
   run({ experiment }, tell) {
     tell(isNetwork(experiment) ? "Running the network" : "Running the mote");
     const begun = performance.now();
-    const ran = isNetwork(experiment) ? runNetwork(tools.network, experiment) : runExperiment(tools.library, tools.scenario, experiment);
+    const ran = isNetwork(experiment) ? runNetwork(tools, experiment) : runExperiment(tools.library, tools.scenario, experiment);
     const took = performance.now() - begun;
     if (!ran.transcript) return ran;
     const lines = linesIn(textOf(ran.transcript));
@@ -65,7 +73,7 @@ const TASKS = {
   // The lines of one mote of a network, for a picture.
   mote({ experiment, number }, tell) {
     tell(`Running the network for mote ${number}`);
-    const { transcript, fault: found } = runNetwork(tools.network, { ...experiment, only: number });
+    const { transcript, fault: found } = runNetwork(tools, { ...experiment, only: number });
     if (!transcript) return { fault: found.message };
     const mote = moteNumbered(motesIn(experiment.network), number), { page } = tellLines(mote, transcript);
     return { number, mote, transcript, page };
@@ -78,8 +86,18 @@ const TASKS = {
 
   picture({ mote, transcript, options }, tell) {
     tell("Drawing the picture");
-    const drawn = tools.picture.run([...options, ...pictureWords(mote)], transcript);
-    return drawn.status === 0 ? { svg: textOf(drawn.output) } : { fault: textOf(drawn.errors).trim().replace("mote_picture: ", "") };
+    return drawnBy(tools.picture, [...options, ...pictureWords(mote)], transcript);
+  },
+
+  // The chart of a network with all its motes and lines, at most this number of them, or null.
+  chart({ experiment, options, most }, tell) {
+    tell("Running the network");
+    const { transcript, script, fault: found } = runNetwork(tools, { ...experiment, only: null, quiet: false });
+    if (!transcript) return { fault: found.message };
+    tell("Drawing the chart");
+    const lines = linesIn(textOf(transcript)), isFront = most !== null && lines.length > most;
+    const front = isFront ? bytesOfLines(lines.slice(0, most)) : transcript;
+    return { ...drawnBy(tools.chart, options, joined([bytesOfLines(linesIn(script)), front])), isFront };
   },
 };
 
