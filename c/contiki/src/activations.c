@@ -38,7 +38,7 @@ hand_in(const struct toarmuts_call *call)
 {
   uint32_t status = answer_turn(call);
   if(status != 0) {
-    stop("the mote rejects a call of kind %u: status %u", call->kind, status);
+    stop("the mote rejects a call of kind %u: status %u", (unsigned)call->kind, (unsigned)status);
   }
 }
 
