@@ -7,7 +7,7 @@ read_board() {
     case $board in
     *.c) [[ -f $board ]] || give_up "$board: no such file" 64 ;;
     *)
-        [[ -f $driver/boards/$board.c ]] || give_up "there is no board $board: $(cd "$driver/boards" && printf '%s ' *.ld | sed 's/\.ld / /g')or a file of \
+        [[ -f $driver/boards/$board.c ]] || give_up "there is no board $board: $(cd "$driver/boards" && printf '%s ' [!t]*.ld | sed 's/\.ld / /g')or a file of \
 your own (docs/firmware.md)" 64
         board=$driver/boards/$board.c
         ;;
@@ -42,9 +42,10 @@ choose_board_library() {
     fi
     [[ ! -d $root/library ]] || give_up "a release has no kernel for boards: use the repository" 69
     archive=$root/crates/toarmuts/out/$core/libtoarmuts.a
-    "$root/prove" --is-current toarmuts </dev/null >/dev/null 2>&1 && "$root/scripts/for-cortex-m" toarmuts "$core" >/dev/null ||
+    if ! "$root/prove" --is-current toarmuts </dev/null >/dev/null 2>&1 || ! "$root/scripts/for-cortex-m" toarmuts "$core" >/dev/null; then
         give_up "the kernel for $core is missing or older than its sources. Build it:
     ./prove toarmuts && scripts/for-cortex-m toarmuts $core" 69
+    fi
 }
 
 need_tool() {
@@ -73,8 +74,10 @@ build_board_driver() {
     done
     compile_into "$made" "$driver"/src/{,board/}*.c "$include/toarmuts_memory.c"
     compile_into "$made/modules" "${modules[@]}"
-    arm-none-eabi-ar rc "$made/modules.a" "$made"/modules/*.o && arm-none-eabi-ld -r "$made"/*.o -o "$made/driver" &&
-        arm-none-eabi-objcopy --localize-hidden "$made/driver" || give_up "the driver can't be linked" 65
+    if ! arm-none-eabi-ar rc "$made/modules.a" "$made"/modules/*.o || ! arm-none-eabi-ld -r "$made"/*.o -o "$made/driver" ||
+        ! arm-none-eabi-objcopy --localize-hidden "$made/driver"; then
+        give_up "the driver can't be linked" 65
+    fi
     rm -r "$made/modules" "$made"/*.o
     mv "$made/driver" "$made/driver.o"
     copy=$objects.$$
@@ -83,23 +86,29 @@ build_board_driver() {
 
 # Writes the program's settings, in C.
 write_settings() {
-    local heap=4096 mmem=4096 header=16 quota=0 i name value
+    local heap=4096 mmem=4096 header=16 quota=0 has_record=true runs=NULL i name value
+    [[ -z $script ]] || has_record=false runs=run_board_script
     for ((i = 0; i < ${#sizes[@]}; i++)); do
         name=${sizes[i]%%=*}
         if [[ ${sizes[i]} == *=* ]]; then value=${sizes[i]#*=}; else i=$((i + 1)) value=${sizes[i]}; fi
         [[ $value =~ ^[0-9]{1,9}$ ]] || give_up "$name needs a number" 64
         printf -v "${name#--}" %s "$((10#$value))"
     done
-    [[ ${node:=0} =~ ^[0-9]{1,5}$ ]] && ((10#$node <= 65535)) || give_up "a mote's number is at most 65535" 64
+    node=${node:-0}
+    [[ $node =~ ^[0-9]{1,5}$ ]] || node=65536
+    ((10#$node <= 65535)) || give_up "a mote's number is at most 65535" 64
     {
         echo '#include "firmware.h"'
         echo "const struct board_settings board_settings = {"
         echo "  .sizes = {.mmem = $mmem, .heap = $heap, .header = $header, .has_quota = $((quota > 0)), .quota = $quota},"
-        echo "  .node = $((10#$node)), .has_record = ${script:+!}true, .stops_at_fault = ${stops:-false}, .run_script = ${script:+run_board_script}${script:-NULL}};" |
-            sed "s|= run_board_script.*}|= run_board_script}|"
-        [[ -z $script ]] || printf '__asm__(".section .rodata.script\\n.global board_script, board_script_end\\nboard_script:\\n.incbin \\"%s\\"\\nboard_script_end:\\n.byte 0\\n.text\\n");\n' "$room/script"
+        echo "  .node = $((10#$node)), .has_record = $has_record, .stops_at_fault = ${stops:-false}, .run_script = $runs};"
     } >"$room/settings.c"
-    [[ -z $script ]] || cp -- "$script" "$room/script"
+    [[ -n $script ]] || return 0
+    cp -- "$script" "$room/script"
+    cat >>"$room/settings.c" <<END
+__asm__(".section .rodata.script\n.global board_script, board_script_end\n"
+        "board_script:\n.incbin \"$room/script\"\nboard_script_end:\n.byte 0\n.text\n");
+END
 }
 
 build_image() {
@@ -123,7 +132,8 @@ run_image() {
     [[ -n $record ]] || ports[5]=null
     local emulator=(qemu-system-arm -M "$machine" -display none -monitor none -no-reboot -kernel "$image")
     if [[ -z $script ]]; then
-        exec "${emulator[@]}" -icount "shift=$shift" "${ports[@]}"
+        "${emulator[@]}" -icount "shift=$shift" "${ports[@]}"
+        return
     fi
     ports=(-serial null -serial null -serial stdio)
     [[ " ${words[*]} " != *' --text '* ]] || ports=(-serial stdio -serial null -serial null)

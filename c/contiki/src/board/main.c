@@ -56,14 +56,16 @@ pass_input(uint32_t kind, uint32_t ticks, const uint8_t *bytes, size_t length)
   rest();
 }
 
-/* Passes the time up to now, in parts that a tick can have. */
+/* Passes the time up to now, in parts that end where a timer runs out: so one input never causes more than one timer's turns, also where
+ * the board was held up. */
 static void
 pass_time(void)
 {
   static uint64_t passed;
   uint64_t now = clock_ticks();
   while(passed < now) {
-    uint32_t ticks = now - passed > UINT32_MAX ? UINT32_MAX : (uint32_t)(now - passed);
+    uint64_t due = next_due(), end = due > passed && due < now ? due : now;
+    uint32_t ticks = end - passed > UINT32_MAX ? UINT32_MAX : (uint32_t)(end - passed);
     passed += ticks;
     pass_input(TOARMUTS_TICK, ticks, NULL, 0);
   }
