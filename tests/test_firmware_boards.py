@@ -184,8 +184,9 @@ def test_flood_of_the_radio(contiki: Contiki, build: Builder, boards: list[Emula
         it.send("radio", b"\xc0" + bytes([1 + number % 100]) * (5 + number % 100) + b"\xc0")
     it.send("radio", b"\xc0" + b"x" * 200 + b"\xc0\xdb\x01\xc0\xdb\xc0")
     it.pump(2)
-    it.send("radio", b"\xc0\x2a\xc0")
-    it.until("record", b"frame 2a\n# check ")
+    it.send("radio", b"\xc0\xdb\xdc\xdb\xdd\x2a\xc0")
+    it.until("record", b"frame c0db2a\n# check ")
+    it.until("radio", b"\xc0\xdb\xdc\xdb\xdd\x2a\xc0")
     assert b"bad frames" in it.heard["record"]
     check_replay(contiki, tmp_path / "record", it, source)
 

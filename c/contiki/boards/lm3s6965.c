@@ -11,7 +11,18 @@
 
 enum { DR = 0x00, FR = 0x18, IBRD = 0x24, FBRD = 0x28, LCRH = 0x2c, CTL = 0x30, IM = 0x38, ICR = 0x44, RXFE = 1 << 4, TXFF = 1 << 5 };
 enum { RECEIVED = 0x50, SENT = 0x20, BOTH = RECEIVED | SENT };
-enum { CFG = 0x00, TAMR = 0x04, TIMER_CTL = 0x0c, IMR = 0x18, TIMER_ICR = 0x24, TAILR = 0x28, TAMATCHR = 0x30, TAR = 0x48, SECONDS = 1, ONE_SHOT = 1 };
+enum {
+  CFG = 0x00,
+  TAMR = 0x04,
+  TIMER_CTL = 0x0c,
+  IMR = 0x18,
+  TIMER_ICR = 0x24,
+  TAILR = 0x28,
+  TAMATCHR = 0x30,
+  TAR = 0x48,
+  SECONDS = 1,
+  ONE_SHOT = 1
+};
 enum { WRAP = 1 << 24, BEFORE = 1 << 20 };
 
 /* As the clock is at reset in qemu. A real part sets RCC first. */
@@ -105,5 +116,8 @@ handle_wake(void)
 }
 
 VECTORS_OF_PART = {
-  [5] = handle_console, [6] = handle_radio, [33] = handle_record, [21] = handle_wake,
+  [5] = handle_console,
+  [6] = handle_radio,
+  [33] = handle_record,
+  [21] = handle_wake,
 };

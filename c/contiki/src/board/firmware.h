@@ -65,11 +65,10 @@ void put_transcript(const char *text, size_t length);
 void limit_heap(const uint8_t *limit);
 
 /* start.c */
+enum { OPEN_GUARD = 8 }; /* the guard below the stack while the mote is opened: the logarithm of its size */
 extern uint8_t heap_start[], stack_top[], handler_stack_low[], handler_stack_top[];
 extern const uint8_t *stack_low;
 void guard_stack(const uint8_t *low, unsigned log2_of_size);
-size_t stack_used(void);
-void paint_stack(void);
 CC_NORETURN void board_stop(int status);
 long ask_host(int operation, const void *arguments);
 

@@ -23,12 +23,11 @@ open_all(void)
   if(board_settings.node != 0) {
     join_network(board_settings.node);
   }
-  limit_heap(stack_low);
+  limit_heap((const uint8_t *)((uintptr_t)stack_low - (1u << OPEN_GUARD)));
   number_processes();
   open_mote(&board_settings.sizes);
   limit_heap((const uint8_t *)((uintptr_t)stack_low_run - (1u << RUN_GUARD)));
   guard_stack(stack_low_run, RUN_GUARD);
-  paint_stack();
   make_tables();
   rings_open();
   if(is_recording()) {

@@ -20,7 +20,7 @@ const uint8_t *stack_low = stack_low_open;
 #define MPU_BASE REG(0xe000ed9c)
 #define MPU_SIZE REG(0xe000eda0)
 
-enum { PAINT = 0x5a, NULL_GUARD = 8, OPEN_GUARD = 8, NEAR = 64 };
+enum { NULL_GUARD = 8 };
 enum { SYS_EXIT_EXTENDED = 0x20, APPLICATION_EXIT = 0x20026 };
 
 /* Asks the emulator, or a debugger: only with a script. */
@@ -72,25 +72,6 @@ guard_stack(const uint8_t *low, unsigned log2_of_size)
   __asm__ volatile("dsb\n isb");
 }
 
-void
-paint_stack(void)
-{
-  for(volatile uint8_t *p = (uint8_t *)(uintptr_t)stack_low; p < (uint8_t *)__builtin_frame_address(0) - NEAR; p++) {
-    *p = PAINT;
-  }
-}
-
-/* The bytes of the stack that were used since it was painted. */
-size_t
-stack_used(void)
-{
-  const uint8_t *p = stack_low;
-  while(p < stack_top && *p == PAINT) {
-    p++;
-  }
-  return (size_t)(stack_top - p);
-}
-
 __attribute__((used, noreturn)) static void
 start(void)
 {
@@ -99,7 +80,6 @@ start(void)
   CONFIGURATION |= 0x10;       /* a division by 0 is a fault */
   FAULT_HANDLERS |= 7u << 16;
   guard_stack(stack_low_open, OPEN_GUARD);
-  paint_stack();
   firmware();
   board_stop(0);
 }
