@@ -76,5 +76,7 @@ handle_record(void)
 }
 
 VECTORS_OF_PART = {
-  [37] = handle_console, [38] = handle_radio, [39] = handle_record,
+  [37] = handle_console,
+  [38] = handle_radio,
+  [39] = handle_record,
 };

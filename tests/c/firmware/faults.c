@@ -12,11 +12,11 @@ static volatile int zero;
 static int *volatile nowhere;
 
 /* Endless recursion, by frames of some bytes of which only one is written. */
-#define DEEP(size)                            \
-  static CC_UNUSED int deep_##size(int n)     \
-  {                                           \
-    volatile char room[size];                 \
-    room[0] = (char)n;                        \
+#define DEEP(size)                                     \
+  static CC_UNUSED int deep_##size(int n)              \
+  {                                                    \
+    volatile char room[size];                          \
+    room[0] = (char)n;                                 \
     return n == -1 ? 0 : deep_##size(n + 1) + room[0]; \
   }
 

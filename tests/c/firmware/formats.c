@@ -103,27 +103,27 @@ draw_directive(const char *flags, const char *length, char kind)
 static unsigned long tried, different;
 
 /* Prints with both, and compares. */
-#define PRINT(value)                                                                                                          \
-  do {                                                                                                                        \
-    static struct text own;                                                                                                   \
-    static char other[ROOM];                                                                                                  \
-    int count, wanted;                                                                                                        \
-    if(star_count == 0) {                                                                                                     \
-      count = print_own(&own, directive, value);                                                                              \
-      wanted = snprintf(other, sizeof other, directive, value);                                                               \
-    } else if(star_count == 1) {                                                                                              \
-      count = print_own(&own, directive, stars[0], value);                                                                    \
-      wanted = snprintf(other, sizeof other, directive, stars[0], value);                                                     \
-    } else {                                                                                                                  \
-      count = print_own(&own, directive, stars[0], stars[1], value);                                                          \
-      wanted = snprintf(other, sizeof other, directive, stars[0], stars[1], value);                                           \
-    }                                                                                                                         \
-    tried++;                                                                                                                  \
-    if(count != wanted || (wanted >= 0 && strcmp(own.bytes, other) != 0)) {                                                   \
-      if(different++ < 20) {                                                                                                  \
-        printf("%s (%d, %d): %d %s, not %d %s\n", directive, stars[0], stars[1], count, own.bytes, wanted, other);            \
-      }                                                                                                                       \
-    }                                                                                                                         \
+#define PRINT(value)                                                                                               \
+  do {                                                                                                             \
+    static struct text own;                                                                                        \
+    static char other[ROOM];                                                                                       \
+    int count, wanted;                                                                                             \
+    if(star_count == 0) {                                                                                          \
+      count = print_own(&own, directive, value);                                                                   \
+      wanted = snprintf(other, sizeof other, directive, value);                                                    \
+    } else if(star_count == 1) {                                                                                   \
+      count = print_own(&own, directive, stars[0], value);                                                         \
+      wanted = snprintf(other, sizeof other, directive, stars[0], value);                                          \
+    } else {                                                                                                       \
+      count = print_own(&own, directive, stars[0], stars[1], value);                                               \
+      wanted = snprintf(other, sizeof other, directive, stars[0], stars[1], value);                                \
+    }                                                                                                              \
+    tried++;                                                                                                       \
+    if(count != wanted || (wanted >= 0 && strcmp(own.bytes, other) != 0)) {                                        \
+      if(different++ < 20) {                                                                                       \
+        printf("%s (%d, %d): %d %s, not %d %s\n", directive, stars[0], stars[1], count, own.bytes, wanted, other); \
+      }                                                                                                            \
+    }                                                                                                              \
   } while(0)
 
 static uint64_t

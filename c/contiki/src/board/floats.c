@@ -205,7 +205,8 @@ write_exponent(char *text, char letter, int exponent)
 }
 
 static void
-put_layout(struct sink *sink, const struct directive *directive, const struct decimal *decimal, const char *prefix, const struct layout *layout)
+put_layout(struct sink *sink, const struct directive *directive, const struct decimal *decimal, const char *prefix,
+           const struct layout *layout)
 {
   size_t length = (size_t)(layout->first - layout->last) + 1 + layout->has_point + strlen(layout->exponent);
   size_t after = put_front(sink, directive, prefix, length);

@@ -77,7 +77,7 @@ start(void)
 {
   memcpy(data_start, data_image, (size_t)(data_end - data_start));
   memset(bss_start, 0, (size_t)(bss_end - bss_start));
-  CONFIGURATION |= 0x10;       /* a division by 0 is a fault */
+  CONFIGURATION |= 0x10; /* a division by 0 is a fault */
   FAULT_HANDLERS |= 7u << 16;
   guard_stack(stack_low_open, OPEN_GUARD);
   firmware();
@@ -105,6 +105,20 @@ stop_at_fault(void)
 extern void systick_handler(void);
 
 __attribute__((section(".vectors"), used)) static void (*const vectors[16])(void) = {
-  (void (*)(void))handler_stack_top, reset, stop_at_fault, stop_at_fault, stop_at_fault, stop_at_fault, stop_at_fault, stop_at_fault,
-  stop_at_fault, stop_at_fault, stop_at_fault, stop_at_fault, stop_at_fault, stop_at_fault, stop_at_fault, systick_handler,
+  (void (*)(void))handler_stack_top,
+  reset,
+  stop_at_fault,
+  stop_at_fault,
+  stop_at_fault,
+  stop_at_fault,
+  stop_at_fault,
+  stop_at_fault,
+  stop_at_fault,
+  stop_at_fault,
+  stop_at_fault,
+  stop_at_fault,
+  stop_at_fault,
+  stop_at_fault,
+  stop_at_fault,
+  systick_handler,
 };

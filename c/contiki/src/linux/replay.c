@@ -38,7 +38,7 @@ next_line(char *line)
 static bool
 read_head(const char *line)
 {
-  uint32_t *const numbers[] = {&head.facts.ticks_a_second, &head.sizes.mmem, &head.sizes.heap,   &head.sizes.header,
+  uint32_t *const numbers[] = {&head.facts.ticks_a_second, &head.sizes.mmem, &head.sizes.heap, &head.sizes.header,
                                &head.sizes.quota,          &head.node,       &head.long_bytes, &head.pointer_bytes};
   static const char *const names[] = {" second ", " mmem ", " heap ", " header ", " quota ", " node ", " long ", " pointer "};
   const char *rest;
