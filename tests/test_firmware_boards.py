@@ -166,12 +166,16 @@ def test_flood_of_the_serial_line(contiki: Contiki, build: Builder, boards: list
     source = CONTIKI / "mote/echo.c"
     it = start(boards, build(LARGE, source), LARGE, tmp_path / "board")
     it.until("record", b"# check ")
-    for number in range(300):
-        it.send("console", b"%d: a line of a flood\n" % number)
-    it.send("console", b"\n\nthe end\n")
+    flood = b"".join(b"%d: a line of a flood\n" % number for number in range(300))
+    it.send("console", flood)
     it.pump(3)
     it.send("console", b"\n\nthe end\n")
-    it.until("record", b"\n" + b"serial " + b"the end\n".hex().encode() + b"\n# check ")
+    it.until("record", b"\nserial " + b"the end\n".hex().encode() + b"\n# check ")
+    # The mote was given what was sent, in its order, without what was lost.
+    given = b"".join(bytes.fromhex(it.decode()) for it in re.findall(rb"^serial (\w+)$", it.heard["record"], re.M))
+    lost = sum(map(int, re.findall(rb"^# serial line: (\d+) bytes lost$", it.heard["record"], re.M)))
+    left = iter(flood + b"\n\nthe end\n")
+    assert all(byte in left for byte in given) and len(given) + lost == len(flood) + len(b"\n\nthe end\n")
     check_replay(contiki, tmp_path / "record", it, source)
 
 
