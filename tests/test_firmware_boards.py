@@ -106,6 +106,7 @@ def test_an_hour(contiki: Contiki, build: Builder, boards: list[Emulated], tmp_p
         it.send("console", b"\nnow\n")
         it.until("console", b"\n", len(rows))
         own, counter = map(int, it.heard["console"].splitlines()[-1].split())
+        assert abs(counter - own) <= 1000, rows
         rows.append((own, counter))
     # Both are rounded down: to a tick, and to the counter's step. They differ by what passed before the counter was started.
     ahead = [counter - own for own, counter in rows[1:]]
