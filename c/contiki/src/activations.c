@@ -4,14 +4,10 @@
  * that receives something at once, and that one is called from here: plain recursion, as in Contiki-NG itself. This is right since
  * activations nest, which is a law of the mote.
  */
-#define _XOPEN_SOURCE 700
 #include "driver.h"
 #include "sys/stack-check.h"
 
 #include <stdlib.h>
-#include <sys/resource.h>
-
-enum { STACK_REACH = 1 << 26 };
 
 struct activation *activation;
 uint64_t rounds_begun;
@@ -42,7 +38,7 @@ hand_in(const struct toarmuts_call *call)
 {
   uint32_t status = answer_turn(call);
   if(status != 0) {
-    stop("the mote rejects a call of kind %u: status %u", call->kind, status);
+    stop("the mote rejects a call of kind %u: status %u", (unsigned)call->kind, (unsigned)status);
   }
 }
 
@@ -53,13 +49,6 @@ run_errand(void)
   const struct toarmuts_call *call = errand;
   errand = NULL;
   errand_answer = *mote_call(call);
-}
-
-/* Whether this address is on the stack of main. Below it is a wide gap, so no other memory is so near. */
-bool
-is_on_stack(const void *place)
-{
-  return (uintptr_t)stack_begin - (uintptr_t)place < STACK_REACH;
 }
 
 /*
@@ -165,13 +154,6 @@ stack_check_get_usage(void)
 {
   note_frame(__builtin_frame_address(0));
   return deepest_frame == NULL ? 0 : (int32_t)((const char *)stack_begin - deepest_frame);
-}
-
-int32_t
-stack_check_get_reserved_size(void)
-{
-  struct rlimit limit;
-  return getrlimit(RLIMIT_STACK, &limit) == 0 && limit.rlim_cur < INT32_MAX ? (int32_t)limit.rlim_cur : INT32_MAX;
 }
 
 /* Makes a call, and works on to the turn with its reply. */

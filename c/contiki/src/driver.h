@@ -6,13 +6,6 @@
 #include "mote.h"
 #include "net/linkaddr.h"
 
-#include <sys/types.h>
-
-/* The GNU C library's other names for `read` and `write`: a program that includes no header of Unix may define functions of these
- * names. */
-ssize_t __read(int file, void *bytes, size_t length);
-ssize_t __write(int file, const void *bytes, size_t length);
-
 #pragma GCC visibility push(hidden)
 
 enum {
@@ -58,7 +51,6 @@ extern uint64_t rounds_begun;
 /* The frame of main, below which the stack grows down. */
 extern const void *stack_begin;
 
-bool is_on_stack(const void *place);
 bool is_lost(const void *place, const void *frame);
 void run_activation(const struct toarmuts_turn *turn);
 
@@ -94,12 +86,15 @@ unsigned present_mote(void);
 /* Where there is no network. */
 void open_mote(const struct toarmuts_configuration *configuration);
 uint32_t feed_line(const char *line, size_t length);
+uint32_t feed_input(uint32_t kind, uint32_t ticks, const uint8_t *bytes, size_t length);
+uint64_t next_due(void);
 void run_to_rest(void);
 
 /* processes.c: who is who. */
 extern struct process *processes[MOST_PROCESSES];
 extern unsigned process_count;
 void number_processes(void);
+void make_tables(void);
 struct process *process_of(uint64_t number);
 bool is_process(const struct process *p);
 unsigned index_of(const struct process *p);
@@ -149,37 +144,37 @@ size_t header_length(const linkaddr_t *to);
 void write_header(uint8_t *header, const linkaddr_t *to);
 bool take_header(const uint8_t *frame, size_t length, size_t *header);
 
-/* console.c */
-void open_console(void);
-void flush_console(void);
-void keep_console(void);
-void close_console(void);
-void renew_console(void);
+/* record.c; record.h has the others. */
+void sum_call(const struct toarmuts_call *call);
 
-/* script.c */
-enum { LINE_LIMIT = 1024 };
-enum reading { READ_LINE, READ_END, READ_TOO_MUCH };
-enum reading read_line(int script, char *line, size_t *length);
-CC_NORETURN void end_at_bad_line(uint64_t number, const char *line, size_t length, const char *inputs);
+/* report.c: the message of a fault. */
+enum { REPORT_ROOM = 512 };
+struct report {
+  char text[REPORT_ROOM];
+  size_t length;
+};
+void add_text(struct report *report, const char *text);
+void add_number(struct report *report, uint64_t number);
+void add_place(struct report *report);
+void add_halt(struct report *report);
+
+/*
+ * The rest is the host's: linux/ has these for one mote on Linux, network/ for the motes of a network, board/ for a board.
+ */
+
+/* stack.c */
+bool is_on_stack(const void *place);
+
+/* console.c */
+void flush_console(void);
 
 /* transcript.c */
-void begin_transcript(bool is_quiet, bool is_text);
-void show_only(unsigned mote);
-void speak_for(unsigned mote);
 uint64_t shown_lines(void);
 void show_turn(const struct toarmuts_call *call);
 void show_entry(void);
-void show_network_line(void);
-void show_text(const char *text);
-void show_halt(void);
-void flush_transcript(void);
-bool delays_signal(int number);
 
 /* faults.c */
-void watch_for_faults(void);
-void tell_halt(void);
 CC_NORETURN void halt(void);
-CC_NORETURN void finish(int status);
 CC_NORETURN CC_FORMAT(1, 2) void stop(const char *format, ...);
 CC_NORETURN CC_FORMAT(2, 3) void give_up(int status, const char *format, ...);
 

@@ -72,6 +72,7 @@ answer_turn(const struct toarmuts_call *call)
   status = toarmuts_submit(&mote, call);
   if(status == 0) {
     last_process = activation->process;
+    sum_call(call);
     show_turn(call);
   }
   is_at_work = 0;
@@ -104,6 +105,22 @@ feed_line(const char *line, size_t length)
   return toarmuts_feed(&mote, (const uint8_t *)line, length);
 }
 
+/* For a board: passes an input that is no text. */
+uint32_t
+feed_input(uint32_t kind, uint32_t ticks, const uint8_t *bytes, size_t length)
+{
+  static const uint8_t none[1];
+  return toarmuts_feed_input(&mote, kind, ticks, bytes == NULL ? none : bytes, length);
+}
+
+/* The clock at which the next timer runs out, or UINT64_MAX. */
+uint64_t
+next_due(void)
+{
+  uint64_t clock;
+  return toarmuts_due(&mote, &clock) == 0 ? clock : UINT64_MAX;
+}
+
 /* The clock, without a call of the program: for the driver. */
 clock_time_t
 clock_now(void)
@@ -116,7 +133,10 @@ clock_now(void)
 uint32_t
 last_line(uint8_t *line, size_t room, size_t *length)
 {
-  return toarmuts_line(&mote, line, room, length);
+  uint64_t line_length;
+  uint32_t status = toarmuts_line(&mote, line, room, &line_length);
+  *length = status == 0 ? (size_t)line_length : 0;
+  return status;
 }
 
 unsigned

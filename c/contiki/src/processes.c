@@ -102,6 +102,12 @@ number_processes(void)
     add_process(*started);
   }
   free(entries);
+}
+
+/* Makes the tables for these processes. A board has room for them once the mote is open. */
+void
+make_tables(void)
+{
   make_cells();
   make_block_tables();
 }

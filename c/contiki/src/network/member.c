@@ -1,9 +1,9 @@
 /* A program of a network: the command does what its driver calls. */
 #include "network.h"
 
-#include <stdarg.h>
+#include "dev/value.h"
 
-enum { REPORT_ROOM = 512 };
+#include <stdarg.h>
 
 static const struct network_host *network;
 
@@ -59,6 +59,13 @@ give_up(int status, const char *format, ...)
   network->give_up(status, what);
 }
 
+/* value.h: a network has no record. */
+uint32_t
+value_of(uint32_t (*read)(void))
+{
+  return read();
+}
+
 /* A source that has a main is refused, as in a program of one mote. */
 int
 main(void)
@@ -73,6 +80,7 @@ join(const struct network_host *host, uint16_t number, const void *stack)
   stack_begin = stack;
   join_network(number);
   number_processes();
+  make_tables();
   return process_count;
 }
 

@@ -5,7 +5,7 @@
 #ifndef NETWORK_H_
 #define NETWORK_H_
 
-#include "../driver.h"
+#include "../linux/linux.h"
 
 /* The functions of the command for a program. */
 struct network_host {

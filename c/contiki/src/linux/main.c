@@ -1,6 +1,8 @@
 /* Runs a program's processes on a mote with a script, and writes the transcript. It has the options of mote. */
 #define _XOPEN_SOURCE 700
-#include "driver.h"
+#include "linux.h"
+
+#include "../record.h"
 
 #include <stdlib.h>
 #include <unistd.h>
@@ -12,6 +14,9 @@
   "  [--text]                                                  only what the processes print\n"                          \
   "  [--test]                                                  the same; status 1 if a unit test fails or none is run\n" \
   "  [--names]                                                 only the names of the processes\n"                        \
+  "  [--node N]                                                the mote's number in a network\n"                         \
+  "  [--record FILE]                                           writes the run's record\n"                                \
+  "  [--replay]                                                the script is a record, with the sizes and the number\n"  \
   "  [SCRIPT]\n"
 
 struct words {
@@ -20,6 +25,9 @@ struct words {
   bool is_test;        /* unit tests decide the status */
   bool asks_for_names; /* nothing is run */
   bool asks_for_help;
+  bool is_replay;     /* the script is a record */
+  uint32_t node;      /* the mote's number in a network, or 0 */
+  const char *record; /* the file for the run's record, or NULL */
   const char *script; /* the script's name, or NULL for standard input */
 };
 
@@ -57,6 +65,50 @@ read_size(struct toarmuts_configuration *configuration, const char *option, cons
   return true;
 }
 
+/* Reads another option with a value; false if it is none. */
+static bool
+read_valued(struct words *words, const char *option, const char *value)
+{
+  if(strcmp(option, "--node") == 0) {
+    words->node = read_number(option, value);
+    if(words->node > UINT16_MAX) {
+      give_up(STATUS_BAD_WORDS, "a mote's number is at most 65535");
+    }
+    return true;
+  }
+  if(strcmp(option, "--record") != 0) {
+    return false;
+  }
+  if(value == NULL) {
+    give_up(STATUS_BAD_WORDS, "--record needs a file");
+  }
+  words->record = value;
+  return true;
+}
+
+/* Reads an option without a value; false if it is none. */
+static bool
+read_flag(struct words *words, const char *option)
+{
+  if(strcmp(option, "--quiet") == 0) {
+    words->configuration.quiet = 1;
+  } else if(strcmp(option, "--text") == 0) {
+    words->is_text = true;
+  } else if(strcmp(option, "--test") == 0) {
+    words->is_test = true;
+    words->is_text = true;
+  } else if(strcmp(option, "--names") == 0) {
+    words->asks_for_names = true;
+  } else if(strcmp(option, "--replay") == 0) {
+    words->is_replay = true;
+  } else if(strcmp(option, "-h") == 0 || strcmp(option, "--help") == 0) {
+    words->asks_for_help = true;
+  } else {
+    return false;
+  }
+  return true;
+}
+
 /* Cuts the value off an argument as --mmem=8; NULL if there is none. */
 static char *
 cut_value(char *word)
@@ -87,21 +139,13 @@ read_words(char **word)
   for(char **first = word; *word != NULL; word++) {
     char *joined = cut_value(*word);
     check_once(first, word);
-    if(read_size(&words.configuration, word[0], joined != NULL ? joined : word[1])) {
+    const char *value = joined != NULL ? joined : word[1];
+    if(read_size(&words.configuration, word[0], value) || read_valued(&words, word[0], value)) {
       word += joined == NULL;
     } else if(joined != NULL) {
       give_up(STATUS_BAD_WORDS, "unknown argument %s=%s", *word, joined);
-    } else if(strcmp(*word, "--quiet") == 0) {
-      words.configuration.quiet = 1;
-    } else if(strcmp(*word, "--text") == 0) {
-      words.is_text = true;
-    } else if(strcmp(*word, "--test") == 0) {
-      words.is_test = true;
-      words.is_text = true;
-    } else if(strcmp(*word, "--names") == 0) {
-      words.asks_for_names = true;
-    } else if(strcmp(*word, "-h") == 0 || strcmp(*word, "--help") == 0) {
-      words.asks_for_help = true;
+    } else if(read_flag(&words, *word)) {
+      continue;
     } else if(**word != '-' && words.script == NULL) {
       words.script = *word;
     } else {
@@ -109,6 +153,30 @@ read_words(char **word)
     }
   }
   return words;
+}
+
+/* Whether a line of the script is an input, and no comment. */
+static bool
+is_input(const char *line, size_t length)
+{
+  return length > 0 && line[0] != '#';
+}
+
+/* Has the record have an input before the mote. */
+static void
+note_line(const char *line, size_t length)
+{
+  if(is_recording() && is_input(line, length)) {
+    record_line(line, length);
+  }
+}
+
+static void
+note_rest(const char *line, size_t length)
+{
+  if(is_input(line, length)) {
+    record_check();
+  }
 }
 
 /* Submits one line after another, and executes all that follows. */
@@ -119,10 +187,13 @@ run_script(int script)
   size_t length;
   enum reading reading;
   run_to_rest();
+  record_check();
   for(uint64_t number = 1; (reading = read_line(script, line, &length)) == READ_LINE; number++) {
+    note_line(line, length);
     switch(feed_line(line, length)) {
     case 0:
       run_to_rest();
+      note_rest(line, length);
       break;
     case TOARMUTS_BAD_LINE:
       end_at_bad_line(number, line, length, "tick N, serial HEX and frame HEX");
@@ -153,34 +224,76 @@ test_status(void)
   return runs == 0 || failures > 0 ? STATUS_STOPPED : STATUS_FINISHED;
 }
 
+/* Opens the script that is named. */
+static int
+open_script(const char *name)
+{
+  FILE *file;
+  if(name == NULL) {
+    return STDIN_FILENO;
+  }
+  file = fopen(name, "r");
+  if(file == NULL) {
+    give_up(STATUS_READ_FAILED, "%s: no such file", name);
+  }
+  return fileno(file);
+}
+
+/* A replay has sizes and number from the record; otherwise a record may be written. */
+static void
+open_run(struct words *words, int script)
+{
+  if((words->is_replay || words->record != NULL) && &program_facts == NULL) {
+    give_up(STATUS_BAD_WORDS, "this program was built without the facts that a record needs");
+  }
+  if(words->is_replay) {
+    uint32_t quiet = words->configuration.quiet;
+    struct record_head head = open_replay(script);
+    words->configuration = head.sizes;
+    words->configuration.quiet = quiet;
+    words->node = head.node;
+  } else if(words->record != NULL) {
+    struct record_head head = head_of(&words->configuration, words->node);
+    open_record(words->record, &head);
+  }
+  if(words->node != 0) {
+    join_network((uint16_t)words->node);
+  }
+}
+
+static int
+print_names(void)
+{
+  for(unsigned i = 0; i < process_count; i++) {
+    puts(name_of(processes[i]));
+  }
+  return STATUS_FINISHED;
+}
+
 int
 main(int count, char **word)
 {
   struct words words = read_words(word + (count > 0));
-  int script = STDIN_FILENO;
+  int script;
   if(words.asks_for_help) {
     fputs(USAGE, stdout);
     return STATUS_FINISHED;
   }
   number_processes();
+  make_tables();
   if(words.asks_for_names) {
-    for(unsigned i = 0; i < process_count; i++) {
-      puts(name_of(processes[i]));
-    }
-    return STATUS_FINISHED;
+    return print_names();
   }
-  if(words.script != NULL) {
-    FILE *file = fopen(words.script, "r");
-    if(file == NULL) {
-      give_up(STATUS_READ_FAILED, "%s: no such file", words.script);
-    }
-    script = fileno(file);
-  }
+  script = open_script(words.script);
+  open_run(&words, script);
   begin_transcript(words.configuration.quiet != 0, words.is_text);
   watch_for_faults();
   stack_begin = __builtin_frame_address(0);
   open_mote(&words.configuration);
   open_console();
+  if(words.is_replay) {
+    run_replay();
+  }
   run_script(script);
   finish(words.is_test ? test_status() : STATUS_FINISHED);
 }

@@ -1,5 +1,5 @@
 /* The lines of the script. */
-#include "driver.h"
+#include "linux.h"
 
 #include <errno.h>
 
@@ -8,6 +8,15 @@ enum { SCRIPT_LIMIT = 16777216, PART = 65536 };
 /* What was read of the script: the bytes from `at` to `end` are left. */
 static char part[PART];
 static size_t at, end;
+
+/* Whether the last line had its end. */
+static bool had_end;
+
+bool
+is_whole_line(void)
+{
+  return had_end;
+}
 
 /* Whether a byte of the script is left. The transcript so far is written before it waits for more of the script. */
 static bool
@@ -41,6 +50,7 @@ read_line(int script, char *line, size_t *length)
     const char *line_end = memchr(part + at, '\n', most);
     size_t count = line_end == NULL ? most : (size_t)(line_end - part) - at;
     size_t used = line_end == NULL ? count : count + 1;
+    had_end = line_end != NULL;
     if(used > SCRIPT_LIMIT - taken) {
       return READ_TOO_MUCH;
     }

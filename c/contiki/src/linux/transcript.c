@@ -1,5 +1,5 @@
 /* The transcript on standard output, through its own buffer, so that its end isn't lost when a program crashes. */
-#include "driver.h"
+#include "linux.h"
 
 #include <errno.h>
 #include <poll.h>

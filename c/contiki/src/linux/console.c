@@ -3,7 +3,7 @@
  * end, at 64 bytes, and before the process makes another call or waits.
  */
 #define _GNU_SOURCE
-#include "driver.h"
+#include "linux.h"
 
 #include <signal.h>
 #include <stdio_ext.h>

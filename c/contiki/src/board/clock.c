@@ -1,0 +1,81 @@
+/*
+ * Time, from a counter of the board that runs free: nothing is lost where an interrupt is late. Another timer only wakes the board.
+ */
+#include "firmware.h"
+
+#include "../program/facts.h"
+
+#define REG(address) (*(volatile uint32_t *)(address))
+#define SYSTICK_CONTROL REG(0xe000e010)
+#define SYSTICK_RELOAD REG(0xe000e014)
+#define SYSTICK_VALUE REG(0xe000e018)
+enum { SYSTICK_MOST = 0xffffff, LONGEST_SLEEP = 1 << 30 };
+
+/* All counts since the start. It is asked more often than the counter begins anew, since no sleep is longer. */
+static uint64_t
+count_now(void)
+{
+  static uint64_t counted;
+  static uint32_t last;
+  static bool has_begun;
+  uint32_t now = board_count();
+  counted += has_begun ? now - last : 0;
+  has_begun = true;
+  last = now;
+  return counted;
+}
+
+static uint64_t
+ticks_of(uint64_t count)
+{
+  uint64_t second = program_facts.ticks_a_second;
+  return count / board_hz * second + count % board_hz * second / board_hz;
+}
+
+/* The first count at which the clock shows this tick. */
+static uint64_t
+count_of(uint64_t tick)
+{
+  uint64_t second = program_facts.ticks_a_second;
+  return tick / second * board_hz + (tick % second * board_hz + second - 1) / second;
+}
+
+uint64_t
+clock_ticks(void)
+{
+  return ticks_of(count_now());
+}
+
+void systick_handler(void);
+
+/* It wakes once. */
+void
+systick_handler(void)
+{
+  SYSTICK_CONTROL = 0;
+}
+
+void
+clock_wake(uint32_t counts, uint32_t hz, uint32_t source)
+{
+  uint64_t length = (uint64_t)counts * hz / board_hz + 1;
+  SYSTICK_CONTROL = 0;
+  SYSTICK_RELOAD = length > SYSTICK_MOST ? SYSTICK_MOST : (uint32_t)length;
+  SYSTICK_VALUE = 0;
+  SYSTICK_CONTROL = source | 3;
+}
+
+/* Sleeps up to a tick, or until an interrupt brings something. One that comes between the question and `wfi` stays pending, and ends `wfi`
+ * at once: so nothing is slept over. */
+void
+clock_sleep_until(uint64_t tick, bool (*is_waiting)(void))
+{
+  uint64_t end = tick == UINT64_MAX ? UINT64_MAX : count_of(tick);
+  uint32_t before = disable_interrupts();
+  uint64_t now = count_now();
+  if(end > now && !is_waiting()) {
+    board_wake_after(end - now > LONGEST_SLEEP ? LONGEST_SLEEP : (uint32_t)(end - now));
+    __asm__ volatile("dsb\n wfi" ::: "memory");
+  }
+  restore_interrupts(before);
+}

@@ -1,0 +1,78 @@
+/* What the driver's parts for boards share. */
+#ifndef FIRMWARE_H_
+#define FIRMWARE_H_
+
+#include "../driver.h"
+#include "board.h"
+
+/* The program's settings: the command `contiki` writes them, and compiles them as the program. */
+struct board_settings {
+  struct toarmuts_configuration sizes;
+  uint16_t node;            /* its number in a network, or 0 */
+  bool has_record;          /* the third port carries the record */
+  bool stops_at_fault;      /* instead of a reset */
+  void (*run_script)(void); /* in place of the ports, or NULL */
+};
+
+extern const struct board_settings board_settings;
+
+/* rings.c */
+void rings_open(void);
+bool input_is_waiting(void);
+size_t input_take_line(uint8_t *bytes, size_t room);
+size_t input_take_byte(enum port port, uint8_t *byte);
+bool input_has_frame(void);
+uint32_t input_lost(enum port port);
+bool output_put(enum port port, const void *bytes, size_t length);
+void output_put_at_once(enum port port, const void *bytes, size_t length);
+size_t output_used(enum port port);
+size_t output_left(enum port port);
+uint32_t output_lost(enum port port);
+
+/* slip.c */
+size_t take_frame_bytes(uint8_t *bytes);
+uint32_t bad_frames(void);
+void send_frame(const uint8_t *hex, size_t length);
+
+/* clock.c: ticks since the start. */
+uint64_t clock_ticks(void);
+void clock_sleep_until(uint64_t tick, bool (*is_waiting)(void));
+
+static inline uint32_t
+disable_interrupts(void)
+{
+  uint32_t before;
+  __asm__ volatile("mrs %0, primask\n cpsid i" : "=r"(before)::"memory");
+  return before;
+}
+
+static inline void
+restore_interrupts(uint32_t before)
+{
+  __asm__ volatile("msr primask, %0" ::"r"(before) : "memory");
+}
+
+/* recorder.c */
+bool record_has_ended(void);
+void note_losses(void);
+
+/* script.c */
+extern bool shows_transcript;
+void run_board_script(void);
+void put_transcript(const char *text, size_t length);
+
+/* allocator.c: where malloc's memory ends. */
+void limit_heap(const uint8_t *limit);
+
+/* start.c */
+enum { OPEN_GUARD = 8 }; /* the guard below the stack while the mote is opened: the logarithm of its size */
+extern uint8_t heap_start[], stack_top[], handler_stack_low[], handler_stack_top[];
+extern const uint8_t *stack_low;
+void guard_stack(const uint8_t *low, unsigned log2_of_size);
+CC_NORETURN void board_stop(int status);
+long ask_host(int operation, const void *arguments);
+
+/* console.c */
+void open_console(void);
+
+#endif

@@ -1,0 +1,116 @@
+/*
+ * What leaves the board: what is printed, on the console; what is sent, on the radio; and the record on the third port. Where that port is
+ * too slow, the record ends, and says so: it never has a gap.
+ */
+#include "firmware.h"
+
+#include "../record.h"
+
+enum { LINE_ROOM = 640, END_ROOM = 48 };
+
+static uint64_t line_count;
+static bool has_ended;
+
+uint64_t
+shown_lines(void)
+{
+  return line_count;
+}
+
+bool
+is_recording(void)
+{
+  return board_settings.has_record && !has_ended;
+}
+
+bool
+record_has_ended(void)
+{
+  return has_ended;
+}
+
+/* The room of the ring that the last line needs is never used by others. */
+void
+put_record(const void *bytes, size_t length)
+{
+  static const char end[] = "# the record ends here: the port is too slow\n";
+  if(has_ended) {
+    return;
+  }
+  if(output_left(RECORD) < length + END_ROOM) {
+    has_ended = true;
+    output_put(RECORD, end, sizeof end - 1);
+    return;
+  }
+  output_put(RECORD, bytes, length);
+}
+
+/* value.h: on a board there is no replay. */
+bool
+take_value(uint32_t *value)
+{
+  (void)value;
+  return false;
+}
+
+static void
+note_loss(uint32_t *told, uint32_t count, const char *where, const char *what)
+{
+  if(count != *told) {
+    record_note(where, count - *told, what);
+    *told = count;
+  }
+}
+
+/* Notes bytes that were lost, as comments: the mote knows nothing of them. */
+void
+note_losses(void)
+{
+  static uint32_t line, radio, bad, printed, sent;
+  note_loss(&line, input_lost(CONSOLE), "serial line: ", " bytes lost");
+  note_loss(&radio, input_lost(RADIO), "radio: ", " bytes lost");
+  note_loss(&bad, bad_frames(), "radio: ", " bad frames");
+  note_loss(&printed, output_lost(CONSOLE), "console: ", " bytes not written");
+  note_loss(&sent, output_lost(RADIO), "radio: ", " bytes not sent");
+}
+
+static void
+show_line(const uint8_t *line, size_t length)
+{
+  if(board_settings.run_script != NULL) {
+    output_put_at_once(RECORD, line, length);
+    output_put_at_once(RECORD, "\n", 1);
+  }
+}
+
+/* A turn, with its call. */
+void
+show_turn(const struct toarmuts_call *call)
+{
+  uint8_t line[LINE_ROOM];
+  size_t length;
+  line_count++;
+  if(call->kind == TOARMUTS_CALL_PRINT) {
+    output_put(CONSOLE, call->bytes, call->length);
+  }
+  if(board_settings.run_script != NULL && last_line(line, sizeof line, &length) == 0) {
+    show_line(line, length);
+  }
+}
+
+/* An input, a note or the halt. A frame that was sent is known only by its line. */
+void
+show_entry(void)
+{
+  static const char sent[] = "note sent ";
+  uint8_t line[LINE_ROOM];
+  size_t length;
+  line_count++;
+  if(last_line(line, sizeof line, &length) != 0) {
+    return;
+  }
+  show_line(line, length);
+  if(length > sizeof sent - 1 && memcmp(line, sent, sizeof sent - 1) == 0) {
+    send_frame(line + sizeof sent - 1, length - (sizeof sent - 1));
+  }
+}

@@ -1,0 +1,26 @@
+/* In place of the ports a script that is in the image: for the emulator, which ends after it. The third port has the transcript. */
+#include "firmware.h"
+
+/* settings.c has the script. */
+extern const char board_script[], board_script_end[];
+
+void
+run_board_script(void)
+{
+  uint64_t number = 1;
+  for(const char *line = board_script; line < board_script_end; number++) {
+    const char *end = memchr(line, '\n', (size_t)(board_script_end - line));
+    size_t length = (size_t)((end == NULL ? board_script_end : end) - line);
+    if(feed_line(line, length) != 0) {
+      struct report report = {.length = 0};
+      add_text(&report, "bad line ");
+      add_number(&report, number);
+      add_text(&report, "\n");
+      output_put_at_once(RECORD, report.text, report.length);
+      board_stop(STATUS_BAD_LINE);
+    }
+    run_to_rest();
+    line += length + 1;
+  }
+  board_stop(STATUS_FINISHED);
+}

@@ -1,0 +1,199 @@
+"""Records of runs and their replays on Linux, and what boards have in place of the C library: formats and random numbers.
+
+tests/test_firmware_boards.py has the boards.
+"""
+
+import re
+from pathlib import Path
+
+import pytest
+
+from contiki_programs import STRICT, Contiki, messages, outcome, script_of, transcript_of
+from tools import EXAMPLES, ROOT, SANITIZERS, Completed, all_hold, run, succeed, told
+
+HERE = ROOT / "tests/c/firmware"
+BOARD = ROOT / "c/contiki/src/board"
+THERMO = HERE / "thermo.c"
+SECONDS = b"tick 128\ntick 300\nserial 680a\ntick 128\n"
+CONTIKI = EXAMPLES / "contiki"
+PROGRAMS = sorted(CONTIKI.glob("*.c"))
+
+
+@pytest.mark.parametrize("count,options", [(1_000_000, ("-O2",)), (100_000, ("-O1", *SANITIZERS))])
+def test_formats(tmp_path: Path, count: int, options: tuple[str, ...]) -> None:
+    """Random formats of C11 give the text of this machine's C library."""
+    succeed("gcc", *STRICT[:3], "-Werror", *options, f"-I{BOARD}", "-Wno-format-nonliteral", "-Wno-format", "-Wno-format-truncation",
+            HERE / "formats.c", BOARD / "format.c", BOARD / "floats.c", "-o", tmp_path / "formats")
+    all_hold(run(tmp_path / "formats", count))
+
+
+def test_random_numbers(tmp_path: Path) -> None:
+    """The numbers of rand are those of this machine's C library, for each seed."""
+    succeed("gcc", *STRICT[1:], *(f"-D{name}=own_{name}" for name in ("rand", "srand", "random", "srandom")), "-c", BOARD / "random.c",
+            "-o", tmp_path / "own.o")
+    succeed("gcc", *STRICT, HERE / "random.c", tmp_path / "own.o", "-o", tmp_path / "random")
+    all_hold(run(tmp_path / "random"))
+
+
+def recorded(contiki: Contiki, place: Path, source: Path, script: bytes, *words: str) -> tuple[Completed, bytes]:
+    """A run with a record, and the record."""
+    ran = contiki("--record", place, *words, source, stdin=script)
+    assert (ran.returncode, ran.stderr) == (0, b""), told(ran)
+    return ran, place.read_bytes()
+
+
+def replayed(contiki: Contiki, place: Path, source: Path, record: bytes, *words: str) -> Completed:
+    place.write_bytes(record)
+    return contiki("--replay", place, *words, source)
+
+
+@pytest.mark.parametrize("source", PROGRAMS, ids=lambda source: str(source.stem))
+def test_replay_of_example(contiki: Contiki, tmp_path: Path, source: Path) -> None:
+    """A run with a record is the run without one, and its replay is that run once more; the record ends each input with a check."""
+    ran, record = recorded(contiki, tmp_path / "record", source, script_of(source))
+    assert ran.stdout == transcript_of(source)
+    again = replayed(contiki, tmp_path / "record", source, record)
+    inputs = len([line for line in script_of(source).splitlines() if line and not line.startswith(b"#")])
+    assert (again.returncode, again.stdout) == (0, ran.stdout), told(again)
+    assert again.stderr.decode() == f"contiki: replayed {inputs} inputs and 0 values; {inputs + 1} checks agree\n"
+
+
+def test_record_has_what_decides_the_run(contiki: Contiki, tmp_path: Path) -> None:
+    """Its first line names the sizes; each input is before its values, and its check."""
+    source = HERE / "node.c"
+    _, record = recorded(contiki, tmp_path / "record", source, b"# nothing\n\ntick 5\n", "--node", "258", "--heap", "512", "--mmem", "64",
+                         "--header", "8", "--quota", "32", "--clock-second", "100")
+    head, boot, line, check = record.decode().splitlines()
+    assert re.fullmatch("# record 1 sources [0-9a-f]{16} second 100 mmem 64 heap 512 header 8 quota 32 node 258 long 8 pointer 8", head)
+    assert re.fullmatch("# check [0-9]+ [0-9a-f]{8}", boot) and line == "tick 5" and check.startswith("# check ")
+    assert replayed(contiki, tmp_path / "record", source, record, "--text", "--clock-second", "100").stdout == b"258 0102\n"
+
+
+def test_values_are_replayed(contiki: Contiki, tmp_path: Path) -> None:
+    """Two runs read other values; a replay reads those of the record, with the sanitizers, too."""
+    first, record = recorded(contiki, tmp_path / "first", THERMO, SECONDS, "--text")
+    second, _ = recorded(contiki, tmp_path / "second", THERMO, SECONDS, "--text")
+    assert first.stdout != second.stdout and len(re.findall(rb"^# value ", record, re.M)) == 4
+    for words in ["--text"], ["--text", "--sanitize"]:
+        again = replayed(contiki, tmp_path / "record", THERMO, record, *words)
+        assert (again.returncode, again.stdout) == (0, first.stdout), told(again)
+
+
+def parts_of(record: bytes) -> list[int]:
+    """The numbers of the lines that have an input or a value."""
+    return [at for at, line in enumerate(record.splitlines()) if not line.startswith(b"#") or line.startswith(b"# value ")]
+
+
+def test_each_part_counts(contiki: Contiki, tmp_path: Path) -> None:
+    """Without one of its inputs or values, or with one of their bytes changed, a record isn't that of its run: the replay says so."""
+    _, record = recorded(contiki, tmp_path / "record", THERMO, SECONDS)
+    program = tmp_path / "program"
+    succeed(ROOT / "contiki", "--library", contiki.library, "--build", program, THERMO)
+    lines = record.splitlines(keepends=True)
+    changed = [lines[:at] + lines[at + 1:] for at in parts_of(record)]
+    for at in parts_of(record):
+        digit = lines[at][-2:-1]
+        changed.append(lines[:at] + [lines[at][:-2] + (b"1" if digit != b"1" else b"2") + b"\n"] + lines[at + 1:])
+    for it in changed:
+        ran = run(program, "--replay", stdin=b"".join(it))
+        assert ran.returncode == 1 and re.search(rb"contiki: .*line \d+ of the record: ", ran.stderr), (it, told(ran))
+    assert run(program, "--replay", stdin=record).returncode == 0
+
+
+def test_cut_record(contiki: Contiki, tmp_path: Path) -> None:
+    """A record that is cut anywhere after its first line replays to a prefix of the run."""
+    ran, record = recorded(contiki, tmp_path / "record", THERMO, SECONDS)
+    program = tmp_path / "program"
+    succeed(ROOT / "contiki", "--library", contiki.library, "--build", program, THERMO)
+    lengths = set()
+    for end in range(record.index(b"\n") + 1, len(record) + 1):
+        again = run(program, "--replay", stdin=record[:end])
+        assert again.returncode == 0 and ran.stdout.startswith(again.stdout), (end, told(again))
+        lengths.add(len(again.stdout))
+    assert len(lengths) > 4 and max(lengths) == len(ran.stdout)
+
+
+@pytest.mark.parametrize("record,words,status,told_as", [
+    (b"tick 5\n", [], 2, "this is no record: it doesn't begin with `# record 1 sources ..`"),
+    (b"", [], 2, "this is no record: it doesn't begin with `# record 1 sources ..`"),
+    ("as it is", ["--clock-second", "64"], 64, "the record doesn't fit: CLOCK_SECOND is 128 there, 64 in this program"),
+    ("as it is", ["--heap", "512"], 64, "the record has the sizes: leave out --heap"),
+    ("as it is", ["--node", "3"], 64, "the record has the mote's number: leave out --node"),
+    ("as it is", ["--record", "other"], 64, "--replay makes no record: leave out --record"),
+    ("as it is", ["--network", THERMO], 64, "--node, --record and --replay are for one mote: leave out --network"),
+])
+def test_refused_replay(contiki: Contiki, tmp_path: Path, record: bytes | str, words: list[str], status: int, told_as: str) -> None:
+    _, whole = recorded(contiki, tmp_path / "record", THERMO, SECONDS)
+    ran = replayed(contiki, tmp_path / "record", THERMO, record if isinstance(record, bytes) else whole, *words)
+    assert ran.returncode == status and told_as in messages(ran.stderr), told(ran)
+
+
+def test_replay_of_another_program(contiki: Contiki, tmp_path: Path) -> None:
+    """A changed source is named; where its run is another one, the replay ends at the first difference."""
+    source = tmp_path / "thermo.c"
+    _, record = recorded(contiki, tmp_path / "record", THERMO, SECONDS)
+    source.write_text(THERMO.read_text(encoding="utf-8").replace("degrees", "kelvins"), encoding="utf-8")
+    status, text, error = outcome(replayed(contiki, tmp_path / "record", source, record, "--text"))
+    assert status == 1 and text.endswith("kelvins\n") and text.count("\n") == 1
+    assert error.startswith("contiki: the record is of other sources: this run may be another one\n"
+                            "contiki: line 5 of the record: its run isn't this one (6 ")
+    assert error.endswith(": the sources aren't those of the record\n")
+
+
+def test_copy_of_the_sources(contiki: Contiki, tmp_path: Path) -> None:
+    """The sources are known by their content, not by their folder; a header of the program's own and its macros count."""
+    header, source = tmp_path / "own.h", tmp_path / "thermo.c"
+    source.write_text('#include "own.h"\n' + THERMO.read_text(encoding="utf-8"), encoding="utf-8")
+    header.write_text("/* nothing */\n", encoding="utf-8")
+    _, record = recorded(contiki, tmp_path / "record", source, b"tick 1\n", "-DSOME=1")
+    other = tmp_path / "other"
+    other.mkdir()
+    for it in header, source:
+        (other / it.name).write_bytes(it.read_bytes())
+    same = replayed(contiki, tmp_path / "record", other / "thermo.c", record, "-DSOME=1")
+    assert messages(same.stderr) == ["replayed 1 inputs and 0 values; 2 checks agree"]
+    assert "the record is of other sources" in replayed(contiki, tmp_path / "record", source, record, "-DSOME=2").stderr.decode()
+    header.write_text("/* something */\n", encoding="utf-8")
+    assert "the record is of other sources" in replayed(contiki, tmp_path / "record", source, record, "-DSOME=1").stderr.decode()
+
+
+def test_two_runs_in_one_record(contiki: Contiki, tmp_path: Path) -> None:
+    """A board that begins anew begins a new record: a replay ends there, and says so."""
+    ran, record = recorded(contiki, tmp_path / "record", THERMO, SECONDS)
+    again = replayed(contiki, tmp_path / "record", THERMO, record + record)
+    assert (again.returncode, again.stdout) == (0, ran.stdout)
+    assert messages(again.stderr)[0] == f"another run begins at line {record.count(10) + 1} of the record: replay it from a file of its own"
+
+
+def test_bug_is_found_by_a_replay(contiki: Contiki, tmp_path: Path) -> None:
+    """A write after an array goes unnoticed, and only prints odd sums; the replay with the sanitizers names the line."""
+    script = b"tick 128\n" + b"".join(b"frame " + b"66" * length + b"\n" for length in range(5, 14)) + b"tick 128\n"
+    _, record = recorded(contiki, tmp_path / "record", HERE / "meter.c", script, "--text")
+    assert replayed(contiki, tmp_path / "record", HERE / "meter.c", record, "--text").returncode == 0
+    found = replayed(contiki, tmp_path / "record", HERE / "meter.c", record, "--text", "--sanitize")
+    assert found.returncode == 1 and b"handling PACKET (139)" in found.stderr and b"meter.c:19:" in found.stderr, told(found)
+
+
+def test_record_of_a_board(contiki: Contiki) -> None:
+    """The stored record of a board replays: the one that docs/firmware.md shows."""
+    ran = contiki("--replay", CONTIKI / "shell.record", "--text", CONTIKI / "shell.c")
+    assert outcome(ran) == (0, "help, echo TEXT, count N\nwhat is status?\n", "contiki: replayed 4 inputs and 0 values; 5 checks agree\n")
+
+
+def test_node(contiki: Contiki) -> None:
+    """With a number the program is as in a network: its identifier, its address, and headers of its frames."""
+    alone, third = contiki(HERE / "node.c"), contiki("--node", "3", HERE / "node.c")
+    for ran, text, frame in (alone, "1 0001\n", "07"), (third, "3 0003\n", "41d801cdabffff" + "0300030003000300" + "07"):
+        assert f"print {text.encode().hex()}\n" in ran.stdout.decode() and f"note sent {frame}\n" in ran.stdout.decode()
+    ran = contiki("--node", "65536", HERE / "node.c")
+    assert (ran.returncode, messages(ran.stderr)) == (64, ["a mote's number is at most 65535"])
+
+
+def test_value_outside_of_a_process(contiki: Contiki, tmp_path: Path) -> None:
+    """Only a process may read a value: a record couldn't say where another one is read."""
+    source = tmp_path / "program.c"
+    source.write_text('#include "contiki.h"\n#include "dev/value.h"\nPROCESS(only, "Only");\nAUTOSTART_PROCESSES(&only);\n'
+                      'static uint32_t read_it(void) { return 1; }\n__attribute__((constructor)) static void begin(void) '
+                      '{ value_of(read_it); }\nPROCESS_THREAD(only, ev, data) { PROCESS_BEGIN(); PROCESS_END(); }\n', encoding="utf-8")
+    ran = contiki(source)
+    assert (ran.returncode, messages(ran.stderr)) == (1, ["value_of is called outside of any process"]), told(ran)

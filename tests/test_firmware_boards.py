@@ -1,0 +1,299 @@
+"""Images of boards in the emulator: each run there is, by its record, the run of ./contiki on Linux.
+
+A live board is fed by its ports, and its clock is the emulator's, which counts instructions.
+"""
+
+import re
+from pathlib import Path
+from typing import Iterator
+
+import pytest
+
+from contiki_programs import Contiki, messages, script_of, transcript_of
+from emulator import CORES, HAS_NEWLIB, PATIENCE, Builder, Emulated, kernels, replay, run_script, whole_lines
+from tools import EXAMPLES, ROOT, Word, needs, run, told
+
+pytestmark = [needs("arm-none-eabi-gcc", "qemu-system-arm"),
+              pytest.mark.skipif(not HAS_NEWLIB, reason="not here: libnewlib-arm-none-eabi")]
+
+HERE = ROOT / "tests/c/firmware"
+CONTIKI = EXAMPLES / "contiki"
+BOARDS = ROOT / "c/contiki/boards"
+LARGE = "mps2-an385"
+EACH_CORE = (LARGE, "netduinoplus2")
+SCRIPTED = sorted(CONTIKI.glob("*.c")) + sorted((CONTIKI / "mote").glob("*.c"))
+
+
+@pytest.fixture(scope="module")
+def build(toarmuts_library: Path, shared: Path) -> Builder:
+    return Builder(kernels(shared / "kernels"), shared / "images")
+
+
+@pytest.fixture
+def boards() -> Iterator[list[Emulated]]:
+    """The boards of a test: they are ended after it."""
+    running: list[Emulated] = []
+    yield running
+    for it in running:
+        it.close()
+
+
+def start(boards: list[Emulated], image: Path, board: str, room: Path, fast: bool = False, radio: str = "") -> Emulated:
+    boards.append(Emulated(image, board, room, fast=fast, radio=radio))
+    return boards[-1]
+
+
+def check_replay(contiki: Contiki, place: Path, board: Emulated, source: Path, *words: Word) -> None:
+    """The board's record, up to its last whole line, makes on Linux what the board printed. The board ends here: what it did last may be in
+    one of both alone."""
+    board.pump(0.2)
+    board.finish()
+    ran = replay(contiki, place, whole_lines(board.heard["record"]), source, "--text", *words)
+    told_last = messages(ran.stderr)[-1]
+    assert ran.returncode == 0 and re.fullmatch(r"replayed \d+ inputs and \d+ values; [1-9]\d* checks agree", told_last), told(ran)
+    heard, made = board.heard["console"], ran.stdout
+    assert heard.startswith(made) or made.startswith(heard), (heard[-300:], made[-300:])
+    assert abs(len(heard) - len(made)) < 256
+
+
+def script_beside(source: Path) -> Path:
+    """The script of an example; those of mote's applications are beside the mote's."""
+    return source.with_suffix(".script") if source.with_suffix(".script").exists() else EXAMPLES / f"{source.stem}.script"
+
+
+@pytest.mark.parametrize("board", EACH_CORE)
+def test_scripts(build: Builder, board: str) -> None:
+    """With its script each example writes on a board the transcript that it writes on Linux."""
+    for source in SCRIPTED:
+        script = script_beside(source)
+        _, transcript, status = run_script(build(board, source, "--script", script), board)
+        assert (status, transcript) == (0, script.with_suffix(".transcript").read_bytes()), source
+
+
+@pytest.mark.parametrize("board", CORES)
+def test_live(contiki: Contiki, build: Builder, boards: list[Emulated], tmp_path: Path, board: str) -> None:
+    """A shell answers on the serial line, and the record of that replays."""
+    source = CONTIKI / "shell.c"
+    it = start(boards, build(board, source), board, tmp_path / "board")
+    it.until("record", b"# check ")
+    for line in b"help\n", b"echo some text\n", b"count 2\n":
+        it.send("console", line)
+        it.until("record", b"serial " + line.hex().encode() + b"\n# check ")
+    it.until("console", b"some text\n")
+    check_replay(contiki, tmp_path / "record", it, source)
+    record = whole_lines(it.heard["record"])
+    changed = record.replace(b"serial " + b"help\n".hex().encode(), b"serial " + b"halp\n".hex().encode())
+    assert replay(contiki, tmp_path / "record", changed, source).returncode == 1
+
+
+# A board, its number in clock.c, what that counts with, in hundredths of a second, and minutes: the emulator takes longer for the last two.
+COUNTERS = [("mps2-an385", 1, 1, 60), ("lm3s6965", 2, 100, 15), ("netduinoplus2", 3, 1, 2)]
+
+
+@pytest.mark.parametrize("board,number,step,minutes", COUNTERS, ids=["mps2-an385", "lm3s6965", "netduinoplus2"])
+def test_an_hour(contiki: Contiki, build: Builder, boards: list[Emulated], tmp_path: Path, board: str, number: int, step: int,
+                 minutes: int) -> None:
+    """For an hour the program's clock is that of another timer of the board, also where the serial line is flooded. The emulator's time
+    runs ahead while the board sleeps."""
+    source, words = HERE / "clock.c", [f"-DBOARD={number}"]
+    it = start(boards, build(board, source, *words), board, tmp_path / "board", fast=True)
+    it.until("record", b"# check ")
+    rows = [(0, 0)]
+    while rows[-1][0] < minutes * 6000 or len(rows) < 30:
+        if len(rows) % 10 == 5:
+            it.send("console", b"some text\n" * 100)
+            it.pump(0.2)
+        it.send("console", b"\nnow\n")
+        it.until("console", b"\n", len(rows))
+        own, counter = map(int, it.heard["console"].splitlines()[-1].split())
+        assert abs(counter - own) <= 1000, rows
+        rows.append((own, counter))
+    # Both are rounded down: to a tick, and to the counter's step. They differ by what passed before the counter was started.
+    ahead = [counter - own for own, counter in rows[1:]]
+    assert max(ahead) - min(ahead) <= step + 1 and abs(ahead[0]) <= step + 5, rows
+    check_replay(contiki, tmp_path / "record", it, source, *words)
+
+
+def test_stall(contiki: Contiki, build: Builder, boards: list[Emulated], tmp_path: Path) -> None:
+    """No tick is lost where the emulator itself stops for a second."""
+    source = CONTIKI / "mote/blink.c"
+    it = start(boards, build("lm3s6965", source), "lm3s6965", tmp_path / "board")
+    it.until("console", b"on", 3)
+    it.stall(1.5)
+    it.until("console", b"on", 12)
+    check_replay(contiki, tmp_path / "record", it, source)
+
+
+def test_values(contiki: Contiki, build: Builder, boards: list[Emulated], tmp_path: Path) -> None:
+    """A replay prints the values that the board read; without one of them it ends there."""
+    it = start(boards, build(LARGE, HERE / "thermo.c"), LARGE, tmp_path / "board", fast=True)
+    it.until("console", b"degrees", 8)
+    check_replay(contiki, tmp_path / "record", it, HERE / "thermo.c")
+    lines = whole_lines(it.heard["record"]).splitlines(keepends=True)
+    at = next(number for number, line in enumerate(lines) if line.startswith(b"# value "))
+    ran = replay(contiki, tmp_path / "record", b"".join(lines[:at] + lines[at + 1:]), HERE / "thermo.c")
+    assert ran.returncode == 1 and b"this run reads a value, which its run didn't" in ran.stderr, told(ran)
+
+
+def test_widths(contiki: Contiki, build: Builder, boards: list[Emulated], tmp_path: Path) -> None:
+    """A pool of structs with pointers is another pool of the mote on a board: the replay ends there, and says what may be why."""
+    it = start(boards, build(LARGE, HERE / "widths.c"), LARGE, tmp_path / "board")
+    it.until("record", b"# check ")
+    it.send("console", b"x\n")
+    it.until("record", b"# check ", 2)
+    it.pump(0.3)
+    ran = replay(contiki, tmp_path / "record", whole_lines(it.heard["record"]), HERE / "widths.c", "--text")
+    assert ran.returncode == 1, told(ran)
+    assert messages(ran.stderr)[-1].endswith("does the program depend on the size of a pointer, of a long or of a struct?"), told(ran)
+
+
+def test_two_boards(contiki: Contiki, build: Builder, boards: list[Emulated], tmp_path: Path) -> None:
+    """Two boards are joined by their radios; each one's record replays alone."""
+    sources = [CONTIKI / f"networks/{name}.c" for name in ("receiver", "sender")]
+    second = start(boards, build(LARGE, sources[0], "--node", "2"), LARGE, tmp_path / "second")
+    second.until("record", b"# check ")
+    second.sockets.pop("radio").close()
+    first = start(boards, build(LARGE, sources[1], "--node", "1"), LARGE, tmp_path / "first", radio=f"socket,path={tmp_path}/second/radio")
+    for number in range(3):
+        first.send("console", b"line %d\n" % number)
+    first.until("console", b"has arrived\n", 3)
+    second.until("console", b"line 2\n")
+    for it, source in zip((second, first), sources):
+        check_replay(contiki, tmp_path / "record", it, source)
+
+
+def test_flood_of_the_serial_line(contiki: Contiki, build: Builder, boards: list[Emulated], tmp_path: Path) -> None:
+    """Bytes that arrive faster than they can be taken are lost and counted; the record has what the mote was given, and replays."""
+    source = HERE / "slow.c"
+    it = start(boards, build(LARGE, source), LARGE, tmp_path / "board")
+    it.until("record", b"# check ")
+    flood = b"".join(b"%d: a line of a flood\n" % number for number in range(300))
+    it.send("console", flood)
+    it.pump(3)
+    it.send("console", b"\n\nthe end\n")
+    it.until("record", b"\nserial " + b"the end\n".hex().encode() + b"\n# check ")
+    # The mote was given what was sent, in its order, without what was lost.
+    given = b"".join(bytes.fromhex(it.decode()) for it in re.findall(rb"^serial (\w+)$", it.heard["record"], re.M))
+    lost = sum(map(int, re.findall(rb"^# serial line: (\d+) bytes lost$", it.heard["record"], re.M)))
+    left = iter(flood + b"\n\nthe end\n")
+    assert lost > 0 and all(byte in left for byte in given) and len(given) + lost == len(flood) + len(b"\n\nthe end\n")
+    check_replay(contiki, tmp_path / "record", it, source)
+
+
+def test_flood_of_the_radio(contiki: Contiki, build: Builder, boards: list[Emulated], tmp_path: Path) -> None:
+    """The same for frames, and for bytes that are none."""
+    source = CONTIKI / "mote/relay.c"
+    it = start(boards, build(LARGE, source), LARGE, tmp_path / "board")
+    it.until("record", b"# check ")
+    for number in range(100):
+        it.send("radio", b"\xc0" + bytes([1 + number % 100]) * (5 + number % 100) + b"\xc0")
+    it.send("radio", b"\xc0" + b"x" * 200 + b"\xc0\xdb\x01\xc0\xdb\xc0")
+    it.pump(2)
+    it.send("radio", b"\xc0\xdb\xdc\xdb\xdd\x2a\xc0")
+    it.until("record", b"frame c0db2a\n# check ")
+    it.until("radio", b"\xc0\xdb\xdc\xdb\xdd\x2a\xc0")
+    assert b"bad frames" in it.heard["record"]
+    check_replay(contiki, tmp_path / "record", it, source)
+
+
+def test_record_that_nobody_reads(contiki: Contiki, build: Builder, boards: list[Emulated], tmp_path: Path) -> None:
+    """Where the record's port is too slow the board goes on, and the record ends with a line that says so: it never has a gap."""
+    source = CONTIKI / "mote/blink.c"
+    it = start(boards, build(LARGE, source), LARGE, tmp_path / "board", fast=True)
+    it.until("record", b"# check ")
+    for _ in range(200):
+        it.pump(0.1, ports=("console",))
+        if it.heard["console"].count(b"\n") > 100_000 // 8:
+            break
+    it.until("record", b"# the record ends here: the port is too slow\n")
+    assert whole_lines(it.heard["record"]).endswith(b"# the record ends here: the port is too slow\n")
+    ran = replay(contiki, tmp_path / "record", whole_lines(it.heard["record"]), source, "--text")
+    assert ran.returncode == 0 and it.heard["console"].startswith(ran.stdout[:len(it.heard["console"])]), told(ran)
+
+
+FAULTS = ["null", "zero", "exit", "abort", "assert", "timers", "8", "100", "1000", "4000"]
+
+
+@pytest.mark.parametrize("how", FAULTS)
+def test_fault(contiki: Contiki, build: Builder, boards: list[Emulated], tmp_path: Path, how: str) -> None:
+    """A fault is told on the console and in the record with the simulator's message, and the board begins anew; the replay has the same
+    fault at the same place."""
+    board = "lm3s6965" if how in ("null", "100", "4000") else LARGE
+    source = HERE / "faults.c"
+    it = start(boards, build(board, source), board, tmp_path / "board")
+    it.until("record", b"# check ")
+    it.send("console", how.encode() + b"\n")
+    assert it.ended() == 0
+    ran = replay(contiki, tmp_path / "record", it.heard["record"], source, "--text")
+    (message,) = messages(ran.stderr)
+    assert f"contiki: {message}\n".encode() in it.heard["console"] and f"# contiki: {message}\n".encode() in it.heard["record"], told(ran)
+    assert it.heard["console"].startswith(b"ready\n" + how.encode() + b"\n")
+
+
+def test_stop_at_fault(build: Builder, boards: list[Emulated], tmp_path: Path) -> None:
+    """As it is told, the board stops instead."""
+    it = start(boards, build(LARGE, HERE / "faults.c", "--stop-at-fault"), LARGE, tmp_path / "board")
+    it.until("record", b"# check ")
+    it.send("console", b"exit\n")
+    it.until("console", b"the program called exit\n")
+    it.pump(1)
+    assert it.process.poll() is None and it.heard["console"].count(b"ready") == 1
+
+
+def test_own_board(build: Builder, boards: list[Emulated], tmp_path: Path) -> None:
+    """A file of one's own is a board, beside its linker script."""
+    assert build("template", CONTIKI / "blinker.c").exists() and len((BOARDS / "template.c").read_text("utf-8").splitlines()) <= 80
+    for end in "c", "ld":
+        (tmp_path / f"mine.{end}").write_bytes((BOARDS / f"mps2-an385.{end}").read_bytes())
+    image = tmp_path / "image"
+    ran = run(ROOT / "contiki", "--library", build.library, "--board", tmp_path / "mine.c", CONTIKI / "blinker.c", "-o", image)
+    assert (ran.returncode, ran.stderr) == (0, b""), told(ran)
+    it = start(boards, image, LARGE, tmp_path / "board")
+    it.until("console", b"LED on\n")
+
+
+def test_run_by_the_command(contiki: Contiki, build: Builder) -> None:
+    """`--run` with a script writes the transcript, or with `--text` what is printed."""
+    source = CONTIKI / "kitchen.c"
+    words: list[Word] = [ROOT / "contiki", "--library", build.library, "--board", LARGE, "--script", source.with_suffix(".script")]
+    ran = run(*words, "--run", source, timeout=PATIENCE)
+    assert (ran.returncode, ran.stdout) == (0, transcript_of(source)), told(ran)
+    printed = run(*words, "--run", "--text", source, timeout=PATIENCE).stdout
+    assert printed == contiki("--text", source, stdin=script_of(source)).stdout
+
+
+@pytest.mark.parametrize("words,told_as", [
+    (["--board", "arduino", "-o", "image"], "there is no board arduino: lm3s6965 mps2-an385 netduinoplus2 or a file of your own "
+     "(docs/firmware.md)"),
+    (["--board", LARGE], "--board needs -o IMAGE, or --run"),
+    (["--board", LARGE, "-o", "image", "--sanitize"], "--board builds an image: leave out --network, --sanitize, --replay, --test, "
+     "--picture, --gdb, --build and --cc"),
+    (["--board", LARGE, "-o", "image", "--record", "file"], "--record FILE and --radio are for --run: the image writes its record to "
+     "the third port"),
+    (["--run"], "-o, --run, --script, --radio and --stop-at-fault are for --board"),
+    (["--board", LARGE, "-o", "image", "--heap", "x"], "--heap needs a number"),
+    (["--board", LARGE, "-o", "image", "--node", "70000"], "a mote's number is at most 65535"),
+])
+def test_refused(contiki: Contiki, tmp_path: Path, words: list[str], told_as: str) -> None:
+    (tmp_path / "cortex-m3").mkdir()
+    (tmp_path / "cortex-m3/libtoarmuts.a").touch()
+    for name in "toarmuts.h", "toarmuts_memory.c":
+        (tmp_path / name).write_bytes((contiki.library / name).read_bytes())
+    ran = run(ROOT / "contiki", "--library", tmp_path, *words, CONTIKI / "blinker.c", cwd=tmp_path)
+    assert (ran.returncode, messages(ran.stderr)) == (64, [told_as]), told(ran)
+
+
+@pytest.mark.parametrize("lacks,words,told_as", [
+    ("arm-none-eabi-gcc", [], "arm-none-eabi-gcc is missing: apt-get install gcc-arm-none-eabi libnewlib-arm-none-eabi"),
+    ("qemu-system-arm", ["--run"], "qemu-system-arm is missing: apt-get install qemu-system-arm"),
+])
+def test_missing_tool(tmp_path: Path, lacks: str, words: list[str], told_as: str) -> None:
+    """What is missing is named with the command that gets it."""
+    tools = tmp_path / "bin"
+    tools.mkdir()
+    for folder in "/bin", "/usr/bin":
+        for it in Path(folder).iterdir():
+            if it.name != lacks and not (tools / it.name).exists():
+                (tools / it.name).symlink_to(it)
+    ran = run(ROOT / "contiki", "--board", LARGE, "-o", "image", *words, CONTIKI / "blinker.c", settings={"PATH": str(tools)}, cwd=tmp_path)
+    assert (ran.returncode, messages(ran.stderr)) == (69, [told_as]), told(ran)
