@@ -201,12 +201,14 @@ def test_settings_of_a_program_without_ipv6(contiki: Contiki, tmp_path: Path) ->
 
 
 def test_settings_take_effect(contiki: Contiki, tmp_path: Path) -> None:
-    """A DIO's options, the hop limit, and the longest packet: one of 100 bytes has 52 of data."""
-    transcript = run_network(contiki, tmp_path, "mote 1 talk.c\n", [IPV6 / "talk.c"], serial(1, "2 #53") + serial(1, "* x") + "tick 2000\n",
+    """A DIO's options, the hop limit, and the longest packet: one of 128 bytes has 80 of data."""
+    script = serial(1, "* " + 81 * "y") + serial(1, "* x") + "tick 2000\n"
+    transcript = run_network(contiki, tmp_path, "mote 1 talk.c\n", [IPV6 / "talk.c"], script,
                              "-DRPL_CONF_DIO_INTERVAL_MIN=10", "-DRPL_CONF_DIO_INTERVAL_DOUBLINGS=3", "-DRPL_CONF_DIO_REDUNDANCY=5",
                              "-DRPL_CONF_DEFAULT_LIFETIME=20", "-DRPL_CONF_DEFAULT_LIFETIME_UNIT=30", "-DRPL_CONF_MIN_HOPRANKINC=256",
                              "-DUIP_CONF_TTL=7", "-DUIP_CONF_BUFFER_SIZE=128").stdout
     frames = frames_of(transcript)
+    assert b"81 bytes aren't sent: a packet has".hex().encode() in transcript
     # IPHC with the hop limit after it: next header compression, ff02::1 in one byte.
     assert frames[0].data[15:19].hex() == "7c3b" "07" "01" and frames[0].data.endswith(b"x")
     configuration = bytes.fromhex("040e" "00" "03" "0a" "05" "0000" "0100" "0000" "00" "14" "001e")
