@@ -22,9 +22,9 @@ SANITIZERS = ("-fsanitize=fuzzer,address,undefined", "-fno-sanitize-recover=all"
 MODULE_SIZES = ("-DMMEM_CONF_SIZE=256", "-DHEAPMEM_CONF_ARENA_SIZE=1024", "-DHEAPMEM_CONF_MAX_ZONES=3")
 DRIVER = (f"-I{ROOT}/c/contiki/include", f"-I{CRATES}/toarmuts/include", f"-I{ROOT}/c/contiki/src")
 MODULES = {"heapmem": ("heapmem", "heapmem-memory"), "mmem": ("mmem", "mmem-memory", "managed"), "memb": ("memb",)}
-NAMES = ("network_files", "library", *MODULES)
+NAMES = ("network_files", "library", "ipv6", *MODULES)
 # The longest input of a target, and those that its corpus may have.
-LONGEST = {"network_files": 1400, "library": 600}
+LONGEST = {"network_files": 1400, "library": 600, "ipv6": 600}
 SHORT = 600
 
 
@@ -35,6 +35,10 @@ def arguments(name: str) -> list[str | Path]:
     if name == "library":
         crate = CRATES / "toarmuts"
         return ["-DREPORT", f"-I{crate}/include", crate / "include/toarmuts_memory.c", crate / "out/libtoarmuts.a"]
+    if name == "ipv6":
+        driver = ROOT / "c/contiki/src"
+        parts = [*sorted(driver.glob("ipv6/*.c")), driver / "framer.c", driver / "modules/trickle-timer.c", driver / "modules/uiplib.c"]
+        return ["-DCONTIKI_MODULE", *DRIVER, *parts, ROOT / "c/modules/src/list.c"]
     sources = [ROOT / f"c/modules/src/{source}.c" for source in MODULES[name]]
     return [*MODULE_SIZES, f"-I{ROOT}/c/modules/include", f"-I{ROOT}/tests/c", *sources, CRATES / "modules_c/out/libmodules_c.a"]
 

@@ -9,7 +9,7 @@ from fuzz_targets import FOLDER, NAMES, build, corpus, has_fuzzer, unpack
 from tools import library, run, told
 
 # The least number of inputs of each corpus: without them a replay would show nothing.
-LEAST = {"network_files": 100, "library": 100, "heapmem": 20, "mmem": 10, "memb": 2}
+LEAST = {"network_files": 100, "library": 100, "ipv6": 100, "heapmem": 20, "mmem": 10, "memb": 2}
 ARCHIVES = {"library": "toarmuts", "heapmem": "modules_c", "mmem": "modules_c", "memb": "modules_c"}
 
 

@@ -130,7 +130,7 @@ unsigned free_handle(void);
 bool check_late(bool depends);
 void check_blocks(const struct process *p, const void *frame);
 
-/* nullnet.c, and framer.c: the frames of a network. */
+/* radio.c, and framer.c: the frames of a network. radio.h has what is above them. */
 void forget_receiver(const struct process *p);
 bool receive_again(void);
 void follow_receiver(void);
@@ -138,7 +138,7 @@ bool takes_frames(void);
 bool stays_for_frames(const struct process *p);
 void take_frame(size_t length);
 
-void join_network(uint16_t number);
+void join_network(uint16_t number, clock_time_t longest);
 bool is_in_network(void);
 size_t header_length(const linkaddr_t *to);
 void write_header(uint8_t *header, const linkaddr_t *to);

@@ -7,6 +7,9 @@ extern const struct process_entry __start_process_entries[] __attribute__((weak)
 extern const struct process_entry __stop_process_entries[] __attribute__((weak));
 extern struct process *const autostart_processes[] __attribute__((weak));
 
+/* The process of the IPv6 stack, if the program has that (ipv6/tcpip.c). It starts before those of the program. */
+extern struct process tcpip_process __attribute__((weak));
+
 struct process *process_current, *process_list;
 struct process *processes[MOST_PROCESSES];
 unsigned process_count;
@@ -93,11 +96,14 @@ number_processes(void)
   }
   qsort(entries, count, sizeof *entries, compare_entries);
   for(size_t i = 0; i < count; i++) {
-    if(!is_autostarted(entries[i].process)) {
+    if(!is_autostarted(entries[i].process) && entries[i].process != &tcpip_process) {
       add_process(entries[i].process);
     }
   }
   not_started = process_count;
+  if(&tcpip_process != NULL) {
+    add_process(&tcpip_process);
+  }
   for(struct process *const *started = autostart_processes; *started != NULL; started++) {
     add_process(*started);
   }

@@ -1,10 +1,11 @@
-/* The layers of the network: NullNet, and below it a radio that can be turned off. */
+/* The layers of the network: NullNet, or UDP over IPv6 with routing, and below either a radio that can be turned off. */
 #ifndef NETSTACK_H_
 #define NETSTACK_H_
 
 #include <stdint.h>
 
 #include "net/linkaddr.h"
+#include "net/routing/routing.h"
 #include "sys/cc.h"
 
 struct network_driver {
@@ -18,6 +19,9 @@ struct network_driver {
 
 extern const struct network_driver nullnet_driver;
 #define NETSTACK_NETWORK nullnet_driver
+
+/* A program that names this, or a call of UDP, has the IPv6 stack with its process "TCP/IP stack". It has no NullNet then. */
+#define NETSTACK_ROUTING rpl_lite_driver
 
 /* The radio. It is on from the start. While it is off, frames that arrive are dropped; sending works all the same. In a program that names
  * it, ENERGEST_TYPE_LISTEN is on while the radio is. */

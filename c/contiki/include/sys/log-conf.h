@@ -1,14 +1,9 @@
-/* The levels of log.h. A program's project-conf.h may set others. */
+/* The settings of log.h. A program's project-conf.h may set others. */
 #ifndef LOG_CONF_H_
 #define LOG_CONF_H_
 
 #include "contiki-conf.h"
-
-#define LOG_LEVEL_NONE 0
-#define LOG_LEVEL_ERR 1
-#define LOG_LEVEL_WARN 2
-#define LOG_LEVEL_INFO 3
-#define LOG_LEVEL_DBG 4
+#include "sys/log-levels.h"
 
 #ifdef LOG_CONF_LEVEL_MAIN
 #define LOG_LEVEL_MAIN LOG_CONF_LEVEL_MAIN

@@ -74,11 +74,11 @@ main(void)
 }
 
 static unsigned
-join(const struct network_host *host, uint16_t number, const void *stack)
+join(const struct network_host *host, uint16_t number, clock_time_t longest_delay, const void *stack)
 {
   network = host;
   stack_begin = stack;
-  join_network(number);
+  join_network(number, longest_delay);
   number_processes();
   make_tables();
   return process_count;

@@ -376,10 +376,21 @@ static const struct network_host host = {
 
 /* Inputs, and the start. */
 
+static clock_time_t
+longest_delay(const struct network_setup *setup)
+{
+  clock_time_t longest = 0;
+  for(size_t i = 0; i < setup->link_count; i++) {
+    longest = MAX(longest, setup->links[i].delay);
+  }
+  return longest;
+}
+
 /* Makes the motes that are set up, each by the program that it runs, and notes the number of their processes. */
 void
 make_motes(struct network_setup *setup, const char *copies, const void *stack)
 {
+  clock_time_t longest = longest_delay(setup);
   mote_count = setup->mote_count;
   motes = take_room(NULL, mote_count, sizeof *motes);
   for(size_t i = 0; i < mote_count; i++) {
@@ -387,7 +398,7 @@ make_motes(struct network_setup *setup, const char *copies, const void *stack)
   }
   for(size_t i = 0; i < mote_count; i++) {
     switch_to((unsigned)i + 1);
-    setup->motes[i].applications = present->copy->program->join(&host, (uint16_t)(i + 1), stack);
+    setup->motes[i].applications = present->copy->program->join(&host, (uint16_t)(i + 1), longest, stack);
   }
 }
 

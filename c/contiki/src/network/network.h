@@ -20,8 +20,8 @@ struct network_host {
 
 /* The functions of a program for the command, for the mote whose static data is in place. */
 struct network_program {
-  /* Becomes the mote of this number; returns the number of its processes. */
-  unsigned (*join)(const struct network_host *host, uint16_t number, const void *stack);
+  /* Becomes the mote of this number, of a network with this longest delay of its links; returns the number of its processes. */
+  unsigned (*join)(const struct network_host *host, uint16_t number, clock_time_t longest_delay, const void *stack);
   void (*run_activation)(const struct toarmuts_turn *turn);
   const struct toarmuts_turn *(*mote_call)(const struct toarmuts_call *call);
   struct activation **activation;

@@ -1,4 +1,7 @@
-/* IPv6 addresses, which a program may make, compare and print: the mote has no IPv6. */
+/*
+ * IPv6: addresses, and what programs use of uip.h. A mote's addresses end in its link-layer address, with the bit for "universal" flipped
+ * (RFC 4291, appendix A): mote 2 is fe80::202:2:2:2, and fd00::202:2:2:2 in the network of a root.
+ */
 #ifndef UIP_H_
 #define UIP_H_
 
@@ -6,12 +9,39 @@
 #include <stdint.h>
 #include <string.h>
 
+#include "net/ipv6/uipopt.h"
+#include "net/linkaddr.h"
+
 typedef union uip_ip6addr_t {
   uint8_t u8[16];
   uint16_t u16[8];
 } uip_ip6addr_t;
 
 typedef uip_ip6addr_t uip_ipaddr_t;
+
+typedef struct uip_802154_longaddr {
+  uint8_t addr[LINKADDR_SIZE];
+} uip_lladdr_t;
+
+/* The mote's link-layer address. */
+extern uip_lladdr_t uip_lladdr;
+
+#define UIP_LLADDR_LEN LINKADDR_SIZE
+#define UIP_LLH_LEN 0
+
+/* Lengths of headers. UIP_BUFSIZE, the longest packet, is a setting (uipopt.h). */
+#define UIP_IPH_LEN 40
+#define UIP_UDPH_LEN 8
+#define UIP_IPUDPH_LEN (UIP_IPH_LEN + UIP_UDPH_LEN)
+#define UIP_ICMPH_LEN 4
+
+#define UIP_PROTO_HBHO 0
+#define UIP_PROTO_UDP 17
+#define UIP_PROTO_ROUTING 43
+#define UIP_PROTO_FRAG 44
+#define UIP_PROTO_ICMP6 58
+#define UIP_PROTO_NONE 59
+#define UIP_PROTO_DESTO 60
 
 /* A number between the host's order of bytes and the network's, the high byte first. */
 #if __BYTE_ORDER__ == __ORDER_LITTLE_ENDIAN__
@@ -71,8 +101,40 @@ uip_htonl(uint32_t val)
     (addr)->u16[3] = 0;                   \
   } while(0)
 
+extern const uip_ipaddr_t uip_all_zeroes_addr;
+#define uip_is_addr_unspecified(a) uip_ip6addr_cmp(a, &uip_all_zeroes_addr)
 #define uip_is_addr_linklocal(a) ((a)->u8[0] == 0xfe && (a)->u8[1] == 0x80)
 #define uip_is_addr_mcast(a) ((a)->u8[0] == 0xff)
 #define uip_is_addr_mcast_global(a) ((a)->u8[0] == 0xff && ((a)->u8[1] & 0x0f) == 0x0e)
+
+/* What was received, sent and dropped. What is malformed is dropped and counted. */
+typedef uint16_t uip_stats_t;
+
+struct uip_stats {
+  struct {
+    uip_stats_t recv, sent, forwarded, drop;
+    uip_stats_t vhlerr;   /* the version isn't 6 */
+    uip_stats_t lblenerr; /* a length is wrong */
+    uip_stats_t protoerr; /* the next header is unknown */
+  } ip;
+  struct {
+    uip_stats_t recv, sent, drop;
+    uip_stats_t typeerr, chkerr;
+  } icmp;
+  struct {
+    uip_stats_t recv, sent, drop;
+    uip_stats_t chkerr;
+  } udp;
+  /* These aren't in Contiki-NG: frames, those that were sent again or were never acknowledged, and what 6LoWPAN could neither expand nor
+   * join. */
+  struct {
+    uip_stats_t recv, sent, drop, again, lost;
+  } mac;
+  struct {
+    uip_stats_t drop;
+  } sicslowpan;
+};
+
+extern struct uip_stats uip_stat;
 
 #endif

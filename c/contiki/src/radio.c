@@ -1,39 +1,13 @@
-/* Frames: nullnet.h, netstack.h and linkaddr.h. */
+/* Frames: who receives them, and how they are sent. What they mean is a matter of the layer above, NullNet or IPv6. */
 #include "driver.h"
-#include "net/netstack.h"
-#include "net/nullnet/nullnet.h"
-#include "net/packetbuf.h"
+#include "radio.h"
 
 #include <stdlib.h>
-
-linkaddr_t linkaddr_node_addr = {{0, 1, 0, 1, 0, 1, 0, 1}};
-const linkaddr_t linkaddr_null = {{0}};
-
-void
-linkaddr_copy(linkaddr_t *dest, const linkaddr_t *from)
-{
-  *dest = *from;
-}
-
-bool
-linkaddr_cmp(const linkaddr_t *addr1, const linkaddr_t *addr2)
-{
-  return memcmp(addr1, addr2, sizeof *addr1) == 0;
-}
-
-void
-linkaddr_set_node_addr(linkaddr_t *addr)
-{
-  linkaddr_node_addr = *addr;
-}
 
 /* Whether the radio is on, if the program names it: a module of its own (modules/mote-radio.c). */
 extern const bool mote_radio_is_on __attribute__((weak));
 
-uint8_t *nullnet_buf;
-uint16_t nullnet_len;
-
-static nullnet_input_callback input_callback;
+static radio_callback frame_callback;
 
 /* The process that receives frames, or NULL; whether there was one; and the one that must follow it, or NULL. */
 static const struct process *receiver, *follower;
@@ -51,9 +25,9 @@ open_packets(void)
 }
 
 void
-nullnet_set_input_callback(nullnet_input_callback callback)
+mote_radio_set_callback(radio_callback callback)
 {
-  input_callback = callback;
+  frame_callback = callback;
   if(callback != NULL) {
     open_packets();
   }
@@ -115,7 +89,7 @@ takes_frames(void)
 bool
 stays_for_frames(const struct process *p)
 {
-  if(!had_receiver || input_callback == NULL || !runs_alone(p)) {
+  if(!had_receiver || frame_callback == NULL || !runs_alone(p)) {
     return false;
   }
   open_packets();
@@ -142,9 +116,8 @@ static void
 call_back(const uint8_t *bytes, size_t length)
 {
   size_t header;
-  if(take_header(bytes, length, &header) && input_callback != NULL) {
-    input_callback(bytes + header, (uint16_t)(length - header), packetbuf_addr(PACKETBUF_ADDR_SENDER),
-                   packetbuf_addr(PACKETBUF_ADDR_RECEIVER));
+  if(take_header(bytes, length, &header) && frame_callback != NULL) {
+    frame_callback(bytes, length, header);
   }
 }
 
@@ -180,45 +153,55 @@ write_frame(unsigned handle, const uint8_t *bytes, size_t length)
   }
 }
 
-/* The number of the program's bytes that a frame can have after its header. */
-static void
-check_frame(size_t header)
-{
-  unsigned length = nullnet_buf == NULL ? 0 : nullnet_len;
-  if(header == 0 && (length == 0 || length > LINE_BYTES)) {
-    stop("a frame of %u bytes can't be sent: frames have 1 to 127", length);
-  } else if(length > LINE_BYTES - header) {
-    stop("a frame of %u bytes can't be sent: with its header, of %u bytes, it has at most 127", length, (unsigned)header);
-  }
-}
-
 /* `mmem-alloc`, `mmem-write`, `packet-send`, `mmem-free`: the mote sends the content of a managed block. */
-static uint8_t
-output(const linkaddr_t *localdest)
+bool
+mote_radio_send(const uint8_t *frame, size_t length)
 {
   unsigned handle = free_handle();
-  size_t header = is_in_network() ? header_length(localdest) : 0, length = header + (nullnet_buf == NULL ? 0 : nullnet_len);
-  uint8_t frame[LINE_BYTES];
-  check_frame(header);
   if(check_late(refusal_of(MOTE_ASK(TOARMUTS_CALL_MMEM_ALLOC, handle, (uint32_t)length)) != 0)) {
-    return 0;
-  }
-  if(header > 0) {
-    write_header(frame, localdest);
-  }
-  if(length > header) {
-    memcpy(frame + header, nullnet_buf, length - header);
+    return false;
   }
   write_frame(handle, frame, length);
   MOTE_ASK(TOARMUTS_CALL_PACKET_SEND, handle);
   MOTE_ASK(TOARMUTS_CALL_MMEM_FREE, handle);
-  return 1;
+  return true;
 }
 
-/* The network exists from the start, and frames arrive as events of the mote. */
+/* Ends the program where a frame can't have this many of its bytes after the header. */
 static void
-do_nothing(void)
+check_frame(size_t header, size_t length)
 {
+  if(header == 0 && (length == 0 || length > LINE_BYTES)) {
+    stop("a frame of %zu bytes can't be sent: frames have 1 to 127", length);
+  } else if(length > LINE_BYTES - header) {
+    stop("a frame of %zu bytes can't be sent: with its header, of %zu bytes, it has at most 127", length, header);
+  }
 }
 
-const struct network_driver nullnet_driver = {"nullnet", do_nothing, do_nothing, output};
+bool
+mote_radio_send_bytes(const linkaddr_t *to, const uint8_t *bytes, size_t length)
+{
+  size_t header = is_in_network() ? header_length(to) : 0;
+  uint8_t frame[LINE_BYTES];
+  check_frame(header, length);
+  if(header > 0) {
+    write_header(frame, to);
+  }
+  if(length > 0) {
+    memcpy(frame + header, bytes, length);
+  }
+  return mote_radio_send(frame, header + length);
+}
+
+size_t
+mote_radio_write_header(uint8_t *header, const linkaddr_t *to)
+{
+  write_header(header, to);
+  return header_length(to);
+}
+
+clock_time_t
+mote_radio_clock(void)
+{
+  return clock_now();
+}
