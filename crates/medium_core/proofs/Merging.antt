@@ -1,5 +1,5 @@
 -- The flights of a queue and of a heap as one list.
-use Rattle.std.proofs.Common.{◌≡◌, ◌≢◌, ℕ, suc, ◌+◌, ◌-◌, ◌<◌, ◌≤◌, List, [], ◌∷◌, ◌++◌, length, get_or, refl, ap, sym, subst, ◌∙◌, arith, Bool, true, false, nat_lt, if◌then◌else◌, IfSome, IsSome, None, Option, Some, option_to_list}
+use Rattle.std.proofs.Common.{◌≡◌, ◌≢◌, ℕ, suc, ◌+◌, ◌-◌, ◌<◌, ◌≤◌, List, [], ◌∷◌, ◌++◌, length, take, drop, get_or, refl, ap, sym, subst, ◌∙◌, arith, Bool, true, false, nat_lt, if◌then◌else◌, IfSome, IsSome, None, Option, Some, option_to_list}
 use Rattle.std.proofs.lemmas.Bool.Decides.{nat_tests}
 use Rattle.std.specs.List.{AllByRecursion}
 use Rattle.medium_core.specs.declared.flight.Flight.{Flight}
@@ -83,11 +83,6 @@ after_first f (g ∷ heap) queue later =
     let not_less : nat_lt g.due f.due ≡ false = let le = later.0 in grind (arith, nat_tests) in
     rw not_less (after_first f heap (with_flight g queue) later.1)
 
-pub heap_first : (f : Flight) (heap queue : List Flight) → InOrder (f ∷ heap) → is_overtaken (f ∷ heap) queue ≡ true →
-    with_flights (f ∷ heap) queue ≡ f ∷ with_flights heap queue
-heap_first f heap [] order e = after_first f heap [] order.0
-heap_first f heap (g ∷ queue) order e = rw e (after_first f heap (g ∷ queue) order.0)
-
 later_than : (g : Flight) (heap queue : List Flight) → InOrder heap → is_overtaken heap (g ∷ queue) ≡ false → AllByRecursion (λ (f : Flight). g.due ≤ f.due) heap
 later_than g [] queue order e = tt
 later_than g (f ∷ heap) queue order e =
@@ -104,6 +99,46 @@ ahead_popped g [] queue e ahead = tt
 ahead_popped g (f ∷ heap) [] e ahead = let less = ahead.0 in absurd (grind (arith, nat_tests))
 ahead_popped g (f ∷ heap) (h ∷ queue) e ahead = ahead
 
+-- none overtakes a queue that has one more at its end
+pub in_turn_at_end : (f : Flight) (heap queue : List Flight) → is_overtaken heap queue ≡ false → is_overtaken heap (queue ++ f ∷ []) ≡ false
+in_turn_at_end f [] queue e = refl
+in_turn_at_end f (h ∷ heap) [] e = absurd (cc)
+in_turn_at_end f (h ∷ heap) (g ∷ queue) e = e
+
+-- the first of the heap went to the front of the queue
+order_pulled : (heap queue : List Flight) → InOrder queue → is_overtaken heap queue ≡ true → InOrder (take 1 heap ++ queue)
+order_pulled [] queue order e = order
+order_pulled (f ∷ heap) [] order e = (tt, tt)
+order_pulled (f ∷ heap) (g ∷ queue) order e =
+    let less : f.due < g.due = grind (arith, nat_tests) in
+    ((omega (arith, less), all_weaker (λ (h : Flight). g.due ≤ h.due) (λ (h : Flight). f.due ≤ h.due) (λ h le. omega (arith, le, less)) queue order.0), order)
+
+heap_order_pulled : (heap : List Flight) → InOrder heap → InOrder (drop 1 heap)
+heap_order_pulled [] order = order
+heap_order_pulled (f ∷ heap) order = order.1
+
+ahead_pulled : (heap queue : List Flight) → AllByRecursion (λ (f : Flight). f.due < last_due 0 queue) heap →
+    AllByRecursion (λ (f : Flight). f.due < last_due 0 (take 1 heap ++ queue)) (drop 1 heap)
+ahead_pulled [] queue ahead = tt
+ahead_pulled (f ∷ heap) [] ahead = absurd (omega (arith, ahead.0))
+ahead_pulled (f ∷ heap) (g ∷ queue) ahead = ahead.1
+
+within_pulled : (heap queue : List Flight) → length (drop 1 heap) + length (take 1 heap ++ queue) ≡ length heap + length queue
+within_pulled [] queue = refl
+within_pulled (f ∷ heap) queue = omega arith
+
+pub room_pulled : (room capacity new_capacity : ℕ) (heap new : Pile) (queue items : List Flight) → is_overtaken heap.flights queue ≡ true →
+    items ≡ take 1 heap.flights ++ queue → new.flights ≡ drop 1 heap.flights → new.room ≡ heap.room → capacity ≤ new_capacity →
+    HasRoom room capacity heap queue → HasRoom room new_capacity new items
+room_pulled room capacity new_capacity heap new queue items e is left kept grown h = record {
+  order = subst InOrder (sym is) (order_pulled heap.flights queue h.order e);
+  heap_order = subst InOrder (sym left) (heap_order_pulled heap.flights h.heap_order);
+  ahead = rw (is, left) (ahead_pulled heap.flights queue h.ahead);
+  within = omega (arith, h.within, ap length is, ap length left, within_pulled heap.flights queue);
+  taken = omega (arith, h.taken, grown);
+  heap_taken = omega (arith, h.heap_taken, kept);
+}
+
 -- when the last one arrives, read at its index
 pub last_read : (due : ℕ) (queue : List Flight) (d : Flight) → 0 < length queue → (get_or queue (length queue - 1) d).due ≡ last_due due queue
 last_read due [] d some = absurd (omega arith)
@@ -112,18 +147,7 @@ last_read due (f ∷ g ∷ queue) d some =
     let e : length (f ∷ g ∷ queue) - 1 ≡ suc (length (g ∷ queue) - 1) = omega arith in
     ap (λ (i : ℕ). (get_or (f ∷ g ∷ queue) i d).due) e ∙ last_read f.due (g ∷ queue) d (omega arith)
 
--- one left the heap
-pub heap_left : (f : Flight) (old new queue : List Flight) → old ≡ f ∷ new → InOrder old → is_overtaken old queue ≡ true →
-    with_flights old queue ≡ f ∷ with_flights new queue
-heap_left f old new queue e order test =
-    subst (λ (l : List Flight). with_flights l queue ≡ f ∷ with_flights new queue) (sym e)
-    (heap_first f new queue (subst InOrder e order) (subst (λ (l : List Flight). is_overtaken l queue ≡ true) e test))
-
-pub heap_first_flight : (f : Flight) (heap queue : List Flight) → first_flight heap ≡ Some f → InOrder heap → is_overtaken heap queue ≡ true →
-    first_flight (with_flights heap queue) ≡ Some f
-heap_first_flight f [] queue e order test = absurd (cc)
-heap_first_flight f (g ∷ heap) queue e order test = ap first_flight (heap_first g heap queue order test) ∙ e
-
+-- the first of the queue arrives next
 pub queue_first_flight : (f : Flight) (heap queue : List Flight) → 0 < length queue → f ≡ get_or queue 0 f → InOrder heap →
     is_overtaken heap queue ≡ false → first_flight (with_flights heap queue) ≡ Some f
 queue_first_flight f heap [] some e order test = absurd (omega arith)

@@ -58,6 +58,7 @@ impl FlightHeap {
     }
 
     /// Adds one, after all that arrive no later.
+    #[inline(never)]
     pub(crate) fn add(&mut self, flight: Flight)
         requires room { length self.old.flights < self.old.room }
         requires number { self.old.number + 1 < 2 ^ 64 }
@@ -80,6 +81,7 @@ impl FlightHeap {
     }
 
     /// Removes the one that arrives next.
+    #[inline(never)]
     pub(crate) fn take_next(&mut self) -> Option<Flight>
         ensures some { IfSome result (λ flight. self.old.flights ≡ flight ∷ self.new.flights) }
         ensures none { IfNone result (self.old.flights ≡ []) }

@@ -1,9 +1,9 @@
 //! The frames in flight, in the order of their arrival.
 
-ghost use Rattle.std.specs.Prelude.{◌≡◌, ◌≤◌, ◌<◌, ◌+◌, ◌-◌, [], ◌∷◌, IfNone, IfSome, IfOk, IsSomeAnd, None, Some, drop, insert, length};
+ghost use Rattle.std.specs.Prelude.{◌≡◌, ◌≤◌, ◌<◌, ◌+◌, ◌-◌, ℕ, [], ◌∷◌, ◌++◌, IfNone, IfSome, IfOk, IsSomeAnd, None, Some, drop, false, insert, length, take};
 ghost use Rattle.std.specs.VecDeque.{deque_capacity};
 ghost use Rattle.medium_core.specs.Code.Heap.{Pile};
-ghost use Rattle.medium_core.specs.Code.Queue.{InOrder, is_overtaken, last_due};
+ghost use Rattle.medium_core.specs.Code.Queue.{HasRoom, InOrder, is_overtaken, last_due};
 ghost use Rattle.medium_core.specs.Flights.{IsSeenAs, first_flight, next_due, with_flight, with_flights};
 
 use crate::flight::Flight;
@@ -54,6 +54,7 @@ fn insert_in_order(queue: &mut VecDeque<Flight>, flight: Flight)
 }
 
 /// Moves all of the heap into the queue.
+#[inline(never)]
 fn empty_heap(queue: &mut VecDeque<Flight>, heap: &mut FlightHeap)
     requires order { InOrder queue.old.items }
     requires room { length heap.old.flights + length queue.old.items ≤ deque_capacity queue.old }
@@ -90,23 +91,40 @@ fn overtakes(heap: &FlightHeap, queue: &VecDeque<Flight>) -> bool
     }
 }
 
-/// The one of both that arrives next.
-fn first_of<'a>(heap: &'a FlightHeap, queue: &'a VecDeque<Flight>) -> Option<&'a Flight>
-    requires { InOrder heap.now.flights }
-    ensures some { IfSome result (λ flight. first_flight (with_flights heap.now.flights queue.now.items) ≡ Some flight.now) }
-    ensures none { IfNone result (with_flights heap.now.flights queue.now.items ≡ []) }
+/// Moves the first of the heap, if any, to the front of the queue.
+#[inline(never)]
+fn let_overtake(queue: &mut VecDeque<Flight>, heap: &mut FlightHeap)
+    requires { length heap.old.flights + length queue.old.items ≤ deque_capacity queue.old }
+    ensures queue { queue.new.items ≡ take 1 heap.old.flights ++ queue.old.items }
+    ensures heap { heap.new.flights ≡ drop 1 heap.old.flights }
+    ensures capacity { deque_capacity queue.old ≤ deque_capacity queue.new }
+    ensures room { heap.new.room ≡ heap.old.room }
+{
+    if let Some(flight) = heap.take_next() {
+        let _ = queue.insert(0, flight);
+    }
+}
+
+/// Puts the next to arrive at the front of the queue.
+#[inline(always)]
+fn put_in_turn(queue: &mut VecDeque<Flight>, heap: &mut FlightHeap)
+    requires order { InOrder heap.old.flights }
+    requires room { length heap.old.flights + length queue.old.items ≤ deque_capacity queue.old }
+    ensures same { with_flights heap.new.flights queue.new.items ≡ with_flights heap.old.flights queue.old.items }
+    ensures in_turn { is_overtaken heap.new.flights queue.new.items ≡ false }
+    ensures room {
+        (room : ℕ) → HasRoom room (deque_capacity queue.old) heap.old queue.old.items → HasRoom room (deque_capacity queue.new) heap.new queue.new.items
+    }
 {
     if overtakes(heap, queue) {
-        heap.first()
-    } else {
-        queue.front()
+        let_overtake(queue, heap);
     }
 }
 
 /// The frames in flight, and room for `room` of them, which is allocated once.
 ///
 /// Where all delays are alike, each frame arrives after those that were sent before it, and goes to the end of the queue. Only one
-/// that overtakes the last of the queue goes into the heap.
+/// that overtakes the last of the queue goes into the heap. The next to arrive is always the first of the queue.
 #[derive(Drop)]
 pub(crate) struct Flights {
     queue: VecDeque<Flight>,
@@ -115,7 +133,7 @@ pub(crate) struct Flights {
 }
 
 impl Model for Flights {
-    ghost use Rattle.medium_core.specs.Code.Queue.{HasRoom, Queue};
+    ghost use Rattle.medium_core.specs.Code.Queue.{InTurn, Queue};
     ghost use Rattle.medium_core.specs.Flights.{with_flights};
     ghost use Rattle.std.specs.VecDeque.{deque_capacity};
 
@@ -123,7 +141,7 @@ impl Model for Flights {
 
     ghost view = { λ f. record { room = f.room; flights = with_flights f.overtaking.flights f.queue.items } };
 
-    ghost invariant = { λ f. HasRoom f.room (deque_capacity f.queue) f.overtaking f.queue.items };
+    ghost invariant = { λ f. InTurn f.room (deque_capacity f.queue) f.overtaking f.queue.items };
 }
 
 impl Flights {
@@ -156,6 +174,7 @@ impl Flights {
             self.queue.push_back_reserved(flight);
         } else if self.overtaking.number() < u64::MAX {
             self.overtaking.add(flight);
+            put_in_turn(&mut self.queue, &mut self.overtaking);
         } else {
             // The heap has no number for it: from now on such a frame goes into the queue.
             empty_heap(&mut self.queue, &mut self.overtaking);
@@ -163,11 +182,18 @@ impl Flights {
         }
     }
 
+    fn first(&self) -> Option<&Flight>
+        ensures some { IfSome result (λ flight. first_flight self.now.flights ≡ Some flight.now) }
+        ensures none { IfNone result (self.now.flights ≡ []) }
+    {
+        self.queue.front()
+    }
+
     /// When the next one arrives, if any is in flight.
     pub(crate) fn next_due(&self) -> Option<u64>
         ensures { result ≡ next_due self.now.flights }
     {
-        match first_of(&self.overtaking, &self.queue) {
+        match self.first() {
             Some(flight) => Some(flight.due),
             None => None,
         }
@@ -178,7 +204,7 @@ impl Flights {
         ensures some { IfSome result (λ next. IsSomeAnd (first_flight self.now.flights) (IsSeenAs next.due next.from next.to next.bytes.now)) }
         ensures none { IfNone result (first_flight self.now.flights ≡ None) }
     {
-        match first_of(&self.overtaking, &self.queue) {
+        match self.first() {
             Some(flight) => Some(Arriving {
                 due: flight.due,
                 from: flight.from,
@@ -197,10 +223,8 @@ impl Flights {
         ensures empty { IfNone result (self.new.flights ≡ []) }
         ensures room { self.new.room ≡ self.old.room }
     {
-        if overtakes(&self.overtaking, &self.queue) {
-            self.overtaking.take_next()
-        } else {
-            self.queue.pop_front()
-        }
+        let flight = self.queue.pop_front();
+        put_in_turn(&mut self.queue, &mut self.overtaking);
+        flight
     }
 }

@@ -1,5 +1,5 @@
 -- The frames in flight in a queue and a heap.
-use Rattle.std.specs.Prelude.{ℕ, ◌+◌, ◌≤◌, ◌<◌, Bool, true, false, List, [], ◌∷◌, length, nat_lt}
+use Rattle.std.specs.Prelude.{◌≡◌, ℕ, ◌+◌, ◌≤◌, ◌<◌, Bool, true, false, List, [], ◌∷◌, length, nat_lt}
 use Rattle.std.specs.List.{AllByRecursion}
 use Rattle.medium_core.specs.declared.flight.Flight.{Flight}
 use Rattle.medium_core.specs.Code.Heap.{Pile}
@@ -32,3 +32,8 @@ pub record HasRoom (room capacity : ℕ) (heap : Pile) (queue : List Flight) : T
   pub within : length heap.flights + length queue ≤ room
   pub taken : room ≤ capacity
   pub heap_taken : room ≤ heap.room
+
+-- and the next to arrive is the first of the queue
+pub record InTurn (room capacity : ℕ) (heap : Pile) (queue : List Flight) : Type 0 where
+  pub has_room : HasRoom room capacity heap queue
+  pub first : is_overtaken heap.flights queue ≡ false

@@ -1,26 +1,25 @@
-use Rattle.std.proofs.Common.{ap, sym, subst, ◌∙◌}
+use Rattle.std.proofs.Common.{ap, sym, subst, ◌∙◌, ◌∷◌, List}
 use Rattle.std.proofs.lemmas.Option.{IfSome_then}
+use Rattle.medium_core.specs.declared.flight.Flight.{Flight}
 use Rattle.medium_core.specs.Code.Queue.{HasRoom, Queue}
-use Rattle.medium_core.proofs.Merging.{heap_left, queue_left, room_left}
+use Rattle.medium_core.proofs.Merging.{queue_left, room_left}
 use Rattle.medium_core.proofs.flights.Flights.take_next.Goals as goal
 
-pub invariant_of-self-else-overtakes : goal.invariant_of-self-else-overtakes
-invariant_of-self-else-overtakes c =
-    subst (λ n. HasRoom c.self.inside.room n c.self.inside.overtaking c.pop_front.new.self.items) (sym c.pop_front.ensures.capacity)
-    (room_left c.pop_front.result _ _ c.self.inside.overtaking c.self.inside.queue.items _ c.pop_front.ensures.items (sym c.if-overtakes.ensures)
-    c.self.invariant)
+pub invariant_of-self : goal.invariant_of-self
+invariant_of-self c =
+    let popped = c.pop_front-flight in
+    record {
+      has_room =
+          c.put_in_turn.ensures.room _
+          (subst (λ n. HasRoom c.self.inside.room n c.self.inside.overtaking popped.new.self.items) (sym popped.ensures.capacity)
+          (room_left popped.result _ _ c.self.inside.overtaking c.self.inside.queue.items _ popped.ensures.items c.self.invariant.first
+          c.self.invariant.has_room));
+      first = c.put_in_turn.ensures.in_turn;
+    }
 
-pub returns-then-overtakes-clause-some : goal.returns-then-overtakes-clause-some
-returns-then-overtakes-clause-some c =
-    IfSome_then c.take_next.result c.take_next.ensures.some
-    (λ flight e.
-    sym (ap (λ (q : Queue). q.flights) c.self.view_is)
-    ∙ heap_left flight c.self.inside.overtaking.flights c.take_next.new.self.flights c.self.inside.queue.items e c.self.invariant.heap_order
-    (sym c.if-overtakes.ensures))
-
-pub returns-else-overtakes-clause-some : goal.returns-else-overtakes-clause-some
-returns-else-overtakes-clause-some c =
-    IfSome_then c.pop_front.result
-    (queue_left c.pop_front.result c.self.inside.overtaking.flights c.self.inside.queue.items c.pop_front.new.self.items c.pop_front.ensures.items
-    c.self.invariant.heap_order (sym c.if-overtakes.ensures))
-    (λ flight e. sym (ap (λ (q : Queue). q.flights) c.self.view_is) ∙ e)
+pub returns-clause-some : goal.returns-clause-some
+returns-clause-some c =
+    IfSome_then c.pop_front-flight.result
+    (queue_left c.pop_front-flight.result c.self.inside.overtaking.flights c.self.inside.queue.items c.pop_front-flight.new.self.items c.pop_front-flight.ensures.items
+    c.self.invariant.has_room.heap_order c.self.invariant.first)
+    (λ flight e. sym (ap (λ (q : Queue). q.flights) c.self.view_is) ∙ (e ∙ ap (λ (l : List Flight). flight ∷ l) (sym c.put_in_turn.ensures.same)))
