@@ -1,5 +1,5 @@
 -- A flight was added: the queue and the heap still have room and are in order.
-use Rattle.std.proofs.Common.{◌≡◌, ℕ, ◌+◌, ◌<◌, ◌≤◌, List, [], ◌∷◌, ◌++◌, length, ap, sym, subst, ◌∙◌, arith, length-append}
+use Rattle.std.proofs.Common.{◌≡◌, ℕ, ◌+◌, ◌<◌, ◌≤◌, List, [], ◌∷◌, ◌++◌, length, ap, sym, subst, arith, length-append}
 use Rattle.std.specs.List.{AllByRecursion}
 use Rattle.medium_core.specs.declared.flight.Flight.{Flight}
 use Rattle.medium_core.specs.Code.Heap.{Pile}

@@ -1,11 +1,11 @@
 -- What a heap holds: after a flight came, and after one left.
-use Rattle.std.proofs.Common.{◌≡◌, ℕ, ◌+◌, ◌<◌, ◌≤◌, List, [], ◌∷◌, length, get_or, refl, ap, sym, subst, ◌∙◌, arith, Some, IsPermutation}
+use Rattle.std.proofs.Common.{◌≡◌, ℕ, ◌+◌, ◌<◌, ◌≤◌, List, [], ◌∷◌, length, get_or, ap, sym, subst, ◌∙◌, arith, Some, IsPermutation}
 use Rattle.std.proofs.lemmas.Bool.Decides.{nat_tests}
 use Rattle.std.proofs.lemmas.List.Sorted.{IsPermutation-refl, length_permutation}
 use Rattle.std.specs.BinaryHeap.{IsHeap, IsUpperBound}
-use Rattle.std.specs.List.{AllByRecursion, IsDistinct}
+use Rattle.std.specs.List.{IsDistinct}
 use Rattle.medium_core.specs.declared.numbered.Numbered.{Numbered}
-use Rattle.medium_core.specs.Code.Heap.{IsHeld, arrival_cmp, flights_of, have_same_number, sorted, with_numbered}
+use Rattle.medium_core.specs.Code.Heap.{IsHeld, arrival_cmp, flights_of, have_same_number, sorted}
 use Rattle.medium_core.specs.Flights.{first_flight, with_flight}
 use Rattle.medium_core.proofs.Order.{all_weaker}
 use Rattle.medium_core.proofs.Sorting.{all_sorted, apart_shuffled, first_is, flights_with, same_order, shuffled}

@@ -1,5 +1,5 @@
 -- Numbered flights in the order of their arrival, which is one for all lists of the same flights.
-use Rattle.std.proofs.Common.{◌≡◌, ℕ, suc, ◌+◌, ◌<◌, ◌≤◌, ◌==◌, ◌⊎◌, inl, inr, ⊎_elim, List, [], ◌∷◌, length, map, refl, ap, ap₂, sym, subst, ◌∙◌, arith, Bool, true, false, nat_lt, if◌then◌else◌, ◌||◌, ◌&&◌, cond, Less, Equal, Greater, IsPermutation}
+use Rattle.std.proofs.Common.{◌≡◌, suc, ◌+◌, ◌<◌, ◌==◌, ◌⊎◌, inl, inr, ⊎_elim, List, [], ◌∷◌, length, refl, ap, ap₂, sym, subst, ◌∙◌, arith, Bool, true, false, nat_lt, if◌then◌else◌, ◌||◌, ◌&&◌, cond, Less, Equal, Greater, IsPermutation}
 use Rattle.std.proofs.lemmas.Bool.Decides.{nat_tests}
 use Rattle.std.proofs.lemmas.List.Elements.{All-from_recursion, recursion_from_All}
 use Rattle.std.proofs.lemmas.List.Sorted.{All-permutation, IsPermutation-sym}
@@ -7,7 +7,6 @@ use Rattle.std.proofs.lemmas.Map.Keys.{IsDistinct-IsPermutation}
 use Rattle.std.specs.BinaryHeap.{IsUpperBound}
 use Rattle.std.specs.List.{AllByRecursion, IsDistinct}
 use Rattle.std.specs.Ordering.{is_lt, ordering_then}
-use Rattle.medium_core.specs.declared.flight.Flight.{Flight}
 use Rattle.medium_core.specs.declared.numbered.Numbered.{Numbered}
 use Rattle.medium_core.specs.Code.Heap.{arrival_cmp, flights_of, have_same_number, is_before, sorted, with_numbered}
 use Rattle.medium_core.specs.Flights.{with_flight}

@@ -112,9 +112,7 @@ fn put_in_turn(queue: &mut VecDeque<Flight>, heap: &mut FlightHeap)
     requires room { length heap.old.flights + length queue.old.items ≤ deque_capacity queue.old }
     ensures same { with_flights heap.new.flights queue.new.items ≡ with_flights heap.old.flights queue.old.items }
     ensures in_turn { is_overtaken heap.new.flights queue.new.items ≡ false }
-    ensures room {
-        (room : ℕ) → HasRoom room (deque_capacity queue.old) heap.old queue.old.items → HasRoom room (deque_capacity queue.new) heap.new queue.new.items
-    }
+    ensures room { (room : ℕ) → HasRoom room (deque_capacity queue.old) heap.old queue.old.items → HasRoom room (deque_capacity queue.new) heap.new queue.new.items }
 {
     if overtakes(heap, queue) {
         let_overtake(queue, heap);

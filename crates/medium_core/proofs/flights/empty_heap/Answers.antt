@@ -1,4 +1,4 @@
-use Rattle.std.proofs.Common.{◌≡◌, length, List, ap, sym, subst, ◌∙◌, arith}
+use Rattle.std.proofs.Common.{length, List, ap, sym, subst, ◌∙◌, arith}
 use Rattle.medium_core.specs.declared.flight.Flight.{Flight}
 use Rattle.medium_core.specs.Code.Queue.{InOrder}
 use Rattle.medium_core.specs.Flights.{with_flights}

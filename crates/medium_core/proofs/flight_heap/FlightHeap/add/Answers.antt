@@ -1,6 +1,5 @@
-use Rattle.std.proofs.Common.{◌≡◌, ℕ, List, [], ◌∷◌, ◌<◌, ◌+◌, length, ap, ap₂, sym, refl, ◌∙◌, arith, heap_items, heap_len, IsOk, IsPermutation, OnOk, Result, Ok, Err}
+use Rattle.std.proofs.Common.{List, ◌∷◌, ◌<◌, ◌+◌, length, ap, refl, ◌∙◌, arith, heap_items, IsOk, IsPermutation, OnOk, Result, Ok, Err}
 use Rattle.std.proofs.lemmas.Grind.{common_steps}
-use Rattle.std.specs.BinaryHeap.{heap_capacity}
 use Rattle.medium_core.specs.declared.flight.Flight.{Flight}
 use Rattle.medium_core.specs.declared.numbered.Numbered.{Numbered}
 use Rattle.medium_core.specs.Code.Heap.{Pile}

@@ -1,7 +1,5 @@
-use Rattle.std.proofs.Common.{arith, ap, subst, sym, length, List, [], ◌≤◌}
-use Rattle.std.specs.List.{AllByRecursion, IsDistinct}
-use Rattle.medium_core.specs.declared.numbered.Numbered.{Numbered}
-use Rattle.medium_core.specs.Code.Heap.{have_same_number}
+use Rattle.std.proofs.Common.{arith}
+use Rattle.std.specs.List.{IsDistinct}
 use Rattle.medium_core.proofs.flight_heap.FlightHeap.new.Goals as goal
 
 pub invariant_of-result : goal.invariant_of-result

@@ -1,4 +1,4 @@
-use Rattle.std.proofs.Common.{ap, sym, length, ◌∙◌, arith}
+use Rattle.std.proofs.Common.{ap, sym, ◌∙◌}
 use Rattle.medium_core.specs.Code.Heap.{Pile}
 use Rattle.medium_core.proofs.Holding.{flights_less, held_less, held_same}
 use Rattle.medium_core.proofs.flight_heap.FlightHeap.take_next.Goals as goal

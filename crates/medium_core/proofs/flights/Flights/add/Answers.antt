@@ -1,7 +1,7 @@
-use Rattle.std.proofs.Common.{◌≡◌, List, length, refl, false, ap, sym, subst, ◌∙◌, arith}
+use Rattle.std.proofs.Common.{List, length, refl, ap, sym, subst, ◌∙◌, arith}
 use Rattle.medium_core.specs.declared.flight.Flight.{Flight}
 use Rattle.medium_core.specs.Code.Heap.{Pile}
-use Rattle.medium_core.specs.Code.Queue.{InOrder, Queue, is_overtaken}
+use Rattle.medium_core.specs.Code.Queue.{InOrder, Queue}
 use Rattle.medium_core.specs.Flights.{with_flight, with_flights}
 use Rattle.medium_core.proofs.Adding.{free_of, room_at_end, room_in_heap, room_in_queue}
 use Rattle.medium_core.proofs.Merging.{heap_added, in_turn_at_end, queue_added}
@@ -18,7 +18,7 @@ invariant_of-self c =
           (free_of _ _ _ c.args.self.now c.self.view_is c.requires) (omega (arith, c.last_arrival.ensures, c.if-last_arrival-flight.true)) _
           c.push_back_reserved.ensures.capacity _ c.push_back_reserved.ensures.items;
       first =
-          subst (λ (l : List Flight). is_overtaken heap.flights l ≡ false) (sym c.push_back_reserved.ensures.items)
+          rw c.push_back_reserved.ensures.items
           (in_turn_at_end c.args.flight heap.flights c.self.inside.queue.items c.self.invariant.first);
     }
 

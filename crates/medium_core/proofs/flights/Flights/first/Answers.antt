@@ -1,8 +1,8 @@
-use Rattle.std.proofs.Common.{◌≡◌, ◌<◌, length, get_or, sym, ap, ◌∙◌, arith, Some}
+use Rattle.std.proofs.Common.{◌≡◌, length, get_or, sym, ap, ◌∙◌, arith, Some}
 use Rattle.std.proofs.lemmas.Grind.{common_steps}
 use Rattle.std.specs.VecDeque.{deque_len}
 use Rattle.medium_core.specs.Code.Queue.{Queue}
-use Rattle.medium_core.specs.Flights.{first_flight, with_flights}
+use Rattle.medium_core.specs.Flights.{first_flight}
 use Rattle.medium_core.proofs.Merging.{queue_first_flight, with_some}
 use Rattle.medium_core.proofs.flights.Flights.first.Goals as goal
 
