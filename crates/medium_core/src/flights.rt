@@ -180,6 +180,7 @@ impl Flights {
         }
     }
 
+    /// The one that arrives next: always the first of the queue.
     fn first(&self) -> Option<&Flight>
         ensures some { IfSome result (λ flight. first_flight self.now.flights ≡ Some flight.now) }
         ensures none { IfNone result (self.now.flights ≡ []) }
