@@ -10,8 +10,8 @@
 4 answer done -> wait
 > tick 10
 
-``toarmuts.strategies`` (for Hypothesis) and ``toarmuts.campaign`` are modules of their own. docs/python.md of the repository goes from a
-clone to a first result.
+``toarmuts.strategies`` (for Hypothesis), ``toarmuts.campaign`` and ``toarmuts.ipv6`` are modules of their own. docs/python.md of the
+repository goes from a clone to a first result.
 """
 import importlib as _importlib
 import sys as _sys
@@ -64,11 +64,11 @@ __all__ += _calls
 
 if _typing.TYPE_CHECKING:
     # For a checker of types.
-    from . import campaign as campaign, network_strategies as network_strategies, strategies as strategies  # noqa: F401
+    from . import campaign as campaign, ipv6 as ipv6, network_strategies as network_strategies, strategies as strategies  # noqa: F401
 else:
     def __getattr__(name):
         """Modules that take more than the package needs, once they are asked for."""
-        if name in ("campaign", "network_strategies", "strategies"):
+        if name in ("campaign", "ipv6", "network_strategies", "strategies"):
             return _importlib.import_module(f"{__name__}.{name}")
         fault = _no_attribute(f"module {__name__!r}", name)
         # `from toarmuts import NAME` drops the reason of an AttributeError.
