@@ -35,6 +35,7 @@ from .network_runs import NetworkRun, run_network
 from .network_transcript import Frame, NetworkEntry, NetworkKind, NetworkTranscript
 from .numbers import EventCode, Origin, Refusal, ReplyKind
 from .options import Options
+from .record import BadRecord, Record, RecordCheck, read_record
 from .rules import RULES, Rules
 from .runs import Run, run
 from .scenario import Scenario, read_scenarios
@@ -52,13 +53,14 @@ except LibraryError:
     pass
 
 __all__ = [
-    "Application", "ApplicationError", "ApplicationLike", "BadCall", "BadInput", "BadNetwork", "BadScenario", "BadSizes", "BadTranscript",
-    "Call", "CallList", "Callback", "Cell", "Coverage", "Difference", "End", "Ending", "Entry", "Event", "EventCode", "Frame", "Input",
-    "InputKind", "LibraryError", "Link", "Loss", "Mote", "MoteError", "Network", "NetworkEntry", "NetworkKind", "NetworkMote",
-    "NetworkRun", "NetworkTranscript", "NoApplication", "NoPicture", "NotInPython", "NotReached", "Note", "NoteKind", "Options", "Origin",
-    "OutOfMemory", "Payload", "RULES", "Reason", "Refusal", "Reply", "ReplyKind", "Rules", "Run", "RunEnded", "Scenario", "Script",
-    "StackTooSmall", "Stats", "Status", "Stimulus", "Table", "ToarmutsError", "TooManyApplications", "Transcript", "Turn", "Turns",
-    "WrongType", "coverage_of", "first_difference", "read_scenarios", "run", "run_network",
+    "Application", "ApplicationError", "ApplicationLike", "BadCall", "BadInput", "BadNetwork", "BadRecord", "BadScenario", "BadSizes",
+    "BadTranscript", "Call", "CallList", "Callback", "Cell", "Coverage", "Difference", "End", "Ending", "Entry", "Event", "EventCode",
+    "Frame", "Input", "InputKind", "LibraryError", "Link", "Loss", "Mote", "MoteError", "Network", "NetworkEntry", "NetworkKind",
+    "NetworkMote", "NetworkRun", "NetworkTranscript", "NoApplication", "NoPicture", "NotInPython", "NotReached", "Note", "NoteKind",
+    "Options", "Origin", "OutOfMemory", "Payload", "RULES", "Reason", "Record", "RecordCheck", "Refusal", "Reply", "ReplyKind", "Rules",
+    "Run", "RunEnded", "Scenario", "Script", "StackTooSmall", "Stats", "Status", "Stimulus", "Table", "ToarmutsError",
+    "TooManyApplications", "Transcript", "Turn", "Turns", "WrongType", "coverage_of", "first_difference", "read_record", "read_scenarios",
+    "run", "run_network",
 ]
 __all__ += _calls
 
