@@ -650,7 +650,7 @@ def deliveries(run: RunLike, source_port: int, destination_port: int) -> list[De
     """The UDP packets that motes sent to other motes from one port to another, in their order, and when each arrived.
 
     A packet that arrives is the last one with the same addresses and data that hasn't arrived yet. A packet for all in reach isn't one of
-    these, nor is one whose frames weren't all sent. Of a whole transcript, as ``--only`` leaves out the other motes.
+    these, nor is one whose frames weren't all sent. The transcript must have all motes.
     """
     ports = _check_port("source_port", source_port), _check_port("destination_port", destination_port)
     made: list[Delivery] = []
