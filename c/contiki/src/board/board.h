@@ -29,7 +29,7 @@ void input_received(enum port port, uint8_t byte);
 int output_next(enum port port); /* the next byte, or -1 */
 bool output_is_left(enum port port);
 
-/* clock.c: wakes by SysTick, which counts `hz` times a second; its source is 4 for the processor's clock, 0 for the reference. */
+/* systick.c: wakes by SysTick, which counts `hz` times a second; its source is 4 for the processor's clock, 0 for the reference. */
 void clock_wake(uint32_t counts, uint32_t hz, uint32_t source);
 
 /* The handlers of the part's interrupts. */

@@ -5,11 +5,7 @@
 
 #include "../program/facts.h"
 
-#define REG(address) (*(volatile uint32_t *)(address))
-#define SYSTICK_CONTROL REG(0xe000e010)
-#define SYSTICK_RELOAD REG(0xe000e014)
-#define SYSTICK_VALUE REG(0xe000e018)
-enum { SYSTICK_MOST = 0xffffff, LONGEST_SLEEP = 1 << 30 };
+enum { LONGEST_SLEEP = 1 << 30 };
 
 /* All counts since the start. It is asked more often than the counter begins anew, since no sleep is longer. */
 static uint64_t
@@ -46,27 +42,8 @@ clock_ticks(void)
   return ticks_of(count_now());
 }
 
-void systick_handler(void);
-
-/* It wakes once. */
-void
-systick_handler(void)
-{
-  SYSTICK_CONTROL = 0;
-}
-
-void
-clock_wake(uint32_t counts, uint32_t hz, uint32_t source)
-{
-  uint64_t length = (uint64_t)counts * hz / board_hz + 1;
-  SYSTICK_CONTROL = 0;
-  SYSTICK_RELOAD = length > SYSTICK_MOST ? SYSTICK_MOST : (uint32_t)length;
-  SYSTICK_VALUE = 0;
-  SYSTICK_CONTROL = source | 3;
-}
-
-/* Sleeps up to a tick, or until an interrupt brings something. One that comes between the question and `wfi` stays pending, and ends `wfi`
- * at once: so nothing is slept over. */
+/* Sleeps up to a tick, or until an interrupt brings something. One that comes after the question stays pending, and ends the wait at once:
+ * so nothing is slept over. */
 void
 clock_sleep_until(uint64_t tick, bool (*is_waiting)(void))
 {
@@ -75,7 +52,7 @@ clock_sleep_until(uint64_t tick, bool (*is_waiting)(void))
   uint64_t now = count_now();
   if(end > now && !is_waiting()) {
     board_wake_after(end - now > LONGEST_SLEEP ? LONGEST_SLEEP : (uint32_t)(end - now));
-    __asm__ volatile("dsb\n wfi" ::: "memory");
+    wait_for_interrupt();
   }
   restore_interrupts(before);
 }

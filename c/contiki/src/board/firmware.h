@@ -38,19 +38,10 @@ void send_frame(const uint8_t *hex, size_t length);
 uint64_t clock_ticks(void);
 void clock_sleep_until(uint64_t tick, bool (*is_waiting)(void));
 
-static inline uint32_t
-disable_interrupts(void)
-{
-  uint32_t before;
-  __asm__ volatile("mrs %0, primask\n cpsid i" : "=r"(before)::"memory");
-  return before;
-}
-
-static inline void
-restore_interrupts(uint32_t before)
-{
-  __asm__ volatile("msr primask, %0" ::"r"(before) : "memory");
-}
+/* processor.c */
+uint32_t disable_interrupts(void);
+void restore_interrupts(uint32_t before);
+void wait_for_interrupt(void); /* also ends at one that is pending, while interrupts are disabled */
 
 /* recorder.c */
 bool record_has_ended(void);

@@ -140,10 +140,10 @@ serve(void)
 void
 firmware(void)
 {
-  __asm__ volatile("cpsid i" ::: "memory");
+  disable_interrupts();
   open_all();
   clock_ticks();
-  __asm__ volatile("cpsie i" ::: "memory");
+  restore_interrupts(0);
   if(board_settings.run_script != NULL) {
     run_to_rest();
     board_settings.run_script();

@@ -1,29 +1,32 @@
-/*
- * Bytes between interrupts and the main loop. A ring has one writer and one reader, and each changes only its own count, so neither waits
- * for the other. No call of the mote is made in an interrupt.
- */
+/* Bytes between interrupts and the main loop: a ring for each direction of a port. No call of the mote is made in an interrupt. */
 #include "firmware.h"
+#include "ring.h"
 
 #include <stdlib.h>
 
 enum { INPUT_ROOM = 512, MANY = 256, INPUTS = RECORD, FIRST_ROOM = 16, LINE_END = '\n', SLIP_END = 0xc0 };
 
-struct ring {
-  volatile uint8_t *bytes;
-  uint32_t room;                /* a power of 2 */
-  volatile uint32_t put, taken; /* the numbers of bytes */
-  volatile uint32_t ends;       /* of lines or frames that were put */
+/* The interrupt writes, the main loop reads. */
+struct input {
+  struct ring ring;
+  _Atomic uint32_t ends; /* of lines or frames that were put */
   uint32_t ends_taken;
-  volatile uint32_t lost;
+  _Atomic uint32_t lost;
+};
+
+/* The main loop writes; the interrupt reads, or the main loop while interrupts are disabled. */
+struct output {
+  struct ring ring;
+  uint32_t lost;
 };
 
 /* Before the rings are open a fault is told by these. */
 static uint8_t first_bytes[PORTS][FIRST_ROOM];
 
-static struct ring inputs[INPUTS];
-static struct ring outputs[PORTS] = {{.bytes = first_bytes[CONSOLE], .room = FIRST_ROOM},
-                                     {.bytes = first_bytes[RADIO], .room = FIRST_ROOM},
-                                     {.bytes = first_bytes[RECORD], .room = FIRST_ROOM}};
+static struct input inputs[INPUTS];
+static struct output outputs[PORTS] = {{.ring = {.bytes = first_bytes[CONSOLE], .room = FIRST_ROOM}},
+                                       {.ring = {.bytes = first_bytes[RADIO], .room = FIRST_ROOM}},
+                                       {.ring = {.bytes = first_bytes[RECORD], .room = FIRST_ROOM}}};
 static const uint8_t end_of[INPUTS] = {LINE_END, SLIP_END};
 static const uint16_t output_rooms[PORTS] = {1024, 512, 1024};
 
@@ -42,34 +45,11 @@ void
 rings_open(void)
 {
   for(unsigned port = 0; port < INPUTS; port++) {
-    open_ring(&inputs[port], INPUT_ROOM);
+    open_ring(&inputs[port].ring, INPUT_ROOM);
   }
   for(unsigned port = 0; port < PORTS; port++) {
-    open_ring(&outputs[port], output_rooms[port]);
+    open_ring(&outputs[port].ring, output_rooms[port]);
   }
-}
-
-static uint32_t
-used_of(const struct ring *ring)
-{
-  return ring->put - ring->taken;
-}
-
-static void
-put_byte(struct ring *ring, uint8_t byte)
-{
-  ring->bytes[ring->put % ring->room] = byte;
-  __asm__ volatile("dmb" ::: "memory");
-  ring->put++;
-}
-
-static uint8_t
-take_byte(struct ring *ring)
-{
-  uint8_t byte = ring->bytes[ring->taken % ring->room];
-  __asm__ volatile("dmb" ::: "memory");
-  ring->taken++;
-  return byte;
 }
 
 /* Inputs. */
@@ -77,14 +57,11 @@ take_byte(struct ring *ring)
 void
 input_received(enum port port, uint8_t byte)
 {
-  struct ring *ring = &inputs[port];
-  if(used_of(ring) == ring->room) {
-    ring->lost++;
-    return;
-  }
-  put_byte(ring, byte);
-  if(byte == end_of[port]) {
-    ring->ends++;
+  struct input *input = &inputs[port];
+  if(!ring_put(&input->ring, byte)) {
+    count_up(&input->lost);
+  } else if(byte == end_of[port]) {
+    count_up(&input->ends);
   }
 }
 
@@ -92,7 +69,7 @@ input_received(enum port port, uint8_t byte)
 static bool
 has_work(enum port port)
 {
-  return inputs[port].ends != inputs[port].ends_taken || used_of(&inputs[port]) >= MANY;
+  return count_read(&inputs[port].ends) != inputs[port].ends_taken || ring_used(&inputs[port].ring) >= MANY;
 }
 
 bool
@@ -104,16 +81,17 @@ input_is_waiting(void)
 uint32_t
 input_lost(enum port port)
 {
-  return inputs[port].lost;
+  return count_read(&inputs[port].lost);
 }
 
 size_t
 input_take_byte(enum port port, uint8_t *byte)
 {
-  if(used_of(&inputs[port]) == 0) {
+  int next = ring_take(&inputs[port].ring);
+  if(next < 0) {
     return 0;
   }
-  *byte = take_byte(&inputs[port]);
+  *byte = (uint8_t)next;
   if(*byte == end_of[port]) {
     inputs[port].ends_taken++;
   }
@@ -143,13 +121,13 @@ input_has_frame(void)
 int
 output_next(enum port port)
 {
-  return used_of(&outputs[port]) == 0 ? -1 : take_byte(&outputs[port]);
+  return ring_take(&outputs[port].ring);
 }
 
 bool
 output_is_left(enum port port)
 {
-  return used_of(&outputs[port]) > 0;
+  return ring_used(&outputs[port].ring) > 0;
 }
 
 static void
@@ -164,17 +142,16 @@ pump(enum port port)
 bool
 output_put(enum port port, const void *bytes, size_t length)
 {
-  struct ring *ring = &outputs[port];
   if(board_settings.run_script != NULL) {
     output_put_at_once(port, bytes, length);
     return true;
   }
-  if(length > ring->room - used_of(ring)) {
-    ring->lost += length;
+  if(length > output_left(port)) {
+    outputs[port].lost += (uint32_t)length;
     return false;
   }
   for(size_t i = 0; i < length; i++) {
-    put_byte(ring, ((const uint8_t *)bytes)[i]);
+    ring_put(&outputs[port].ring, ((const uint8_t *)bytes)[i]);
   }
   pump(port);
   return true;
@@ -184,10 +161,9 @@ output_put(enum port port, const void *bytes, size_t length)
 void
 output_put_at_once(enum port port, const void *bytes, size_t length)
 {
-  struct ring *ring = &outputs[port];
-  for(size_t i = 0; i < length || used_of(ring) > 0;) {
-    if(i < length && used_of(ring) < ring->room) {
-      put_byte(ring, ((const uint8_t *)bytes)[i++]);
+  for(size_t i = 0; i < length || output_is_left(port);) {
+    if(i < length && ring_put(&outputs[port].ring, ((const uint8_t *)bytes)[i])) {
+      i++;
     } else {
       pump(port);
     }
@@ -197,13 +173,13 @@ output_put_at_once(enum port port, const void *bytes, size_t length)
 size_t
 output_left(enum port port)
 {
-  return outputs[port].room - used_of(&outputs[port]);
+  return outputs[port].ring.room - output_used(port);
 }
 
 size_t
 output_used(enum port port)
 {
-  return used_of(&outputs[port]);
+  return ring_used(&outputs[port].ring);
 }
 
 uint32_t

@@ -1,0 +1,100 @@
+"""The parts of a board that bytes and interrupts pass, compiled for this machine: rings, and the main loop's decision to sleep.
+
+Board and mote are stand-ins in C. Errors that are planted in the sources are noticed.
+"""
+
+import shutil
+from pathlib import Path
+
+import pytest
+
+from contiki_programs import STRICT
+from tools import CRATES, ROOT, SANITIZERS, Completed, all_hold, needs, run, succeed, told, with_sanitizers
+
+HERE = ROOT / "tests/c/firmware"
+SOURCES = ROOT / "c/contiki/src"
+HEADERS = (f"-I{ROOT}/c/contiki/include", f"-I{CRATES}/toarmuts/include")
+# Each test, and the parts that it runs.
+PARTS = {"rings": ["rings.c"], "loop": ["main.c", "clock.c", "rings.c", "slip.c"], "rings_threads": ["rings.c"]}
+COMPILERS = [pytest.param("gcc"), pytest.param("clang", marks=needs("clang"))]
+
+
+def run_test(compiler: str, name: str, room: Path, *options: str, sources: Path = SOURCES) -> Completed:
+    """Compiles a test with the parts of these sources, and runs it. One that doesn't come to an end is stopped."""
+    parts = [sources / "board" / it for it in PARTS[name]]
+    succeed(compiler, *STRICT, "-g", *options, f"-I{sources}/board", *HEADERS, f"-I{ROOT}/tests/c", HERE / f"{name}.c", *parts, "-o",
+            room / name)
+    return run("timeout", "300", room / name)
+
+
+@with_sanitizers
+@pytest.mark.parametrize("name", ["rings", "loop"])
+@pytest.mark.parametrize("compiler", COMPILERS)
+def test_part(tmp_path: Path, compiler: str, name: str) -> None:
+    """Rings keep each byte, at each position and size; nothing is slept over, wherever it comes."""
+    all_hold(run_test(compiler, name, tmp_path, "-O1", "-DRANDOM_CALLS=100000", *SANITIZERS))
+
+
+def thread_sanitizer(room: Path) -> tuple[str, ...]:
+    """The options for it; where it's missing the test is skipped."""
+    options = ("-O1", "-fsanitize=thread", "-pthread")
+    if run("gcc", *options, "-x", "c", "-", "-o", room / "none", stdin=b"int main(void) { return 0; }\n").returncode != 0:
+        pytest.skip("no gcc with the thread sanitizer here")
+    return options
+
+
+def test_two_threads(tmp_path: Path) -> None:
+    """One writes and the other one reads: the sanitizer finds an access without an order, also where it does no harm on this processor."""
+    all_hold(run_test("gcc", "rings_threads", tmp_path, *thread_sanitizer(tmp_path)))
+
+
+# The test that must notice it, the file, and pairs of what is there and what is planted.
+PLANTED = {
+    "a ring is full one byte early": ("rings", "ring.h", [("ring_used(ring) == ring->room", "ring_used(ring) + 1 == ring->room")]),
+    "a ring is full one byte late": ("rings", "ring.h", [("ring_used(ring) == ring->room", "ring_used(ring) == ring->room + 1")]),
+    "a ring is empty one byte early": ("rings", "ring.h", [("ring_used(ring) == 0", "ring_used(ring) <= 1")]),
+    "bytes are put one position further": ("rings", "ring.h", [("bytes[put % ring->room]", "bytes[(put + 1) % ring->room]")]),
+    "bytes are taken one position further": ("rings", "ring.h", [("bytes[taken % ring->room]", "bytes[(taken + 1) % ring->room]")]),
+    "the last position isn't used": ("rings", "ring.h", [("put % ring->room", "put % (ring->room - (ring->room > 1))"),
+                                                         ("taken % ring->room", "taken % (ring->room - (ring->room > 1))")]),
+    "an input has half of its room": ("rings", "rings.c", [("INPUT_ROOM = 512", "INPUT_ROOM = 256")]),
+    "a long line waits for one byte more": ("rings", "rings.c", [(">= MANY", "> MANY")]),
+    "a taken line end isn't counted": ("rings", "rings.c", [("inputs[port].ends_taken++", "(void)0")]),
+    "a lost line end counts as one": ("rings", "rings.c", [("} else if(byte == end_of", "}\n  if(byte == end_of")]),
+    "lost inputs aren't counted": ("rings", "rings.c", [("count_up(&input->lost)", "(void)0")]),
+    "lost outputs count as one": ("rings", "rings.c", [("lost += (uint32_t)length", "lost += 1")]),
+    "an output refuses what fits": ("rings", "rings.c", [("length > output_left(port)", "length >= output_left(port)")]),
+    "an output is put without room": ("rings", "rings.c", [("length > output_left(port)", "length > output_left(port) + 1")]),
+    "bytes leave while interrupts are on": ("rings", "rings.c", [("restore_interrupts(before);", ""),
+                                                                 ("  board_pump(port);", "  restore_interrupts(before);\n  board_pump(port);")]),
+    "the question is before interrupts are off": ("loop", "clock.c", [
+        ("  uint32_t before =", "  bool waits = is_waiting();\n  uint32_t before ="), ("!is_waiting()", "!waits")]),
+    "interrupts are on before the sleep": ("loop", "clock.c", [
+        ("    wait_for_interrupt();", "    restore_interrupts(before);\n    wait_for_interrupt();")]),
+    "nobody asks before the sleep": ("loop", "clock.c", [("end > now && !is_waiting()", "end > now + 0 * is_waiting()")]),
+    "a sleep has no end": ("loop", "clock.c", [("    board_wake_after(", "    (void)(")]),
+    "a sleep is twice as long": ("loop", "clock.c", [("(uint32_t)(end - now)", "2 * (uint32_t)(end - now)")]),
+    "a sleep is as long as the counter": ("loop", "clock.c", [("end - now > LONGEST_SLEEP ? LONGEST_SLEEP : (uint32_t)(end - now)",
+                                                               "(uint32_t)(end - now) + 0 * LONGEST_SLEEP")]),
+    "frames don't wake": ("loop", "rings.c", [("has_work(CONSOLE) || has_work(RADIO)", "has_work(CONSOLE)")]),
+    "the main loop doesn't ask for frames": ("loop", "main.c", [("length = take_frame_bytes(bytes)", "length = 0")]),
+    "time is passed over a timer's end": ("loop", "main.c", [("due > passed && due < now ? due : now", "due > now + 1 ? now : now")]),
+    "a count is shown before its byte": ("rings_threads", "ring.h", [("put + 1, memory_order_release", "put + 1, memory_order_relaxed")]),
+    "room is given back before it's read": ("rings_threads", "ring.h", [("taken + 1, memory_order_release",
+                                                                         "taken + 1, memory_order_relaxed")]),
+}
+
+
+@pytest.mark.parametrize("what", PLANTED)
+def test_planted_error(tmp_path: Path, what: str) -> None:
+    """Each of these errors is noticed."""
+    name, file, edits = PLANTED[what]
+    sources = Path(shutil.copytree(SOURCES, tmp_path / "src"))
+    text = (sources / "board" / file).read_text(encoding="utf-8")
+    for old, new in edits:
+        assert text.count(old) == 1, old
+        text = text.replace(old, new)
+    (sources / "board" / file).write_text(text, encoding="utf-8")
+    options = thread_sanitizer(tmp_path) if name == "rings_threads" else ("-O1", "-DRANDOM_CALLS=20000")
+    ran = run_test("gcc", name, tmp_path, *options, sources=sources)
+    assert ran.returncode != 0, told(ran)
