@@ -65,8 +65,8 @@ PLANTED = {
     "lost outputs count as one": ("rings", "rings.c", [("lost += (uint32_t)length", "lost += 1")]),
     "an output refuses what fits": ("rings", "rings.c", [("length > output_left(port)", "length >= output_left(port)")]),
     "an output is put without room": ("rings", "rings.c", [("length > output_left(port)", "length > output_left(port) + 1")]),
-    "bytes leave while interrupts are on": ("rings", "rings.c", [("restore_interrupts(before);", ""),
-                                                                 ("  board_pump(port);", "  restore_interrupts(before);\n  board_pump(port);")]),
+    "bytes leave while interrupts are on": ("rings", "rings.c", [
+        ("  restore_interrupts(before);", ""), ("  board_pump(port);", "  restore_interrupts(before);\n  board_pump(port);")]),
     "the question is before interrupts are off": ("loop", "clock.c", [
         ("  uint32_t before =", "  bool waits = is_waiting();\n  uint32_t before ="), ("!is_waiting()", "!waits")]),
     "interrupts are on before the sleep": ("loop", "clock.c", [
