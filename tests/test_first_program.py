@@ -37,6 +37,7 @@ ELSEWHERE = {
     "mote hello < /usr/share/doc/toarmuts/examples/hello.script": "test_release.py",
     "./contiki --gdb examples/first/pulse.c < examples/first/pulse.script": "test_first_program.py",
     "environment/bin/python -m pytest -q examples/first/test_steady.py": "test_python.py", "rt check": "proofs", "rt tidy": "test_style.py",
+    "tests/wrong_bodies timer_core": "test_wrong_bodies.py",
     "/usr/bin/python3 -m pytest -q tests/test_pages.py": "test_pages.py",
 }
 

@@ -93,12 +93,12 @@ def test_order(gate: Gate) -> None:
     assert (status, lines[-1]) == (0, ALL_PASS), lines
     assert "a remark\n7 passed, 0 failed\n" in "\n".join(lines) and "standard input has a line" not in lines
     assert gate.begun()[:2] == ["packages ", "proofs"]
-    assert sorted(gate.begun()[2:]) == [f"for-aarch64 {LIBRARIES}", "for-web --modules", "four 1", f"prove {LIBRARIES}"]
+    assert sorted(gate.begun()[2:]) == [f"for-aarch64 {LIBRARIES}", "for-web --modules --anew", "four 1", f"prove {LIBRARIES}"]
 
 
 def test_help(gate: Gate) -> None:
     names = re.findall(r"^  (\w+)  +(\S.*)$", "\n".join(gate("--help")[1]).partition("Names:\n")[2], re.M)
-    assert names == [("proofs", "Every proof from nothing, tests and programs, by `rt ci`; the wrong bodies."),
+    assert names == [("proofs", "Every proof from nothing, the must-fail edits, tests and programs, by `rt ci`."),
                      ("first", "The first tests."), ("first_more", "More of the first."), ("second", "The second test.")]
     assert not gate.begun()
 

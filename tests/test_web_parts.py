@@ -115,10 +115,15 @@ VALUES: list[tuple[str, Any]] = [
     ("refusalOf({ status: 9, errors: utf8.encode('') })", {"message": "The program scenario ended with 9.", "line": 0}),
     ("networkClocks(['1 > tick 1', '= 5', '2 halt', '= 70', 'lost 1 2'])", [0, 5, 5, 70, 70]),
     # A malformed line of an input's form starts the motes before it ends the run; one of the first lines doesn't.
-    ("['3 serial 61', 'walk'].map((line) => runNetwork({ run: () => ({ status: 2, output: utf8.encode('bad line 2\\n') }) },"
+    ("['3 serial 61', 'walk'].map((line) => runNetwork({"
+     " network: { run: () => ({ status: 2, output: utf8.encode('bad line 2\\n') }) },"
+     " scenario: { run: (options, input, file) => (textOf(file.bytes).split('\\n').length > 3"
+     " ? { status: 2, errors: utf8.encode('scenario: experiment: line 3: no such thing\\n') }"
+     " : { status: 0, output: utf8.encode(JSON.stringify({ script: 'mote 1 hello\\n' })) }) } },"
      " { network: `mote 1 hello\\n${line}`, only: null, quiet: false })).map(({ transcript, end, fault }) =>"
-     " [transcript !== null, end, fault.editor, fault.line])",
-     [[True, {"name": "BAD_LINE", "line": 2}, "network", 2], [False, None, "network", 2]]),
+     " [transcript !== null, end, fault.editor, fault.line, fault.message])",
+     [[True, {"name": "BAD_LINE", "line": 2}, "network", 2, "no such thing"],
+      [False, {"name": "BAD_LINE", "line": 2}, "network", 2, "no such thing"]]),
     ("[...linesOfMotes(['12 a b', '= 3', '1 c', '12 d', 'lost 1 2'])]",
      [[12, {"places": [0, 3], "texts": ["a b", "d"]}], [1, {"places": [2], "texts": ["c"]}]]),
     ("['= 1234', 'lost 1 2', 'full 3 4', 'missed - 2', 'missed 1 2', 'halt', 'bad line 3'].map(networkWords)",

@@ -55,7 +55,7 @@ class Wrong:
     def __call__(self, *words: str, script: str = "tests/wrong_bodies", **settings: str) -> list[str]:
         """The lines that are written; the last one comes first. The status is 0 where nothing failed."""
         self.tree.began.unlink(missing_ok=True)
-        settings = {"RATTLE": str(self.tree.bin / "kit/bin/rattle"), "TOARMUTS_EDITS": "", **settings}
+        settings = {"RATTLE": str(self.tree.bin / "kit/bin/rattle"), "TOARMUTS_EDITS": "together", **settings}
         ran = self.tree.run(script, *words, stdin=b"", cwd=None, **settings)
         lines = self.tree.stdout.splitlines()
         assert lines and (ran.returncode == 0) == lines[-1].endswith(" 0 failed"), self.tree.stderr
@@ -200,11 +200,11 @@ def test_stage_where_a_proof_failed(wrong: Wrong) -> None:
 
 
 def test_edits_by_rt_ci(wrong: Wrong) -> None:
-    """At a merge `rt ci` sees the edits, and tries them itself."""
+    """Without the setting `rt ci` sees the edits, and tries them itself."""
     wrong.add(two_is_wrong=EDITS["two_is_wrong"])
-    lines = wrong(script="tests/proofs", TOARMUTS_EDITS="rt")
+    lines = wrong(script="tests/proofs", TOARMUTS_EDITS="")
     assert lines[0] == "7 passed, 0 failed" and "crates/low/must-fail/two_is_wrong.edit" in lines and wrong.checks() == []
-    assert (ROOT / ".ci/run").read_text(encoding="utf-8").splitlines()[-2:] == ["export TOARMUTS_EDITS=rt", "tests/all"]
+    assert (ROOT / ".ci/run").read_text(encoding="utf-8").splitlines()[1:] == ["tests/all"]
 
 
 # ---- By the kit itself ----

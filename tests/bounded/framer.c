@@ -13,13 +13,6 @@ uint16_t node_id;
 linkaddr_t linkaddr_node_addr;
 const linkaddr_t linkaddr_null;
 
-#undef linkaddr_cmp
-bool
-linkaddr_cmp(const linkaddr_t *a, const linkaddr_t *b)
-{
-  return memcmp(a, b, sizeof *a) == 0;
-}
-
 void
 random_init(unsigned short seed)
 {
@@ -102,7 +95,7 @@ static void
 check_frames(void)
 {
   bool are_right = true;
-  join_network(MOTE);
+  join_network(MOTE, 1);
   for(unsigned i = 0; i < (LONGEST + 1) * 65536 && are_right; i++) {
     are_right = are_read_right(i % 65536, i / 65536);
   }
@@ -121,9 +114,9 @@ is_sent_right(unsigned to, uint16_t at, uint8_t number)
   const linkaddr_t *receiver_address = to == 0 ? NULL : &address;
   size_t length = header_length(receiver_address), header = 0;
   uint8_t *frame = malloc(length);
-  join_network(SENDER);
+  join_network(SENDER, 1);
   write_header(frame, receiver_address);
-  join_network(at);
+  join_network(at, 1);
   bool is_right = length == (to == 0 ? TO_ALL_BYTES : TO_ONE_BYTES) && frame[2] == number &&
                   take_header(frame, length, &header) == (to == 0 || to == at) && header == length &&
                   packetbuf_addr(PACKETBUF_ADDR_SENDER)->u8[7] == SENDER && packetbuf_addr(PACKETBUF_ADDR_SENDER)->u8[6] == 0;

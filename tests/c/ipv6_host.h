@@ -1,7 +1,7 @@
 /*
- * What stands in for the driver and the mote around the IPv6 stack, for tests of its receiving side: the clock is a variable, timers are in a
- * list, heap blocks are those of malloc, so that the sanitizers see their ends, and frames that are sent go to `sent_frame`. It is included
- * in one source, which is compiled with CONTIKI_MODULE, beside the stack and framer.c.
+ * What stands in for the driver and the mote around the IPv6 stack, for tests of its receiving side: the clock is a variable, timers are in
+ * a list, heap blocks are those of malloc, so that the sanitizers see their ends, and frames that are sent go to `sent_frame`. It is
+ * included in one source, which is compiled with CONTIKI_MODULE, beside the stack and framer.c.
  */
 #ifndef IPV6_HOST_H
 #define IPV6_HOST_H

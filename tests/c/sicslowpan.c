@@ -1,6 +1,6 @@
 /*
- * 6LoWPAN on the host, without a mote: random packets are compressed and sent as frames, and must arrive as they were; then frames of random
- * bytes arrive. Linked with addresses.c, compress.c, expand.c and sicslowpan.c, which are compiled with CONTIKI_MODULE as this is.
+ * 6LoWPAN on the host, without a mote: random packets are compressed and sent as frames, and must arrive as they were; then frames of
+ * random bytes arrive. Linked with addresses.c, compress.c, expand.c and sicslowpan.c, which are compiled with CONTIKI_MODULE as this is.
  */
 #include "ipv6/rpl.h"
 

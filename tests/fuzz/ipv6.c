@@ -1,7 +1,7 @@
 /*
- * Any frames to a mote with the IPv6 stack, which is a root, or has joined or not. An input has the mote's part, and records: a byte for the kind, one for
- * a length, and bytes. What must hold: nothing is read or written beyond a frame or packet, as the sanitizers see, and each frame that is sent has at most
- * 125 bytes. At the end of an input the mote leaves its network, and an hour passes.
+ * Any frames to a mote with the IPv6 stack, which is a root, or has joined or not. An input has the mote's part, and records: a byte for
+ * the kind, one for a length, and bytes. What must hold: nothing is read or written beyond a frame or packet, as the sanitizers see, and
+ * each frame that is sent has at most 125 bytes. At the end of an input the mote leaves its network, and an hour passes.
  */
 #include "../c/ipv6_host.h"
 
@@ -11,8 +11,8 @@
 
 enum { HEADER_ONE = 21, NUMBER = 1, MOST_RECORD = 110, PLAIN = 0x41 };
 
-/* The kinds of records: a whole frame; what follows a header to this mote, or to all; a packet's content with its checksum; time; a packet of the
- * program. */
+/* The kinds of records: a whole frame; what follows a header to this mote, or to all; a packet's content with its checksum; time; a packet
+ * of the program. */
 enum { WHOLE, TO_ONE, TO_ALL, CONTENT, TIME, SEND, KINDS };
 
 static struct simple_udp_connection connection;

@@ -7,8 +7,8 @@ read_board() {
     case $board in
     *.c) [[ -f $board ]] || give_up "$board: no such file" 64 ;;
     *)
-        [[ -f $driver/boards/$board.c ]] || give_up "there is no board $board: $(cd "$driver/boards" && printf '%s ' [!t]*.ld | sed 's/\.ld / /g')or a file of \
-your own (docs/firmware.md)" 64
+        [[ -f $driver/boards/$board.c ]] || give_up "there is no board $board: $(
+            cd "$driver/boards" && printf '%s ' [!t]*.ld | sed 's/\.ld / /g')or a file of your own (docs/firmware.md)" 64
         board=$driver/boards/$board.c
         ;;
     esac
@@ -117,7 +117,8 @@ build_image() {
     write_settings
     for part in "$board" "$room/settings.c"; do
         parts+=("$room/$(basename "$part" .c).o")
-        "$compiler" "${driver_flags[@]}" "${includes[@]}" "-I$driver/src/board" -c "$part" -o "${parts[-1]}" || give_up "$part doesn't compile" 65
+        "$compiler" "${driver_flags[@]}" "${includes[@]}" "-I$driver/src/board" -c "$part" -o "${parts[-1]}" ||
+            give_up "$part doesn't compile" 65
     done
     choose_source_flags
     record=yes choose_facts

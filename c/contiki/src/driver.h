@@ -138,6 +138,7 @@ bool takes_frames(void);
 bool stays_for_frames(const struct process *p);
 void take_frame(size_t length);
 
+/* The mote has a number in a network, whose links have at most this delay; 0 for a mote that runs alone. */
 void join_network(uint16_t number, clock_time_t longest);
 bool is_in_network(void);
 size_t header_length(const linkaddr_t *to);

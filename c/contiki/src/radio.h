@@ -1,6 +1,6 @@
 /*
- * What the layers above the radio use of it: NullNet (modules/nullnet.c), and IPv6 (ipv6). A program has at most one of them. Each is linked
- * with the program only if it is used, so these names, unlike those of the driver, are visible to the program.
+ * What the layers above the radio use of it: NullNet (modules/nullnet.c), and IPv6 (ipv6). A program has at most one of them. Each is
+ * linked with the program only if it is used, so these names, unlike those of the driver, are visible to the program.
  */
 #ifndef RADIO_H_
 #define RADIO_H_
@@ -12,7 +12,8 @@
 #include "net/linkaddr.h"
 #include "sys/clock.h"
 
-/* The callback for a frame that is for this mote or for all. The length of its header is 0 if it has none. packetbuf.h has both addresses. */
+/* The callback for a frame that is for this mote or for all. The length of its header is 0 if it has none. packetbuf.h has both
+ * addresses. */
 typedef void (*radio_callback)(const uint8_t *frame, size_t length, size_t header);
 
 /* Sets the callback. The process that calls this first receives the frames from then on, and the callback runs within its activations. */

@@ -1,6 +1,6 @@
 /*
- * Motes talk by lines of their serial lines. Mote 1 is the root. "3 text" asks mote 3, which answers; "* text" goes to all in reach; "3 #300" sends
- * 300 bytes to mote 3.
+ * Motes talk by lines of their serial lines. Mote 1 is the root. "3 text" asks mote 3, which answers; "* text" goes to all in reach; "3
+ * #300" sends 300 bytes to mote 3.
  */
 #include "contiki.h"
 #include "net/ipv6/simple-udp.h"

@@ -1,7 +1,7 @@
 /*
- * The main loop of a board: the mote rests, an input comes, the mote works to its next rest. Inputs are the time, a line of the serial line,
- * a frame. Time is passed late, at a timer's end and before another input: so a board sleeps while its mote rests. The mote knows nothing
- * else of the world, so its inputs in their order are the run.
+ * The main loop of a board: the mote rests, an input comes, the mote works to its next rest. Inputs are the time, a line of the serial
+ * line, a frame. Time is passed late, at a timer's end and before another input: so a board sleeps while its mote rests. The mote knows
+ * nothing else of the world, so its inputs in their order are the run.
  */
 #include "firmware.h"
 
@@ -21,7 +21,7 @@ open_all(void)
   board_open();
   open_console();
   if(board_settings.node != 0) {
-    join_network(board_settings.node);
+    join_network(board_settings.node, 0);
   }
   limit_heap((const uint8_t *)((uintptr_t)stack_low - (1u << OPEN_GUARD)));
   number_processes();

@@ -1,6 +1,6 @@
 /*
- * What runs before the main loop: the vectors, two stacks, and their guards. The program and the mote are on one stack, interrupts and faults
- * on a small one of their own: so a full stack can be reported.
+ * What runs before the main loop: the vectors, two stacks, and their guards. The program and the mote are on one stack, interrupts and
+ * faults on a small one of their own: so a full stack can be reported.
  */
 #include "firmware.h"
 

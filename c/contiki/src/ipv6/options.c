@@ -50,8 +50,8 @@ are_lengths_right(const struct packet *packet)
                                        : true;
 }
 
-/* Whether a packet may be processed further, by the options of a header. An option that isn't known says what to do: skip it, or discard the
- * packet, and perhaps tell its sender. */
+/* Whether a packet may be processed further, by the options of a header. An option that isn't known says what to do: skip it, or discard
+ * the packet, and perhaps tell its sender. */
 bool
 may_pass_options(const struct packet *packet, size_t at)
 {

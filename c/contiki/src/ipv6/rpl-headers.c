@@ -119,7 +119,8 @@ write_source_route(uint8_t *header, const uint8_t *const *path, unsigned hops, s
   }
 }
 
-/* At the root: the packet's destination becomes the first hop, and the other hops are in the header. False if the packet is too long then. */
+/* At the root: the packet's destination becomes the first hop, and the other hops are in the header. False if the packet is too long
+ * then. */
 bool
 add_source_route(struct packet *packet)
 {

@@ -1,6 +1,6 @@
 /*
- * When a mote sends RPL's messages, and what it does with those that aren't about the DODAG itself: DIO by a trickle timer (RFC 6206; RFC 6550,
- * section 8.3), DAO (section 9) until the root has acknowledged, DIS (section 8.3) until it has joined, and later to a silent parent.
+ * When a mote sends RPL's messages, and what it does with those that aren't about the DODAG itself: DIO by a trickle timer (RFC 6206; RFC
+ * 6550, section 8.3), DAO (section 9) until the root has acknowledged, DIS (section 8.3) until it has joined, and later to a silent parent.
  */
 #include "rpl.h"
 

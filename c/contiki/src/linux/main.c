@@ -257,7 +257,7 @@ open_run(struct words *words, int script)
     open_record(words->record, &head);
   }
   if(words->node != 0) {
-    join_network((uint16_t)words->node);
+    join_network((uint16_t)words->node, 0);
   }
 }
 

@@ -1,5 +1,5 @@
-/* Mote 1 is a root, and each mote prints the packets that arrive at port 4000. A line of the serial line, a name, prints a count of what was received
- * or dropped; "halt" halts the mote. */
+/* Mote 1 is a root, and each mote prints the packets that arrive at port 4000. A line of the serial line, a name, prints a count of what
+ * was received or dropped; "halt" halts the mote. */
 #include "contiki.h"
 #include "net/ipv6/simple-udp.h"
 #include "net/ipv6/uiplib.h"

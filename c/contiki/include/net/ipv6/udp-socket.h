@@ -19,8 +19,8 @@ struct udp_socket {
   struct uip_udp_conn *udp_conn; /* NULL if it isn't registered */
 };
 
-/* Registers a socket with an unused local port. Each returns 1, or -1 if it can't: the socket is NULL or isn't registered, or all connections
- * are used (UIP_CONF_UDP_CONNS). The callback runs as that of simple-udp.h. */
+/* Registers a socket with an unused local port. Each returns 1, or -1 if it can't: the socket is NULL or isn't registered, or all
+ * connections are used (UIP_CONF_UDP_CONNS). The callback runs as that of simple-udp.h. */
 int udp_socket_register(struct udp_socket *c, void *ptr, udp_socket_input_callback_t receive_callback);
 int udp_socket_bind(struct udp_socket *c, uint16_t local_port);
 int udp_socket_connect(struct udp_socket *c, uip_ipaddr_t *remote_addr, uint16_t remote_port);
