@@ -210,23 +210,23 @@ def test_edits_by_rt_ci(wrong: Wrong) -> None:
 # ---- By the kit itself ----
 
 def test_real_crate(tmp_path: Path) -> None:
-    """The kit refuses the edit of transcript_lines by a contract. One that means the same as before isn't refused, and one that can't be
-    compiled is bad."""
-    shutil.copytree(CRATES / "transcript_lines", tmp_path / "crates/transcript_lines", ignore=shutil.ignore_patterns("out"))
+    """The kit refuses an edit of alarm_core by a contract. One that means the same as before isn't refused, and one that can't be compiled
+    is bad."""
+    shutil.copytree(CRATES / "alarm_core", tmp_path / "crates/alarm_core", ignore=shutil.ignore_patterns("out", "must-fail"))
     for name in ("scripts", "tests"):
         (tmp_path / name).mkdir()
     for name in ("scripts/must_fail.py", "scripts/rattle_functions.py", "scripts/kit_rt.py", "scripts/schedule.py", "tests/wrong_bodies"):
         shutil.copy2(ROOT / name, tmp_path / name)
-    (tmp_path / "crates.txt").write_text("transcript_lines:\n", encoding="utf-8")
-    folder = tmp_path / "crates/transcript_lines/must-fail"
-    edits = sorted(path.name for path in folder.glob("*.edit"))
-    old = "Some(Line::Note(Note::Sent(_))) | Some(Line::Ending(_)) => true,"
-    write_edit(folder, "z_same", old, "Some(Line::Ending(_)) | Some(Line::Note(Note::Sent(_))) => true,", "src/quiet.rt")
-    write_edit(folder, "z_unknown_name", old, old.replace("true", "truth"), "src/quiet.rt")
-    ran = run(tmp_path / "tests/wrong_bodies", "--jobs", "2", "transcript_lines", timeout=1800)
+    (tmp_path / "crates.txt").write_text("alarm_core: thiserror\n", encoding="utf-8")
+    folder, name, old = tmp_path / "crates/alarm_core/must-fail", "takes_the_higher_number.edit", "a.owner <= b.owner"
+    folder.mkdir()
+    shutil.copy2(CRATES / "alarm_core/must-fail" / name, folder / name)
+    write_edit(folder, "z_same", old, "!(b.owner < a.owner)", "src/alarm.rt")
+    write_edit(folder, "z_unknown_name", old, "a.owner <= nobody", "src/alarm.rt")
+    ran = run(tmp_path / "tests/wrong_bodies", "--jobs", "2", "alarm_core", timeout=1800)
     lines = ran.stdout.decode().splitlines()
-    told = rf"transcript_lines/{edits[0]}: refused: [\w:]+: note: src/quiet.rt:\d+:\d+: it is not proved that what the function ensures"
-    assert len(edits) == 1 and re.match(told, lines[0]), lines
-    assert lines[1] == "transcript_lines/z_same.edit: NOT REFUSED: the crate is still proved with it"
-    assert lines[2].startswith("transcript_lines/z_unknown_name.edit: BAD EDIT: its text can't be compiled or read: ")
+    told = rf"alarm_core/{name}: refused: [\w:]+: note: src/alarm.rt:\d+:\d+: it is not proved that what the function ensures"
+    assert re.match(told, lines[0]), lines
+    assert lines[1] == "alarm_core/z_same.edit: NOT REFUSED: the crate is still proved with it"
+    assert lines[2].startswith("alarm_core/z_unknown_name.edit: BAD EDIT: its text can't be compiled or read: ")
     assert (lines[3:], ran.returncode) == (["1 passed, 2 failed"], 1)

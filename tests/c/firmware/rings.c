@@ -1,6 +1,6 @@
 /*
- * The rings of a board, compiled for this machine: one alone at each size, position and filling, and those of the ports beside plain queues.
- * The board is a stand-in, whose ports take as many bytes as they are told.
+ * The rings of a board, compiled for this machine: one alone at each size, position and filling, and those of the ports beside plain
+ * queues. The board is a stand-in, whose ports take as many bytes as they are told.
  */
 #include "firmware.h"
 #include "ring.h"
