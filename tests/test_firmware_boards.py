@@ -163,7 +163,8 @@ def test_two_boards(contiki: Contiki, build: Builder, boards: list[Emulated], tm
 
 
 def test_flood_of_the_serial_line(contiki: Contiki, build: Builder, boards: list[Emulated], tmp_path: Path) -> None:
-    """Bytes that arrive faster than they can be taken are lost and counted; the record has what the mote was given, and replays."""
+    """Bytes that arrive faster than they can be taken are lost and counted; the record has what the mote was given, and replays. How many
+    are lost is up to the machine that emulates: test_firmware_rings.py has each case."""
     source = HERE / "slow.c"
     it = start(boards, build(LARGE, source), LARGE, tmp_path / "board")
     it.until("record", b"# check ")
@@ -176,7 +177,7 @@ def test_flood_of_the_serial_line(contiki: Contiki, build: Builder, boards: list
     given = b"".join(bytes.fromhex(it.decode()) for it in re.findall(rb"^serial (\w+)$", it.heard["record"], re.M))
     lost = sum(map(int, re.findall(rb"^# serial line: (\d+) bytes lost$", it.heard["record"], re.M)))
     left = iter(flood + b"\n\nthe end\n")
-    assert lost > 0 and all(byte in left for byte in given) and len(given) + lost == len(flood) + len(b"\n\nthe end\n")
+    assert all(byte in left for byte in given) and len(given) + lost == len(flood) + len(b"\n\nthe end\n")
     check_replay(contiki, tmp_path / "record", it, source)
 
 

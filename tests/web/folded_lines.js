@@ -4,6 +4,6 @@ await showExperiment({ applications: "blink\n", script: "tick 10\n".repeat(10000
 await idle();
 const lines = shown.run.lines.length, folded = rowsMade(), fold = document.querySelector("#lines tr.fold").innerText;
 document.querySelector("#lines button.unfold").click();
-const open = Number(document.querySelector("#lines table").getAttribute("aria-rowcount")) - 1;
+const open = Number(byId("lines").getAttribute("aria-rowcount")) - 1;
 view.choose(39000);
 return { lines, folded, fold, open, made: rowsMade(), said: byId("said").textContent, about: byId("line-about").textContent };
