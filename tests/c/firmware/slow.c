@@ -12,7 +12,7 @@ PROCESS_THREAD(slow, ev, data)
 
   while(1) {
     PROCESS_WAIT_EVENT_UNTIL(ev == serial_line_event_message);
-    for(work = 0; work < 1000000; work++) {
+    for(work = 0; work < 50000; work++) {
     }
     printf("%s\n", (char *)data);
   }
