@@ -202,10 +202,12 @@ def test_record_that_nobody_reads(contiki: Contiki, build: Builder, boards: list
     source = CONTIKI / "mote/blink.c"
     it = start(boards, build(LARGE, source), LARGE, tmp_path / "board", fast=True)
     it.until("record", b"# check ")
-    for _ in range(200):
+    for _ in range(600):
         it.pump(0.1, ports=("console",))
-        if it.heard["console"].count(b"\n") > 100_000 // 8:
+        if it.heard["console"].count(b"\n") > 12_500:
             break
+    else:
+        pytest.fail("the board waits for the record's port")
     it.until("record", b"# the record ends here: the port is too slow\n")
     assert whole_lines(it.heard["record"]).endswith(b"# the record ends here: the port is too slow\n")
     ran = replay(contiki, tmp_path / "record", whole_lines(it.heard["record"]), source, "--text")

@@ -70,23 +70,30 @@ pass_time(void)
   }
 }
 
-/* Whether the ports keep up. A port that takes nothing for two seconds isn't waited for: then bytes are lost, and the record ends. */
+/* Whether a port is behind with what was put. The record isn't any more, once it has ended. */
+static bool
+is_behind(enum port port)
+{
+  return output_used(port) > MOST_WAITING && !(port == RECORD && record_has_ended());
+}
+
+/* Whether all ports keep up. One that takes nothing for two seconds isn't waited for: then its bytes are lost, or the record ends. */
 static bool
 outputs_keep_up(void)
 {
-  static uint64_t since;
+  static uint64_t since[PORTS];
   static size_t used_then[PORTS];
   uint64_t now = clock_ticks();
-  bool waits = false;
+  bool keep_up = true;
   for(enum port port = CONSOLE; port < PORTS; port++) {
     size_t used = output_used(port);
-    waits |= used > MOST_WAITING && !(port == RECORD && record_has_ended());
-    if(used < used_then[port] || used <= MOST_WAITING) {
-      since = now;
+    if(!is_behind(port) || used < used_then[port]) {
+      since[port] = now;
     }
     used_then[port] = used;
+    keep_up &= !is_behind(port) || now - since[port] > (uint64_t)PATIENCE * program_facts.ticks_a_second;
   }
-  return !waits || now - since > (uint64_t)PATIENCE * program_facts.ticks_a_second;
+  return keep_up;
 }
 
 /* Takes a line or a frame, if one is whole. */
