@@ -5,6 +5,8 @@ import json
 import os
 from typing import Any, Iterator, Sequence
 
+# Options of mote-picture that have a number, too, and are no sizes.
+CLOCKS = ("from", "to")
 RULES = os.path.join(os.path.dirname(os.path.dirname(os.path.realpath(__file__))), "interface/rules.json")
 
 
@@ -37,6 +39,8 @@ def split(words: Sequence[str], options: Sequence[str]) -> tuple[dict[str, str],
             names += left
         elif word.startswith("--") and name in options:
             sizes[name] = number if equals else next(left, "")
+        elif word in [f"--{clock}" for clock in CLOCKS]:
+            next(left, "")
         elif not word.startswith("-"):
             names.append(word)
     return sizes, names

@@ -107,6 +107,7 @@ def read_edit(path: Path, folder: Path, source: Source) -> Edit:
         line = text.count("\n", 0, text.index(old)) + 1
         if function := source.function_at(file, line):
             functions.append(function)
+            is_of_bodies = is_of_bodies and function.has_in_body(line)
             continue
         is_of_bodies = False
         if file in source.texts and (name := source.constant_at(file, line)):

@@ -1,6 +1,7 @@
 """The functions of a crate's source, by the names that rattle prints, and the lines of each. It reads files as `rt fmt` lays them out."""
 from __future__ import annotations
 
+import itertools
 import re
 from dataclasses import dataclass
 from pathlib import Path
@@ -16,11 +17,16 @@ UNNAMED = ("lib", "main", "mod")
 
 @dataclass(frozen=True)
 class Function:
-    """A function by its path below the crate, and its first and last line, counted from 1."""
+    """A function by its path below the crate, and its first and last line, and the one that opens its body, counted from 1."""
     path: str
     file: str
     first: int
+    body: int
     last: int
+
+    def has_in_body(self, line: int) -> bool:
+        """Whether a line is one of the body, and none of the head or the contract, on which the proofs of others rest."""
+        return line > self.body or self.first == self.last
 
     @property
     def proofs(self) -> str:
@@ -61,7 +67,8 @@ class Source:
         for number, line in enumerate(lines, 1):
             owner = self._owner(file, line) or ("" if line == "}" else owner)
             if (head := FUNCTION.match(line)) and (last := end_of(lines, number, head[1])):
-                yield Function(self._within(owner if head[1] else module_of(file), head[2]), file, number, last)
+                body = body_of(lines, number, last, head[1])
+                yield Function(self._within(owner if head[1] else module_of(file), head[2]), file, number, body, last)
 
     def function_at(self, file: str, number: int) -> Function | None:
         """The function that has this line."""
@@ -80,6 +87,14 @@ class Source:
         """The functions in whose text a word is."""
         lines = {file: text.splitlines() for file, text in self.texts.items()}
         return [it for it in self.functions if re.search(rf"\b{name}\b", "\n".join(lines[it.file][it.first - 1:it.last]))]
+
+
+def body_of(lines: list[str], first: int, last: int, indent: str) -> int:
+    """The line that opens the body of a function: after a contract `{` alone, otherwise the end of the head."""
+    numbers = range(first, last + 1)
+    alone = (it for it in numbers if lines[it - 1] == f"{indent}{{")
+    ending = (it for it in numbers if lines[it - 1].endswith("{"))
+    return next(itertools.chain(alone, ending), first)
 
 
 def end_of(lines: list[str], number: int, indent: str) -> int | None:

@@ -1,5 +1,6 @@
 """Compares interface/public-calls.md with the sources of its crates: each public call and type that a list there names is declared in its
-crate, under exactly this signature, and no other is public. A list of a type's or trait's calls follows its name.
+crate, under exactly this signature, and no other is public. A list of a type's or trait's calls follows its name. A crate with no list is
+named as such.
 
 Public is what a public module declares, what lib.rt exports from another one, and the public methods of these types, wherever they are.
 """
@@ -16,6 +17,7 @@ PAGE = ROOT / "interface/public-calls.md"
 HEADING = re.compile(r"^## (\w+)$", re.M)
 LIST = re.compile(r"^(?:`(\w+)`|[A-Z][\w ]+):\n\n((?:- `[^`]+`\n)+)", re.M)
 ROW = re.compile(r"^- `([^`]+)`$", re.M)
+UNLISTED = re.compile(r"^Crates with no list here: ([^.]+)\.$", re.M)
 # What has methods: its kind, its name, and all between its braces.
 BLOCK = re.compile(r"^(?:pub )?(impl|trait)(?:<[^>\n]*>)? (\w+)(?:<[^>\n]*>)?[^{}\n]*\{\n(.*?)^\}", re.M | re.S)
 # A signature ends where a contract or a body begins.
@@ -122,15 +124,24 @@ def unlisted(rows: list[Row]) -> list[Row]:
     return [Row(crate, *found) for crate in crates for found in sorted(public_in(crate)) if (crate, *found) not in listed]
 
 
+def unnamed(page: str, rows: list[Row]) -> list[str]:
+    """The crates with public calls or types that have neither a list nor their name among those with none, and those that have both."""
+    listed, named = {row.crate for row in rows}, set(re.findall(r"`(\w+)`", "".join(UNLISTED.findall(page))))
+    public = {path.name for path in (ROOT / "crates").iterdir() if (path / "src/lib.rt").is_file() and public_in(path.name)}
+    return sorted((public - listed) ^ named)
+
+
 def told(row: Row) -> str:
     return f"{row.owner + ': ' if row.owner else ''}{row.signature}"
 
 
 def faults() -> list[str]:
-    """What is wrong with the page, one line each: a row that the sources don't declare, what is public and has no row, or that it has no
-    rows at all."""
+    """What is wrong with the page, one line each: a row that the sources don't declare, what is public and has no row, a crate that the
+    page doesn't name, or that it has no rows at all."""
     text = PAGE.read_text(encoding="utf-8")
     rows = rows_of(text)
     if not rows or len(rows) != len(ROW.findall(text)):
         return ["not every row is in a list of a crate"]
-    return [*(f"{row.crate} has no {told(row)}" for row in missing(rows)), *(f"no row: {row.crate}, {told(row)}" for row in unlisted(rows))]
+    return [*(f"{row.crate} has no {told(row)}" for row in missing(rows)),
+            *(f"no row: {row.crate}, {told(row)}" for row in unlisted(rows)),
+            *(f"{crate}: neither a list nor named as one without, or both" for crate in unnamed(text, rows))]

@@ -7,7 +7,7 @@ from pathlib import Path
 
 from tools import EXAMPLES, ROOT, program, succeed
 
-PLACES = {"worked runs": ["crates/scenario/data/*.runs"], "examples": ["examples/*.scenario", "examples/rows/*.scenario"]}
+PLACES = {"worked runs": ["crates/scenario/data/*.scenario"], "examples": ["examples/*.scenario", "examples/rows/*.scenario"]}
 
 
 @dataclass(frozen=True)

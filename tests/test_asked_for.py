@@ -34,9 +34,9 @@ def test_public_calls(crate: str) -> None:
 
 def run_of(file: str, name: str) -> str:
     """The run of this name, with its heading."""
-    text = (CRATES / "scenario/data" / f"{file}.runs").read_text(encoding="utf-8")
+    text = (CRATES / "scenario/data" / f"{file}.scenario").read_text(encoding="utf-8")
     found = re.findall(rf"^== {re.escape(name)}\n(?:(?!== ).*\n)*", text + "\n", re.M)
-    assert len(found) == 1, f"{file}.runs: no run {name}"
+    assert len(found) == 1, f"{file}.scenario: no run {name}"
     return re.sub(r"\n+$", "\n", re.sub(r"^#.*\n", "", str(found[0]), flags=re.M))
 
 
@@ -48,9 +48,9 @@ def test_worked_run(file: str, name: str, patterns: list[str]) -> None:
 
 @pytest.mark.parametrize(("case", "texts"), ASKED_FOR["runs of the program"])
 def test_run_of_program(case: str, texts: list[str]) -> None:
-    """A folder of tests/cases, which tests/test_program.py runs."""
-    files = "".join(path.read_text(encoding="utf-8") for path in sorted((ROOT / "tests/cases" / case).iterdir()))
-    assert files and [text for text in texts if text not in files] == []
+    """A file of tests/cases, which tests/test_program.py runs."""
+    stored = (ROOT / "tests/cases" / f"{case}.case").read_text(encoding="utf-8")
+    assert [text for text in texts if text not in stored] == []
 
 
 @pytest.mark.parametrize(("what", "file", "texts"), ASKED_FOR["tests"])

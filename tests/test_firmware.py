@@ -1,15 +1,16 @@
-"""Records of runs and their replays on Linux, and what boards have in place of the C library: formats and random numbers.
+"""Records of runs and their replays on Linux, and what boards have in place of the C library: formats, random numbers, qsort.
 
 tests/test_firmware_boards.py has the boards.
 """
 
 import re
+import subprocess
 from pathlib import Path
 
 import pytest
 
-from contiki_programs import STRICT, Contiki, messages, outcome, script_of, transcript_of
-from tools import EXAMPLES, ROOT, SANITIZERS, Completed, all_hold, run, succeed, told
+from contiki_programs import BLINKER, STRICT, Contiki, messages, outcome, script_of, transcript_of
+from tools import EXAMPLES, ROOT, SANITIZERS, Completed, Word, all_hold, run, succeed, told
 
 HERE = ROOT / "tests/c/firmware"
 BOARD = ROOT / "c/contiki/src/board"
@@ -33,6 +34,14 @@ def test_random_numbers(tmp_path: Path) -> None:
             "-o", tmp_path / "own.o")
     succeed("gcc", *STRICT, HERE / "random.c", tmp_path / "own.o", "-o", tmp_path / "random")
     all_hold(run(tmp_path / "random"))
+
+
+def test_sort(tmp_path: Path) -> None:
+    """qsort makes the order of this machine's C library by the same comparisons, so a program's run is the same."""
+    # The address sanitizer's qsort makes comparisons of its own.
+    succeed("gcc", *STRICT, "-O1", "-Dqsort=own_qsort", "-Dmalloc=own_malloc", "-c", BOARD / "sort.c", "-o", tmp_path / "own.o")
+    succeed("gcc", *STRICT, "-O1", f"-I{ROOT}/tests/c", HERE / "sort.c", tmp_path / "own.o", "-o", tmp_path / "sort")
+    all_hold(run(tmp_path / "sort"))
 
 
 def recorded(contiki: Contiki, place: Path, source: Path, script: bytes, *words: str) -> tuple[Completed, bytes]:
@@ -113,6 +122,41 @@ def test_cut_record(contiki: Contiki, tmp_path: Path) -> None:
     assert len(lengths) > 4 and max(lengths) == len(ran.stdout)
 
 
+@pytest.mark.parametrize("words,told_as", [
+    (["--record", "first.c", "second.c"], "first.c is there, and no record: --record needs a file of its own"),
+    (["--record=first.c", "first.c", "second.c"], "first.c is there, and no record: --record needs a file of its own"),
+    (["--record", "notes", "first.c"], "notes is there, and no record: --record needs a file of its own"),
+    (["--record", "run.record", "first.c"], "run.record is the script, too: --record needs a file of its own"),
+    (["--board", "mps2-an385", "-o", "new", "--run", "--record", "new", "first.c"], "--record new: the record needs a file of its own"),
+    (["--build", "first.c", "second.c"], "--build first.c: the program needs a file of its own, that isn't a source"),
+    (["--build", "new.h", "first.c"], "--build new.h: the program needs a file of its own, that isn't a source"),
+    (["--build", "./first.o", "first.o"], "--build ./first.o: the program needs a file of its own, that isn't a source"),
+    (["--board", "mps2-an385", "-o", "first.c", "second.c"], "-o first.c: the image needs a file of its own, that isn't a source"),
+    (["--board", "own.c", "-o", "own.ld", "first.c"], "-o own.ld: the image needs a file of its own, that isn't a source"),
+    (["--board", "own.c", "--script", "notes", "-o", "notes", "first.c"],
+     "-o notes: the image needs a file of its own, that isn't a source"),
+])
+def test_source_is_not_overwritten(contiki: Contiki, tmp_path: Path, words: list[str], told_as: str) -> None:
+    """A record replaces only a record, and nothing replaces what a run is made of."""
+    texts = {"first.c": BLINKER.read_text(encoding="utf-8"), "second.c": "int second;\n", "notes": "# records\n", "first.o": "none",
+             "own.c": "none", "own.ld": "none", "run.record": "# record of a run\ntick 1\n"}
+    for name, text in texts.items():
+        (tmp_path / name).write_text(text, encoding="utf-8")
+    with (tmp_path / "run.record").open("rb") as script:
+        ran = subprocess.run([ROOT / "contiki", "--library", contiki.library, *words], cwd=tmp_path, stdin=script, capture_output=True,
+                             check=False)
+    assert (ran.returncode, messages(ran.stderr)) == (64, [told_as]), told(ran)
+    assert {it.name: it.read_text(encoding="utf-8") for it in tmp_path.iterdir()} == texts
+
+
+@pytest.mark.parametrize("before", ["", "# record 1 sources of a longer run\n" + 9000 * "tick 1\n"])
+def test_record_is_replaced(contiki: Contiki, tmp_path: Path, before: str) -> None:
+    """An older record, or an empty file, is replaced as a whole."""
+    _, fresh = recorded(contiki, tmp_path / "fresh", BLINKER, b"tick 1\n")
+    (tmp_path / "record").write_text(before, encoding="utf-8")
+    assert recorded(contiki, tmp_path / "record", BLINKER, b"tick 1\n")[1] == fresh
+
+
 @pytest.mark.parametrize("record,words,status,told_as", [
     (b"tick 5\n", [], 2, "this is no record: it doesn't begin with `# record 1 sources ..`"),
     (b"", [], 2, "this is no record: it doesn't begin with `# record 1 sources ..`"),
@@ -163,6 +207,66 @@ def test_two_runs_in_one_record(contiki: Contiki, tmp_path: Path) -> None:
     again = replayed(contiki, tmp_path / "record", THERMO, record + record)
     assert (again.returncode, again.stdout) == (0, ran.stdout)
     assert messages(again.stderr)[0] == f"another run begins at line {record.count(10) + 1} of the record: replay it from a file of its own"
+
+
+def test_board_that_begins_anew_within_a_line(contiki: Contiki, tmp_path: Path) -> None:
+    """A board that loses its power leaves a part of a line, on which the next record begins."""
+    ran, record = recorded(contiki, tmp_path / "record", THERMO, b"tick 200\nserial 680a\n")
+    program = tmp_path / "program"
+    succeed(ROOT / "contiki", "--library", contiki.library, "--build", program, THERMO)
+    for end in range(1, len(record)):
+        again = run(program, "--replay", stdin=record[:end] + record)
+        number = record[:end].count(10) + 1
+        begun = f"another run begins at line {number} of the record: replay it from a file of its own"
+        assert again.returncode == 0 and ran.stdout.startswith(again.stdout), (end, told(again))
+        assert messages(again.stderr)[:-1] == ([begun] if number > 1 else []), (end, told(again))
+
+
+def test_byte_0_in_a_record(contiki: Contiki, tmp_path: Path) -> None:
+    """A line doesn't end at a byte 0: what follows it would be lost unnoticed."""
+    _, record = recorded(contiki, tmp_path / "record", THERMO, b"tick 1\ntick 2\n")
+    ran = replayed(contiki, tmp_path / "record", THERMO, record.replace(b"tick 1\n", b"tick 1\0"))
+    assert (ran.returncode, messages(ran.stderr)) == (1, ["line 3 of the record has a byte 0"]), told(ran)
+
+
+def test_long_record(contiki: Contiki, tmp_path: Path) -> None:
+    """A record may be longer than a script: that of a board which ran for days replays to its end."""
+    ran, record = recorded(contiki, tmp_path / "record", BLINKER, b"tick 200\n")
+    head, _, rest = record.partition(b"\n")
+    again = replayed(contiki, tmp_path / "record", BLINKER, head + b"\n" + 600_000 * b"# serial line: 12 bytes lost\n" + rest)
+    assert (again.returncode, again.stdout) == (0, ran.stdout)
+    assert messages(again.stderr) == ["replayed 1 inputs and 0 values; 2 checks agree"]
+
+
+def test_refused_run_keeps_the_record(contiki: Contiki, tmp_path: Path) -> None:
+    """An older record is there until a run begins. A program refuses a record of a replay, as the command does."""
+    _, record = recorded(contiki, tmp_path / "record", BLINKER, b"tick 1\n")
+    program = tmp_path / "program"
+    succeed(ROOT / "contiki", "--library", contiki.library, "--build", program, BLINKER)
+    for words, told_as in ((["--heap", "3"], "bad sizes"), (["--replay"], "--replay makes no record: leave out --record")):
+        ran = run(program, *words, "--record", tmp_path / "record", stdin=record)
+        assert (ran.returncode, messages(ran.stderr)) == (64, [told_as]), told(ran)
+        assert (tmp_path / "record").read_bytes() == record
+
+
+def test_record_from_a_pipe(contiki: Contiki, tmp_path: Path) -> None:
+    """A record may come from another command, as one that unpacks it."""
+    ran, _ = recorded(contiki, tmp_path / "record", BLINKER, b"tick 1\n")
+    words: list[Word] = [ROOT / "contiki", "--library", contiki.library, "--replay", "/dev/stdin", BLINKER]
+    again = run("bash", "-c", 'cat "$1" | "${@:2}"', "-", tmp_path / "record", *words)
+    assert (again.returncode, again.stdout) == (0, ran.stdout), told(again)
+    folder = run(*words[:3], "--replay", tmp_path, BLINKER)
+    assert (folder.returncode, messages(folder.stderr)) == (64, [f"{tmp_path}: no such file"]), told(folder)
+
+
+def test_full_disk(contiki: Contiki, tmp_path: Path) -> None:
+    """Where the record can't be written, the run ends, with the transcript so far; the record replays to that."""
+    program, record = tmp_path / "program", tmp_path / "record"
+    succeed(ROOT / "contiki", "--library", contiki.library, "--build", program, BLINKER)
+    ran = run("bash", "-c", 'trap "" XFSZ; ulimit -f 1; exec "$@"', "-", program, "--record", record, stdin=b"tick 100\n" * 100)
+    assert (ran.returncode, messages(ran.stderr)) == (6, ["the record can't be written"]) and record.stat().st_size == 1024
+    again = run(program, "--replay", record)
+    assert again.returncode == 0 and again.stdout.count(b"\n") > 30 and ran.stdout.startswith(again.stdout), told(again)
 
 
 def test_bug_is_found_by_a_replay(contiki: Contiki, tmp_path: Path) -> None:

@@ -3,13 +3,19 @@
 A live board is fed by its ports, and its clock is the emulator's, which counts instructions.
 """
 
+import os
+import pty
 import re
+import select
+import signal
+import subprocess
+import time
 from pathlib import Path
 from typing import Iterator
 
 import pytest
 
-from contiki_programs import Contiki, messages, script_of, transcript_of
+from contiki_programs import Contiki, messages, program_of, script_of, transcript_of, write_source
 from emulator import CORES, HAS_NEWLIB, PATIENCE, Builder, Emulated, kernels, replay, run_script, whole_lines
 from tools import EXAMPLES, ROOT, Word, needs, run, told
 
@@ -68,6 +74,28 @@ def test_scripts(build: Builder, board: str) -> None:
         script = script_beside(source)
         _, transcript, status = run_script(build(board, source, "--script", script), board)
         assert (status, transcript) == (0, script.with_suffix(".transcript").read_bytes()), source
+
+
+@pytest.mark.parametrize("level", ["-O0", "-O1", "-O2", "-O3", "-Os"])
+def test_level(build: Builder, level: str) -> None:
+    """At each level of the compiler a program fits, and its run is the same byte for byte."""
+    for board in EACH_CORE:
+        for source in CONTIKI / "guests.c", CONTIKI / "shell.c":
+            _, transcript, status = run_script(build(board, source, level, "--script", source.with_suffix(".script")), board)
+            assert (status, transcript) == (0, transcript_of(source)), (board, source)
+
+
+@pytest.mark.parametrize("what,told_as", [
+    ("static volatile char all[66000]", "variables and stack don't fit in the board's RAM"),
+    ("static volatile char all[42500]", "variables and stack don't fit in the board's RAM"),
+    ("static const char all[300000] = {1}", "code and constants don't fit in the board's flash"),
+])
+@pytest.mark.parametrize("level", ["-O0", "-Os"])
+def test_what_does_not_fit(build: Builder, tmp_path: Path, what: str, told_as: str, level: str) -> None:
+    """The message says which memory is too small."""
+    source = write_source(tmp_path, program_of('printf("%d", all[clock_time()]);', f"{what};"))
+    ran = run(ROOT / "contiki", "--library", build.library, "--board", "lm3s6965", level, source, "-o", tmp_path / "image")
+    assert ran.returncode == 65 and messages(ran.stderr)[0] == told_as, told(ran)
 
 
 @pytest.mark.parametrize("board", CORES)
@@ -186,14 +214,19 @@ def test_flood_of_the_radio(contiki: Contiki, build: Builder, boards: list[Emula
     source = CONTIKI / "mote/relay.c"
     it = start(boards, build(LARGE, source), LARGE, tmp_path / "board")
     it.until("record", b"# check ")
-    for number in range(100):
-        it.send("radio", b"\xc0" + bytes([1 + number % 100]) * (5 + number % 100) + b"\xc0")
+    sent = [bytes([1 + number]) * (5 + number) for number in range(100)]
+    for frame in sent:
+        it.send("radio", b"\xc0" + frame + b"\xc0")
     it.send("radio", b"\xc0" + b"x" * 200 + b"\xc0\xdb\x01\xc0\xdb\xc0")
     it.pump(2)
     it.send("radio", b"\xc0\xdb\xdc\xdb\xdd\x2a\xc0")
     it.until("record", b"frame c0db2a\n# check ")
     it.until("radio", b"\xc0\xdb\xdc\xdb\xdd\x2a\xc0")
     assert b"bad frames" in it.heard["record"]
+    # What was lost is lost as whole frames: none was joined with another one, or shortened.
+    given = re.findall(rb"^frame (\w+)$", it.heard["record"], re.M)[:-1]
+    left = iter(frame.hex().encode() for frame in sent)
+    assert all(frame in left for frame in given)
     check_replay(contiki, tmp_path / "record", it, source)
 
 
@@ -233,6 +266,90 @@ def test_fault(contiki: Contiki, build: Builder, boards: list[Emulated], tmp_pat
     assert it.heard["console"].startswith(b"ready\n" + how.encode() + b"\n")
 
 
+def own_board(folder: Path, old: str = "", new: str = "", name: str = "mine") -> Path:
+    """A copy of a board's files, with one line of the other one's in it."""
+    text = (BOARDS / f"{LARGE}.c").read_text(encoding="utf-8")
+    assert not old or text.count(old) == 1
+    (folder / f"{name}.c").write_text(text.replace(old, new) if old else text, encoding="utf-8")
+    (folder / f"{name}.ld").write_bytes((BOARDS / f"{LARGE}.ld").read_bytes())
+    return folder / f"{name}.c"
+
+
+def build_own(build: Builder, place: Path, board: Path, source: Path, *words: Word) -> Path:
+    ran = run(ROOT / "contiki", "--library", build.library, "--board", board, *words, source, "-o", place)
+    assert (ran.returncode, ran.stderr) == (0, b""), told(ran)
+    return place
+
+
+RECEIVED = "    input_received(port, (uint8_t)UART(port, DATA));\n"
+# What a board's file does at a byte `!`, and what is reported of it.
+IN_INTERRUPT = {
+    "a read of NULL": ("(void)*(volatile int *)0;", "a crash: an invalid address (SIGSEGV)"),
+    "a bus error": ("(void)*(volatile int *)0xf0000000;", "a crash: an invalid address (SIGSEGV)"),
+    "a division by 0": ("board_zero = 5 / board_zero;", "a crash: a division by 0 (SIGFPE)"),
+    "an invalid instruction": ('__asm__ volatile("udf 0");', "a crash: an invalid instruction (SIGILL)"),
+    "a full stack": ('__asm__ volatile("mov sp, %0\\n push {r0}" ::"r"(0xf0000100));',
+                     "a crash: the stack is full, as by endless recursion (SIGSEGV)"),
+}
+
+
+@pytest.mark.parametrize("what", IN_INTERRUPT)
+@pytest.mark.parametrize("stops", [False, True], ids=["anew", "stops"])
+def test_fault_in_an_interrupt(build: Builder, boards: list[Emulated], tmp_path: Path, what: str, stops: bool) -> None:
+    """It is reported as any other one, with the interrupt, unless the stack of that is lost: on the console and in the record. Then the
+    board begins anew, or stops."""
+    statement, message = IN_INTERRUPT[what]
+    fault = f"    uint8_t byte = (uint8_t)UART(port, DATA);\n    static volatile int board_zero;\n    (void)board_zero;\n" \
+        f"    if(byte == '!') {{ {statement} }}\n    input_received(port, byte);\n"
+    mine = own_board(tmp_path, RECEIVED, fault)
+    image = build_own(build, tmp_path / "image", mine, HERE / "faults.c", *(["--stop-at-fault"] if stops else []))
+    it = start(boards, image, LARGE, tmp_path / "board")
+    it.until("record", b"# check ")
+    it.send("console", b"!\n")
+    if stops:
+        it.until("record", b"# exception ")
+        it.pump(1)
+        assert it.process.poll() is None and it.heard["console"].count(b"ready") == 1
+    else:
+        assert it.ended() == 0
+    line = f"contiki: {'' if what == 'a full stack' else 'in interrupt 0: '}{message}\n".encode()
+    assert b"ready\n" + line in it.heard["console"] and b"\n# " + line in it.heard["record"], (it.heard["console"], it.heard["record"])
+
+
+def test_second_fault(build: Builder, boards: list[Emulated], tmp_path: Path) -> None:
+    """A fault that can't be reported, as where the process's name is lost, is reported without it, and the board begins anew."""
+    it = start(boards, build(LARGE, HERE / "twice.c"), LARGE, tmp_path / "board")
+    it.until("record", b"# check ")
+    it.send("console", b"fault\n")
+    assert it.ended() == 0
+    line = b"contiki: a crash: an invalid address (SIGSEGV), and another one where that was reported\n"
+    assert it.heard["console"].startswith(line) and b"\n# " + line in it.heard["record"], (it.heard["console"], it.heard["record"])
+
+
+def test_fault_of_the_port_itself(build: Builder, boards: list[Emulated], tmp_path: Path) -> None:
+    """Where even the report's ports are at fault, the board begins anew, and doesn't lock up."""
+    mine = own_board(tmp_path, "  int byte;\n", "  int byte;\n  (void)*(volatile int *)0xf0000000;\n")
+    it = start(boards, build_own(build, tmp_path / "image", mine, HERE / "faults.c"), LARGE, tmp_path / "board")
+    assert it.ended() == 0
+
+
+def test_fault_while_a_port_takes_nothing(build: Builder, boards: list[Emulated], tmp_path: Path) -> None:
+    """The record has the message of a fault, and the board begins anew, also where nobody reads the console."""
+    it = start(boards, build(LARGE, HERE / "twice.c"), LARGE, tmp_path / "board")
+    it.until("record", b"# check ")
+    for line in b"fill\n", b"exit\n":
+        it.send("console", line)
+        for _ in range(600):
+            it.pump(0.1, ports=("record",))
+            if b"serial " + line.hex().encode() + b"\n# c" in it.heard["record"] or it.process.poll() is not None:
+                break
+    for _ in range(600):
+        if it.process.poll() is None:
+            it.pump(0.1, ports=("record",))
+    assert it.process.poll() == 0
+    assert b"the program called exit\n" in it.heard["record"], it.heard["record"][-300:]
+
+
 def test_stop_at_fault(build: Builder, boards: list[Emulated], tmp_path: Path) -> None:
     """As it is told, the board stops instead."""
     it = start(boards, build(LARGE, HERE / "faults.c", "--stop-at-fault"), LARGE, tmp_path / "board")
@@ -246,13 +363,36 @@ def test_stop_at_fault(build: Builder, boards: list[Emulated], tmp_path: Path) -
 def test_own_board(build: Builder, boards: list[Emulated], tmp_path: Path) -> None:
     """A file of one's own is a board, beside its linker script."""
     assert build("template", CONTIKI / "blinker.c").exists() and len((BOARDS / "template.c").read_text("utf-8").splitlines()) <= 80
-    for end in "c", "ld":
-        (tmp_path / f"mine.{end}").write_bytes((BOARDS / f"mps2-an385.{end}").read_bytes())
-    image = tmp_path / "image"
-    ran = run(ROOT / "contiki", "--library", build.library, "--board", tmp_path / "mine.c", CONTIKI / "blinker.c", "-o", image)
-    assert (ran.returncode, ran.stderr) == (0, b""), told(ran)
+    image = build_own(build, tmp_path / "image", own_board(tmp_path), CONTIKI / "blinker.c")
     it = start(boards, image, LARGE, tmp_path / "board")
     it.until("console", b"LED on\n")
+
+
+@pytest.mark.parametrize("name", ["settings", "driver", "a board"])
+def test_name_of_an_own_board(build: Builder, tmp_path: Path, name: str) -> None:
+    """Its file may have any name, also that of a part."""
+    folder = tmp_path / "a folder"
+    folder.mkdir()
+    assert build_own(build, folder / "an image", own_board(folder, name=name), CONTIKI / "blinker.c").stat().st_size > 10_000
+
+
+@pytest.mark.parametrize("source,words", [("names.c", []), ("standard.c", ["-lm"])])
+def test_names_and_standard_functions(contiki: Contiki, build: Builder, tmp_path: Path, source: str, words: list[str]) -> None:
+    """A program may have the driver's names. What functions of the C library return is the same as on Linux, and -l is passed on."""
+    (tmp_path / "empty").write_bytes(b"")
+    ran = run(ROOT / "contiki", "--library", build.library, "--board", LARGE, "--script", tmp_path / "empty", "--run", HERE / source,
+              *words, timeout=PATIENCE)
+    there = contiki(HERE / source, *words)
+    assert (ran.returncode, ran.stdout, ran.stderr) == (0, there.stdout, b"") and ran.stdout.count(b"print") > 4, told(ran)
+
+
+def test_slow_reader_of_a_transcript(build: Builder) -> None:
+    """A script has no time: a reader that begins late has the whole transcript."""
+    source = EXAMPLES / "contiki/mote/churn.c"
+    script = script_beside(source)
+    words: list[Word] = [ROOT / "contiki", "--library", build.library, "--board", LARGE, "--script", script, "--run", source]
+    ran = run("bash", "-c", '"$@" | { sleep 6; cat; }', "-", *words, timeout=PATIENCE)
+    assert ran.stdout == script.with_suffix(".transcript").read_bytes(), told(ran)
 
 
 def test_run_by_the_command(contiki: Contiki, build: Builder) -> None:
@@ -265,6 +405,75 @@ def test_run_by_the_command(contiki: Contiki, build: Builder) -> None:
     assert printed == contiki("--text", source, stdin=script_of(source)).stdout
 
 
+def test_two_boards_by_the_command(build: Builder, tmp_path: Path) -> None:
+    """`--radio` joins two boards as docs/firmware.md says."""
+    page, running = (ROOT / "docs/firmware.md").read_text(encoding="utf-8"), []
+    for name, number, radio in ("receiver", "2", "unix:FILE,server=on,wait=off"), ("sender", "1", "unix:FILE"):
+        assert f"`{radio}`" in page
+        words = ["--run", "--node", number, "--radio", radio.replace("FILE", str(tmp_path / "radio"))]
+        running.append(subprocess.Popen([str(ROOT / "contiki"), "--library", str(build.library), "--board", LARGE, *words,
+                                         str(CONTIKI / f"networks/{name}.c")], stdin=subprocess.PIPE, stdout=subprocess.PIPE))
+        end = time.monotonic() + PATIENCE
+        while not (tmp_path / "radio").exists():
+            assert time.monotonic() < end
+            time.sleep(0.1)
+    first, second = running
+    try:
+        assert second.stdin is not None and first.stdout is not None
+        second.stdin.write(b"a line\n")
+        second.stdin.flush()
+        assert select.select([first.stdout], [], [], PATIENCE)[0] and first.stdout.readline() == b"1: a line\n"
+    finally:
+        # The emulator ends with the command.
+        for it in running:
+            it.terminate()
+            it.communicate(timeout=PATIENCE)
+
+
+class Terminal:
+    """A command at a terminal."""
+
+    def __init__(self, *words: Word) -> None:
+        self.child, self.file = pty.fork()
+        if self.child == 0:
+            os.execv(str(words[0]), [str(word) for word in words])
+        self.seen = b""
+
+    def until(self, text: bytes) -> None:
+        end = time.monotonic() + PATIENCE
+        while text not in self.seen:
+            assert time.monotonic() < end, self.seen
+            if select.select([self.file], [], [], 1)[0]:
+                self.seen += os.read(self.file, 4096)
+
+    def ends(self) -> bool:
+        """Whether it ends, of itself."""
+        end = time.monotonic() + PATIENCE
+        while time.monotonic() < end:
+            if os.waitpid(self.child, os.WNOHANG)[0] != 0:
+                os.close(self.file)
+                return True
+            time.sleep(0.1)
+        os.kill(self.child, signal.SIGKILL)
+        return False
+
+
+def test_run_at_a_terminal(contiki: Contiki, build: Builder, tmp_path: Path) -> None:
+    """What is typed is seen, the key Enter ends a line, and Ctrl-C ends the run; the record replays."""
+    source, record = CONTIKI / "shell.c", tmp_path / "shell.record"
+    terminal = Terminal(ROOT / "contiki", "--library", build.library, "--board", LARGE, source, "--run", "--record", record)
+    end = time.monotonic() + PATIENCE
+    while not record.exists() or b"# check " not in record.read_bytes():
+        assert time.monotonic() < end
+        time.sleep(0.1)
+    os.write(terminal.file, b"help\r")
+    terminal.until(b"help\r\nhelp, echo TEXT, count N\r\n")
+    os.write(terminal.file, b"\x03")
+    assert terminal.ends()
+    ran = contiki("--replay", record, "--text", source)
+    assert (ran.returncode, ran.stdout) == (0, b"help, echo TEXT, count N\n"), told(ran)
+
+
 @pytest.mark.parametrize("words,told_as", [
     (["--board", "arduino", "-o", "image"], "there is no board arduino: lm3s6965 mps2-an385 netduinoplus2 or a file of your own "
      "(docs/firmware.md)"),
@@ -275,6 +484,7 @@ def test_run_by_the_command(contiki: Contiki, build: Builder) -> None:
      "the third port"),
     (["--run"], "-o, --run, --script, --radio and --stop-at-fault are for --board"),
     (["--board", LARGE, "-o", "image", "--heap", "x"], "--heap needs a number"),
+    (["--board", LARGE, "-o", "image", "--quiet"], "a board writes its whole transcript: leave out --quiet"),
     (["--board", LARGE, "-o", "image", "--node", "70000"], "a mote's number is at most 65535"),
 ])
 def test_refused(contiki: Contiki, tmp_path: Path, words: list[str], told_as: str) -> None:

@@ -60,11 +60,23 @@ PLANTED = {
     "an input has half of its room": ("rings", "rings.c", [("INPUT_ROOM = 512", "INPUT_ROOM = 256")]),
     "a long line waits for one byte more": ("rings", "rings.c", [(">= MANY", "> MANY")]),
     "a taken line end isn't counted": ("rings", "rings.c", [("inputs[port].ends_taken++", "(void)0")]),
-    "a lost line end counts as one": ("rings", "rings.c", [("} else if(byte == end_of", "}\n  if(byte == end_of")]),
-    "lost inputs aren't counted": ("rings", "rings.c", [("count_up(&input->lost)", "(void)0")]),
+    "a lost line end counts as one": ("rings", "rings.c", [("} else if(is_end)", "}\n  if(is_end)")]),
+    "lost inputs aren't counted": ("rings", "rings.c", [("    count_up(&input->lost);\n    input->has_gap", "    input->has_gap")]),
+    "what is lost after a gap isn't counted": ("rings", "rings.c", [("      count_up(&input->lost);\n      return;", "      return;")]),
+    "a frame with a gap is passed": ("rings", "rings.c", [("    ring_put(&input->ring, SLIP_ESC);\n", "")]),
+    "after a gap in a frame nothing is put any more": ("rings", "rings.c", [("    input->has_gap = false;\n", "")]),
+    "what follows a gap is put": ("rings", "rings.c", [("byte != SLIP_END || ring_used", "ring_used")]),
     "lost outputs count as one": ("rings", "rings.c", [("lost += (uint32_t)length", "lost += 1")]),
     "an output refuses what fits": ("rings", "rings.c", [("length > output_left(port)", "length >= output_left(port)")]),
     "an output is put without room": ("rings", "rings.c", [("length > output_left(port)", "length > output_left(port) + 1")]),
+    "a port that takes nothing is waited for without end": ("rings", "rings.c", [
+        ("run_script != NULL || output_is_awaited(port, true)", "run_script == NULL || output_is_awaited(port, true)")]),
+    "a port is waited for anew for each message": ("rings", "rings.c", [
+        ("      return;\n    }\n  }", "      break;\n    }\n  }")]),
+    "a port has half of the time": ("rings", "rings.c", [("(uint64_t)PATIENCE * board_hz", "(uint64_t)PATIENCE * board_hz / 2")]),
+    "a port that takes a byte again is given up": ("rings", "rings.c", [(" || taken != output->taken_then", "")]),
+    "a port that was idle is given up": ("rings", "rings.c", [("!output->was_behind || ", "")]),
+    "bytes that are given up aren't counted": ("rings", "rings.c", [("lost += (uint32_t)(length - i)", "lost += 0 * (length - i)")]),
     "bytes leave while interrupts are on": ("rings", "rings.c", [
         ("  restore_interrupts(before);", ""), ("  board_pump(port);", "  restore_interrupts(before);\n  board_pump(port);")]),
     "the question is before interrupts are off": ("loop", "clock.c", [

@@ -118,6 +118,14 @@ def test_some_tests(gate: Gate, words: list[str], last: str, begun: list[str]) -
     assert (status, lines[-1], gate.begun(), gate.notes()) == (0, last, begun, ""), lines
 
 
+def test_test_that_cannot_begin(gate: Gate) -> None:
+    """One whose fixture fails counts as failed alone."""
+    gate.add({"tests/test_third.py": "import pytest\n@pytest.fixture\ndef broken(): raise OSError\ndef test_five(broken): pass\n"
+              "def test_six(): pass\n"})
+    status, lines = gate("third")
+    assert (status, lines[-1]) == (1, "1 passed, 1 failed"), lines
+
+
 def test_no_such_name(gate: Gate) -> None:
     for words, why in ((["first", "nothing"], "there are no tests nothing"),
                        (["--quick", "first"], "--quick has its own tests: leave out the names")):

@@ -107,6 +107,23 @@ def test_server_restarts(contiki: Contiki, tmp_path: Path) -> None:
     assert {mote for mote, _ in root.answered} == {2, 3, 4}
 
 
+def test_root_forgets(contiki: Contiki, tmp_path: Path) -> None:
+    """The root dies, and another mote takes its address: it has the same version and DTSN as at first, and knows no mote. It finds that out
+    by the first request that it can't answer, and asks for the routes: hop by hop, each needs a DIO and a DAO, of at most 4 and 6
+    seconds. Otherwise motes tell the root again after a quarter of an hour."""
+    file = tmp_path / "heir.net"
+    file.write_text("mote 1 commanded.c\nmote 2..4 udp-client.c\nmote 5 heir.c\nline 1..4 delay 1\nlink 2 5 delay 1\nlink 5 2 delay 1\n",
+                    encoding="utf-8")
+    script = "tick 12800\n" + serial(1, "halt") + "tick 1\n" + serial(5, "be") + "tick 5760\n" + serial(5, "late") + "tick 7680\n"
+    ran = contiki("--network", file, "--text", OWN / "commanded.c", OWN / "heir.c", CLIENT, stdin=script.encode())
+    lines = ran.stdout.decode().splitlines()
+    assert ran.returncode == 0 and b"contiki: mote 1 halted: " in ran.stderr, told(ran)
+    halted, late = (lines.index(line) for line in ("1 halt", "5 late"))
+    assert {mote for mote, _ in delivery_of(lines[:halted]).answered} == {2, 3, 4}
+    after = delivery_of(lines[late:])
+    assert len(after.sent) >= 15 and len(after.sent - after.answered) <= 1
+
+
 @pytest.mark.parametrize("halted", [2, 3])
 def test_mote_halts(contiki: Contiki, tmp_path: Path, halted: int) -> None:
     """A diamond, of which mote 4 is at the other end than the root: where either mote between them halts, it goes on by the other one. A
@@ -121,6 +138,20 @@ def test_mote_halts(contiki: Contiki, tmp_path: Path, halted: int) -> None:
     end, = (index for index, line in enumerate(lines) if line.startswith(f"{5 - halted} ip.drop"))
     late = delivery_of(lines[end:])
     assert len(late.sent) >= 3 and late.answered == late.sent
+
+
+def test_mrhof(contiki: Contiki, tmp_path: Path) -> None:
+    """Mote 3 hears the root over a link that loses half of the frames, each way, so that one of four is acknowledged, and mote 2 over good
+    links. By OF0 it stays one hop away, by MRHOF it takes two, of two transmissions in all."""
+    network = "mote 1 udp-server.c\nmote 2..3 udp-client.c\nline 1..3 delay 1\nlink 1 3 delay 1 lot 32768 seed 1\n" \
+        "link 3 1 delay 1 lot 32768 seed 2\n"
+    for objective, parent in (("RPL_OCP_OF0", 1), ("RPL_OCP_MRHOF", 2)):
+        lines = text_of(contiki, tmp_path, network, [SERVER, CLIENT], "tick 38400\n", f"-DRPL_CONF_OF_OCP={objective}",
+                        "-DLOG_CONF_LEVEL_RPL=LOG_LEVEL_INFO")
+        parents = [line.split()[-1] for line in lines if line.startswith("3 ") and "the parent is" in line]
+        assert parents[-1] == ".".join(4 * [f"{parent:04x}"])
+        found = delivery_of(lines)
+        assert len(found.sent) > 40 and len(found.sent - found.answered) <= 4
 
 
 # ---- 6LoWPAN ----
@@ -179,8 +210,10 @@ def test_no_managed_memory(contiki: Contiki, tmp_path: Path) -> None:
 REFUSED = {
     "UIP_CONF_TCP=1": "UIP_CONF_TCP: the stack has no TCP",
     "UIP_CONF_BUFFER_SIZE=1500": "UIP_CONF_BUFFER_SIZE: a packet has at most 128 to 1280 bytes",
+    "RPL_CONF_DIO_INTERVAL_DOUBLINGS=0": "RPL_CONF_DIO_INTERVAL_MIN is 5 to 20, RPL_CONF_DIO_INTERVAL_DOUBLINGS 1 to 16",
     "RPL_CONF_MOP=2": "RPL_CONF_MOP: RPL is in mode 1, without routes in the motes",
-    "RPL_CONF_OF_OCP=1": "RPL_CONF_OF_OCP: the objective function is OF0",
+    "RPL_CONF_OF_OCP=2": "RPL_CONF_OF_OCP: the objective function is RPL_OCP_OF0 or RPL_OCP_MRHOF",
+    "RPL_CONF_SUPPORTED_OFS={&rpl_of0}": "RPL_CONF_SUPPORTED_OFS: OF0 and MRHOF are supported; the root's RPL_CONF_OF_OCP chooses",
     "RPL_CONF_STATS=1": "RPL_CONF_STATS: the IPv6 stack has no such setting",
     "UIP_CONF_LL_802154=1": "UIP_CONF_LL_802154: the IPv6 stack has no such setting",
 }
@@ -232,6 +265,20 @@ def test_program_without_udp_has_no_stack(contiki: Contiki, tmp_path: Path) -> N
         built = tmp_path / "built"
         assert contiki("--build", built, each).returncode == 0
         assert b"TCP/IP stack" not in built.read_bytes()
+
+
+# RFC 4291, section 2.2: texts of addresses, and the address as uiplib.h prints it, or 0 where the text is none.
+TEXTS = {"::": "::", "::1": "::1", "fd00::202:2:2:2": "fd00::202:2:2:2", "1:2:3:4:5:6:7:8": "1:2:3:4:5:6:7:8", "FE80::aBc": "fe80::abc",
+         "0001:0:0:0:0:0:0:1": "1::1", "1:2:3:4:5:6:7::": "1:2:3:4:5:6:7:0", "0x1::": "0", "::0x1": "0", "12345::": "0", ":1": "0",
+         "1:": "0", "1::2::3": "0", ":::": "0", "1:2:3:4:5:6:7": "0", "1:2:3:4:5:6:7:8:9": "0", "1:2:3:4:5:6:7:8::": "0", "g::": "0",
+         "": "0", "::1 ": "0"}
+
+
+def test_texts_of_addresses(contiki: Contiki, tmp_path: Path) -> None:
+    body = "uip_ipaddr_t a; " + " ".join(
+        f'if(uiplib_ip6addrconv("{text}", &a)) {{ uiplib_ipaddr_print(&a); }} else {{ printf("0"); }} printf("\\n");' for text in TEXTS)
+    ran = contiki("--text", "--sanitize", write_source(tmp_path, program_of(body)))
+    assert ran.stdout.decode().splitlines() == list(TEXTS.values()), told(ran)
 
 
 # ---- Frames ----
@@ -400,6 +447,7 @@ FORMS = {
     "3.1.1 addresses of 64 bits": ("7e11" "0209000900090009" "0201000100010001" "f0" + PORTS, NEAR, HERE, PORTS),
     "3.1.1 a sender of 16 bits": ("7e23" "1234" "f0" + PORTS, SHORT, HERE, PORTS),
     "3.1.1 a sender by context 0": ("7e73" "f0" + PORTS, FAR, HERE, PORTS),
+    "3.1.2 context identifiers of addresses that use none": ("7eb3" "11" "f0" + PORTS, NEAR, HERE, PORTS),
     "3.2.3 a group in 8 bits": ("7e3b" "01" "f0" + PORTS, NEAR, NODES, PORTS),
     "3.2.3 a group in 32 bits": ("7e3a" "02000002" "f0" + PORTS, NEAR, ROUTERS, PORTS),
     "3.2.3 a group in 48 bits": ("7e39" "020000000002" "f0" + PORTS, NEAR, ROUTERS, PORTS),

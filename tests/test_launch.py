@@ -9,6 +9,7 @@ from pathlib import Path
 
 import pytest
 
+from hints import hints
 from small_tree import WITHOUT_RT, Tree, wait_until
 from tools import AS_NOBODY, can_be_nobody, run
 from unproved_build import export
@@ -158,7 +159,7 @@ def test_no_rt(tree: Tree, script: str) -> None:
         assert tree.is_unproved()
 
 
-@pytest.mark.parametrize(("words", "hints"), [
+@pytest.mark.parametrize(("words", "wanted"), [
     (["hello", "a.script", "no such file"], [IS_FILE]), (["hello", "echo"], []), (["--mmem", "a.script", "--", "a.script"], [IS_FILE]),
     (["--mmem", "5"], ["--mmem 5: a multiple of 4 from 4 to 65536 is allowed"]),
     (["--mmem=65540"], ["--mmem 65540: a multiple of 4 from 4 to 65536 is allowed"]),
@@ -168,12 +169,20 @@ def test_no_rt(tree: Tree, script: str) -> None:
     (["--quota", "1028", "hello", "hello", "hello"], ["--quota 1028 for each application and the frames is 4112 bytes; --mmem has 4096"]),
     (["--quota=8", "--mmem=12", "hello"], ["--quota 8 for each application and the frames is 16 bytes; --mmem has 12"]),
 ])
-def test_hints(proved_tree: Tree, words: list[str], hints: list[str]) -> None:
+def test_hints(proved_tree: Tree, words: list[str], wanted: list[str]) -> None:
     """Arguments that mote refuses with few words get a line of the script's own. An application's name has none, though it is a file's."""
     for name in ("a.script", "echo"):
         (proved_tree.room / name).touch()
     proved_tree.run("mote", *words, cwd=proved_tree.room)
-    assert proved_tree.stderr.splitlines() == [f"mote: {line}" for line in hints] and proved_tree.stdout == f"proved {' '.join(words)}\n"
+    assert proved_tree.stderr.splitlines() == [f"mote: {line}" for line in wanted] and proved_tree.stdout == f"proved {' '.join(words)}\n"
+
+
+@pytest.mark.parametrize("words", [
+    ["--quota", "1024", "--from", "3", "--to", "9", "hello", "hello", "hello"], ["--quota=1024", "--from=3", "hello", "hello", "hello"],
+    ["--quota", "1024", "hello", "hello", "hello", "--to"], ["--quota", "1024", "--page", "hello", "hello", "hello"]])
+def test_hints_of_a_picture(words: list[str]) -> None:
+    """The numbers of mote-picture's own options are no applications, which would need a quota each."""
+    assert not list(hints(words, "transcript"))
 
 
 # ---- A proved program ----

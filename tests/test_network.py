@@ -1,7 +1,7 @@
 """The built program network: worked networks, malformed lines, what is shown, faults, limits and arguments.
 
-A worked network is tests/networks/NAME.net, or one in examples/networks, with NAME.transcript, which was written out from the rules of
-docs/network.md. NAME.run, where it is there, has lines `status N` (none: 0) and `args WORD..`.
+A worked network is a file of tests/networks, or one in examples/networks, NAME.net with NAME.transcript. Their texts were written out from
+the rules of docs/network.md.
 """
 
 import os
@@ -9,11 +9,20 @@ from pathlib import Path
 
 import pytest
 
+from stored_cases import StoredCase, stored_cases
 from test_faults import SMALL_NETWORK
 from tools import EXAMPLES, ROOT, cases, program, run, succeed, told
 from tools import with_stream as with_stream
 
-WORKED = [*sorted((ROOT / "tests/networks").glob("*.net")), *sorted((EXAMPLES / "networks").glob("*.net"))]
+SAMPLES = sorted((EXAMPLES / "networks").glob("*.net"))
+
+
+def sample(script: Path) -> StoredCase:
+    """An example of a network."""
+    return StoredCase(script.stem, b"", {"stdin": script.read_bytes(), "stdout": script.with_suffix(".transcript").read_bytes()})
+
+
+WORKED = [*stored_cases("networks"), *map(sample, SAMPLES)]
 RELAYED = ("{m} > frame {f}", "{m} 4 event 139 1 -> mmem-alloc 0 1", "{m} 4 answer done -> packet-read 0 1",
            "{m} 4 answer bytes {f} -> mmem-write 0 0 {f}", "{m} 4 answer done -> packet-send 0", "{m} note sent {f}",
            "{m} 4 answer done -> mmem-free 0", "{m} 4 answer done -> packet-done", "{m} 4 answer done -> wait")
@@ -35,27 +44,15 @@ def relayed(mote: int, frame: str) -> list[str]:
 
 # ---- Worked networks ----
 
-def how(script: Path) -> tuple[int, list[str]]:
-    """The status of a worked network, and the arguments of its run."""
-    about = script.with_suffix(".run")
-    lines = about.read_text(encoding="utf-8").splitlines() if about.exists() else []
-    said = dict(line.split(" ", 1) for line in lines)
-    return int(said.get("status", "0")), said.get("args", "").split()
-
-
-@pytest.mark.parametrize("script", WORKED, ids=[script.stem for script in WORKED])
-def test_worked_network(network: Path, script: Path) -> None:
-    status, words = how(script)
-    ran = run(network, *words, stdin=script)
-    wanted = script.with_suffix(".transcript").read_text(encoding="utf-8")
-    assert (ran.stdout.decode(), ran.returncode, ran.stderr) == (wanted, status, b"")
+@pytest.mark.parametrize("case", WORKED, ids=[case.name for case in WORKED])
+def test_worked_network(network: Path, case: StoredCase) -> None:
+    case.judge(case.ran(network))
 
 
 def test_each_transcript_has_a_network() -> None:
-    for folder in {script.parent for script in WORKED}:
-        names = {path.stem for path in WORKED if path.parent == folder}
-        assert names == {path.stem for path in folder.glob("*.transcript")} == {
-            path.stem for path in folder.iterdir() if path.suffix != ".scenario"}
+    folder = EXAMPLES / "networks"
+    assert {path.stem for path in SAMPLES} == {path.stem for path in folder.glob("*.transcript")} == {
+        path.stem for path in folder.iterdir() if path.suffix != ".scenario"}
 
 
 def test_a_halted_mote() -> None:

@@ -20,7 +20,7 @@ from typing import Iterator, Sequence
 import pytest
 
 from fault_library import Faults
-from test_network import WORKED, how, with_stream
+from test_network import WORKED, with_stream
 from test_network_random import drawn_network
 from tools import EXAMPLES, ROOT, needs, program, run, succeed, told, write_program
 
@@ -53,34 +53,47 @@ def transcript_of(script: str) -> bytes:
 
 
 def frames_in(capture: bytes) -> Iterator[tuple[int, bytes]]:
-    """The frames of a capture, each with its millisecond."""
+    """The frames of a capture, each with its microsecond."""
     assert capture[:24] == HEADER
     at = 24
     while at < len(capture):
         seconds, micros, length, sent = struct.unpack_from("<4I", capture, at)
-        assert length == sent <= 127 and micros % 1000 == 0 and micros < 1_000_000
-        yield seconds * 1000 + micros // 1000, capture[at + 16:at + 16 + length]
+        assert length == sent <= 127 and micros < 1_000_000
+        yield seconds * 1_000_000 + micros, capture[at + 16:at + 16 + length]
         at += 16 + length
     assert at == len(capture)
 
 
-def frames_sent(transcript: bytes) -> Iterator[tuple[int, bytes]]:
-    """The frames that a transcript says were sent, each with the clock."""
+def frames_sent(transcript: bytes, clock_second: int = 128) -> Iterator[tuple[int, bytes]]:
+    """The frames that a transcript says were sent, each with the microsecond of its tick, whose fraction is cut off."""
     clock = 0
     for line in transcript.decode().splitlines():
         words = line.split()
         if words[0] == "=":
             clock = int(words[1])
         elif words[1:3] == ["note", "sent"]:
-            yield clock, bytes.fromhex("" if words[3] == "-" else words[3])
+            yield clock * 1_000_000 // clock_second, bytes.fromhex("" if words[3] == "-" else words[3])
 
 
-def test_capture_of_three(network_picture: Path) -> None:
-    """Mote 1 sends at 0 and 5, mote 2 on its way at 3 and 8."""
+@pytest.mark.parametrize("words, micros", [
+    ((), (0, 0x5B8D, 0x9896, 0xF424)),
+    (("--clock-second", "128"), (0, 0x5B8D, 0x9896, 0xF424)),
+    (("--clock-second", "1000"), (0, 0x0BB8, 0x1388, 0x1F40)),
+    (("--clock-second=999999999",), (0, 0, 0, 0)),
+])
+def test_capture_of_three(network_picture: Path, words: tuple[str, ...], micros: tuple[int, ...]) -> None:
+    """Mote 1 sends at 0 and 5, mote 2 on its way at 3 and 8. A tick is 7,812 microseconds and a half, a millisecond, or a nanosecond."""
     record = "00000000" "{:02x}{:02x}0000" "{:02x}000000" "{:02x}000000"
-    wanted = HEADER + bytes.fromhex(record.format(0, 0, 2, 2) + "0a0b" + record.format(0xB8, 0x0B, 2, 2) + "0a0b"
-                                    + record.format(0x88, 0x13, 1, 1) + "0c" + record.format(0x40, 0x1F, 1, 1) + "0c")
-    assert succeed(network_picture, "--pcap", stdin=THREE.with_suffix(".transcript")).stdout == wanted
+    sent = zip(micros, ("0a0b", "0a0b", "0c", "0c"))
+    records = [record.format(at & 255, at >> 8, len(frame) // 2, len(frame) // 2) + frame for at, frame in sent]
+    wanted = HEADER + bytes.fromhex("".join(records))
+    assert succeed(network_picture, "--pcap", *words, stdin=THREE.with_suffix(".transcript")).stdout == wanted
+
+
+def test_whole_seconds(network_picture: Path) -> None:
+    """With one tick a second each tick is a second."""
+    transcript = b"= 3\n1 note sent 0a\n= 70000\n1 note sent 0b\n"
+    assert list(frames_in(drawn(transcript, "--pcap", "--clock-second", "1"))) == [(3_000_000, b"\n"), (70_000_000_000, b"\v")]
 
 
 def test_capture_with_its_script() -> None:
@@ -91,17 +104,21 @@ def test_capture_with_its_script() -> None:
 
 def test_captures_of_worked_networks() -> None:
     """Each frame of each worked network, with its moment."""
-    for script in WORKED:
-        if not how(script)[1]:
-            transcript = script.with_suffix(".transcript").read_bytes()
-            assert list(frames_in(drawn(transcript, "--pcap"))) == list(frames_sent(transcript)), script
+    for case in WORKED:
+        if not case.words:
+            transcript = case.text("stdout")
+            for second in (128, 1000, 7):
+                capture = drawn(transcript, "--pcap", "--clock-second", str(second))
+                assert list(frames_in(capture)) == list(frames_sent(transcript, second)), case.name
 
 
-def test_late_frames(network_picture: Path) -> None:
-    """A frame at the last millisecond of second 2^32 - 1 fits, one at second 2^32 doesn't. Clocks without frames may be any."""
-    sent, last = b"1 note sent 0a\n", 2 ** 32 * 1000 - 1
-    assert list(frames_in(drawn(b"= %d\n" % last + sent + b"= %d\n" % 2 ** 62, "--pcap"))) == [(last, b"\n")]
-    ran = run(network_picture, "--pcap", stdin=b"= %d\n" % (last + 1) + sent)
+@pytest.mark.parametrize("words, second", [((), 128), (("--clock-second", "1000"), 1000), (("--clock-second", "999999999"), 999_999_999)])
+def test_late_frames(network_picture: Path, words: tuple[str, ...], second: int) -> None:
+    """A frame at the last tick of second 2^32 - 1 fits, one at second 2^32 doesn't. Clocks without frames may be any."""
+    sent, last = b"1 note sent 0a\n", 2 ** 32 * second - 1
+    found = list(frames_in(drawn(b"= %d\n" % last + sent + b"= %d\n" % 2 ** 63, "--pcap", *words)))
+    assert found == [(last * 1_000_000 // second, b"\n")]
+    ran = run(network_picture, "--pcap", *words, stdin=b"= %d\n" % (last + 1) + sent)
     assert (ran.returncode, ran.stdout) == (2, b"")
     assert ran.stderr == b"network_picture: a capture has no room for the clock: 2^32 seconds or more\n"
 
@@ -110,14 +127,14 @@ def test_late_frames(network_picture: Path) -> None:
 def test_tshark(network_picture: Path, tmp_path: Path) -> None:
     """tshark reads each frame as one of IEEE 802.15.4, at its moment, with its length: an acknowledgement, a data frame, the longest."""
     data = "418822cdabffff0100" + "00" * 4
-    sent = [(0, "020011"), (3, data), (1002, "41" * 127)]
+    sent = [(0, "020011"), (3, data), (129, "41" * 127)]
     transcript = "".join(f"= {clock}\n1 note sent {frame}\n" for clock, frame in sent)
     file = tmp_path / "three.pcap"
     file.write_bytes(succeed(network_picture, "--pcap", stdin=transcript.encode()).stdout)
     fields = ("frame.time_epoch", "frame.len", "frame.protocols", "wpan.dst16")
     told_by = succeed("tshark", "-r", file, "-T", "fields", *(word for name in fields for word in ("-e", name))).stdout.decode()
     rows = [line.split("\t") for line in told_by.splitlines()]
-    assert [(row[0], row[1]) for row in rows] == [("0.000000000", "3"), ("0.003000000", "13"), ("1.002000000", "127")]
+    assert [(row[0], row[1]) for row in rows] == [("0.000000000", "3"), ("0.023437000", "13"), ("1.007812000", "127")]
     assert all(row[2].startswith("wpan") for row in rows) and int(rows[1][3], 16) == 0xFFFF
 
 
@@ -299,6 +316,22 @@ def test_halted_motes() -> None:
     assert {"✗ halted", "✗ missed from 1", "✗ missed from outside"} <= set(chart.words)
 
 
+def test_frame_that_is_due_after_the_last_clock() -> None:
+    """A frame is in flight, even if no clock says when it arrives."""
+    chart = chart_of(drawn(b"mote 1..2 relay\nlink 1 2 delay 1\n= 18446744073709551615\n1 note sent 0a\n"))
+    assert chart.words[1].endswith("frames sent 1, heard 0, missed 0, lost 0, no room 0, under way 1, from outside 0")
+
+
+@pytest.mark.parametrize("ending, words", [
+    ("halt", "halt: the input took all its rounds"), ("bad line 7", "bad line 7: the script ends here"),
+    ("too long", "too long: the script has more than 16,777,216 bytes"),
+])
+def test_endings(ending: str, words: str) -> None:
+    """How a run ended is in its last row."""
+    chart = chart_of(drawn(f"= 1\n1 4 synch 129 - -> wait\n{ending}\n".encode()))
+    assert chart.words[-1] == words and chart.rows[-1] == (1, ending)
+
+
 def test_long_run() -> None:
     """Of more than 1,000 rows the first 500 and the last 500 are shown, and the picture says how many are left out."""
     script = "mote 1 blink\ntick 15000\n"
@@ -321,10 +354,9 @@ def test_many_motes() -> None:
 @needs("xmllint")
 def test_worked_charts() -> None:
     """The chart of each worked network is well-formed."""
-    for script in WORKED:
-        if not how(script)[1]:
-            picture = drawn(script.read_bytes() + b"\n" + script.with_suffix(".transcript").read_bytes())
-            succeed("xmllint", "--noout", "-", stdin=picture)
+    for case in WORKED:
+        if not case.words:
+            succeed("xmllint", "--noout", "-", stdin=drawn(case.text("stdin") + b"\n" + case.text("stdout")))
 
 
 # ---- Random networks ----
@@ -500,7 +532,9 @@ def test_range(network_picture: Path) -> None:
     assert (ran.returncode, ran.stdout, ran.stderr) == (64, b"", b"network_picture: --from 5 is above --to 4\n")
 
 
-@pytest.mark.parametrize("words", [("--from",), ("--from", "x"), ("--pcap", "--pcap"), ("--page",), ("relay",)], ids=" ".join)
+@pytest.mark.parametrize("words", [("--from",), ("--from", "x"), ("--pcap", "--pcap"), ("--page",), ("relay",), ("--clock-second",),
+                                   ("--clock-second", "0"), ("--clock-second", "-1"), ("--clock-second", "1000000000"),
+                                   ("--clock-second", "1.5"), ("--clock-second", "8", "--clock-second", "8")], ids=" ".join)
 def test_invalid_arguments(network_picture: Path, words: tuple[str, ...]) -> None:
     """The parser's text, and nothing is written."""
     ran = run(network_picture, *words)
@@ -510,7 +544,7 @@ def test_invalid_arguments(network_picture: Path, words: tuple[str, ...]) -> Non
 def test_help_and_version(network_picture: Path) -> None:
     """The help names the options; an argument that isn't UTF-8 is reported."""
     page = succeed(network_picture, "--help").stdout.decode()
-    assert all(word in page for word in ("--pcap", "--from", "--to", "Exit status"))
+    assert all(word in page for word in ("--pcap", "--from", "--to", "--clock-second <N>", "[default: 128]", "Exit status"))
     assert succeed(network_picture, "--version").stdout.decode() == f"network_picture {(ROOT / 'VERSION').read_text(encoding='utf-8')}"
     ran = run(network_picture, b"\xff")
     assert (ran.returncode, ran.stdout, ran.stderr) == (64, b"", b"network_picture: a word is not text\n")
@@ -557,9 +591,9 @@ def test_the_command(command: Path, tmp_path: Path) -> None:
     """A word that is no option is the script, whose lines go first; its last line may have no end."""
     script = tmp_path / "a script"
     script.write_bytes(b"mote 1 relay")
-    ran = run(command, "--from", "3", script, "--pcap", stdin=b"= 3\n")
+    ran = run(command, "--from", "3", "--clock-second", "8", script, "--pcap", stdin=b"= 3\n")
     assert (ran.returncode, ran.stderr) == (3, b"")
-    assert ran.stdout == b"network_picture input --from 3 --pcap\nmote 1 relay\n= 3\n"
+    assert ran.stdout == b"network_picture input --from 3 --clock-second 8 --pcap\nmote 1 relay\n= 3\n"
     ran = run(command, "--pcap", stdin=b"= 3\n")
     assert (ran.returncode, ran.stdout) == (3, b"network_picture input --pcap\n= 3\n")
 

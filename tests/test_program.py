@@ -1,8 +1,5 @@
-"""The built program mote: stored runs, samples, statuses and limits; then that of template_app; and beside a mote in plain C.
-
-A stored run is a folder of tests/cases with the files `words` (one a line; none: no words), `stdin` (none: empty), `stdout` and `stderr`
-(none: empty) and `status` (none: 0). In place of `stdout` and `stderr`, `stdout-begins` and `stderr-begins` hold the beginning alone, where
-the text is that of the parser of the command line.
+"""The built program mote: the stored runs of tests/cases, samples, statuses and limits; then that of template_app; and beside a mote in
+plain C.
 """
 
 import fnmatch
@@ -11,9 +8,10 @@ from pathlib import Path
 
 import pytest
 
-from tools import CRATES, EXAMPLES, ROOT, Completed, program, run, told, with_stream
+from stored_cases import StoredCase, stored_cases
+from tools import CRATES, EXAMPLES, ROOT, program, run, told, with_stream
 
-CASES = sorted((ROOT / "tests/cases").iterdir())
+CASES = stored_cases("cases")
 SCRIPTS = sorted(EXAMPLES.glob("*.script"))
 LONGEST = 16_777_216
 of_each_case = pytest.mark.parametrize("case", CASES, ids=[case.name for case in CASES])
@@ -24,31 +22,16 @@ def template() -> Path:
     return program("template_app")
 
 
-def file_of(case: Path, name: str) -> bytes:
-    file = case / name
-    return file.read_bytes() if file.exists() else b""
-
-
-def words_of(case: Path) -> list[bytes]:
-    return file_of(case, "words").splitlines()
-
-
-def judge(case: Path, ran: Completed) -> None:
-    for stream, written in (("stdout", ran.stdout), ("stderr", ran.stderr)):
-        begin = file_of(case, f"{stream}-begins")
-        assert written.startswith(begin) if begin else written == file_of(case, stream)
-    assert ran.returncode == int(file_of(case, "status") or b"0")
+@of_each_case
+def test_case(mote: Path, case: StoredCase, tmp_path: Path) -> None:
+    stdin = tmp_path / "stdin"
+    stdin.write_bytes(case.text("stdin"))
+    case.judge(case.ran(mote, stdin=stdin))
 
 
 @of_each_case
-def test_case(mote: Path, case: Path) -> None:
-    judge(case, run(mote, *words_of(case), stdin=case / "stdin" if (case / "stdin").exists() else Path("/dev/null")))
-
-
-@of_each_case
-def test_case_through_a_pipe(mote: Path, case: Path) -> None:
-    ran = run("bash", "-c", 'dd bs=3 status=none | "$@"', "bash", mote, *words_of(case), stdin=file_of(case, "stdin"))
-    judge(case, ran)
+def test_case_through_a_pipe(mote: Path, case: StoredCase) -> None:
+    case.judge(case.ran(mote, before="dd bs=3 status=none | "))
 
 
 @pytest.mark.parametrize("script", SCRIPTS, ids=[script.name for script in SCRIPTS])

@@ -14,6 +14,7 @@ import pytest
 
 from schedule import Schedule, most_jobs, read_seconds
 from small_tree import WITHOUT_RT, Tree, wait_until
+from sources import Sources
 from tools import needs, run, told, write_program
 
 ALL = ["low", "high", "beside", "mote"]
@@ -38,6 +39,7 @@ def test_prove(tree: Tree) -> None:
 @pytest.mark.parametrize(("begun", "most", "crates", "seconds"), [
     pytest.param("b:4:2:0 a:1:1:2", 4, "a b c:a d:b,c", f"{OF_OTHERS}a 10", id="far-off-the-longest-way"),
     pytest.param("b:4:2:0 a:2:2:1", 4, "a b c:a d:b,c", f"{OF_OTHERS}a 50", id="near-the-longest-way"),
+    pytest.param("b:4:2:0 a:1:1:1", 4, "a b c:a d:b,c", f"{OF_OTHERS}a 45", id="off-by-its-own-time"),
     pytest.param("a:4:2:0 b:4:2:0", 4, "a b c:a d:b,c", f"{OF_OTHERS}a 90", id="two-longest-ways"),
     pytest.param("b:1:1:0", 1, "a b c:a d:b,c", f"{OF_OTHERS}a 10", id="one-job-at-most"),
     pytest.param("b:3:2:0 a:2:2:1", 3, "a b c:a d:b,c", f"{OF_OTHERS}a 50", id="three-jobs-at-most"),
@@ -52,6 +54,22 @@ def test_order_and_jobs(begun: str, most: int, crates: str, seconds: str) -> Non
     words = (word.partition(":") for word in crates.split())
     schedule = Schedule({name: lower.split(",") if lower else [] for name, _, lower in words}, read_seconds(seconds), most)
     assert " ".join(f"{it.name}:{it.jobs}:{it.places}:{it.niceness}" for it in schedule.begin()) == begun
+
+
+def test_sources_of_the_same_moment(tree: Tree) -> None:
+    """A source whose time is the moment itself may have been written after it."""
+    tree.edit("low")
+    now = tree.source("low").lstat().st_ctime_ns
+    assert [Sources(tree.root).are_older_than(when) for when in (now, now + 1)] == [False, True]
+
+
+def test_twice_the_most_jobs() -> None:
+    """Crates off the longest way that began before don't delay those on it, up to twice the most jobs in all."""
+    below: dict[str, list[str]] = {"x": [], "y": ["x"], "z": ["x"], "w": ["x"], **{f"s{i}": [] for i in range(4)}}
+    schedule = Schedule({**below, "d": list(below)}, {"s0": 10, "s1": 10, "s2": 10, "s3": 10}, 4)
+    assert [it.name for it in schedule.begin()] == ["x", "s0", "s1", "s2", "s3"]
+    schedule.ended("x")
+    assert [(it.name, it.places) for it in schedule.begin()] == [("w", 2), ("y", 2)]
 
 
 @pytest.mark.parametrize(("wish", "memory", "jobs"), [("3", 1, 3), ("0", 1, None), ("", 1, None), ("", 1 << 50, 1)],

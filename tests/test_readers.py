@@ -282,6 +282,7 @@ def plain_calls(chance: random.Random) -> list[str]:
             "", "wait,", "wait, ", ", wait", "wait , wait", "wait,wait", "0 wait", "128 wait", "129 wait", "01 wait", "1 1 wait", "+1 wait",
             "64 wait, 65 wait", "127 wait, exit", "Wait", "wait 1", "print", "print -", "print 6", "print 6G", "print " + "61" * 64,
             "print " + "61" * 65, "kill 256", "kill 255", "kill 0x1", "post 4 140 x" + "61" * 127, "post 4 140 x" + "61" * 128,
+            "post 4 140 x", "post 4 140 x-",
             "post 4 140 4294967295", "post 4 140 4294967296", "post 4 256 -", "timer-set 8 0", "wait\r", "wait\t", "\u0661 wait"]
 
 

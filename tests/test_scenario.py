@@ -10,6 +10,7 @@ from typing import Iterator
 import pytest
 
 from stored_runs import files
+from test_network import WORKED
 from tools import EXAMPLES, ROOT, Completed, program, run, texts
 
 DATA = ROOT / "tests/scenario_files"
@@ -119,7 +120,6 @@ def test_as_told(folder: Folder, name: str) -> None:
 # ---- Networks ----
 
 NETWORKS = sorted((EXAMPLES / "networks").glob("*.scenario"))
-WORKED = [*sorted((ROOT / "tests/networks").glob("*.net")), *sorted((EXAMPLES / "networks").glob("*.net"))]
 # A line of a network's transcript, which may be repeated.
 OF_NETWORK = re.compile("(?:times ([0-9]+) )?((?:=|lost|full|missed) .*|[0-9]+ (?!serial |frame ).*)")
 
@@ -142,17 +142,14 @@ def test_worked_networks(folder: Folder, is_plain: bool) -> None:
     """Worked networks of the program network come out with the same transcripts, and so by `script`, where a line may be malformed."""
     runs = 0
     text = []
-    for network in WORKED:
-        about = network.with_suffix(".run")
-        how = about.read_text(encoding="utf-8") if about.exists() else ""
-        if "--only" in how or "status 2" in how and is_plain:
+    for case in WORKED:
+        if b"--only" in case.words or case.status == 2 and is_plain:
             continue
         runs += 1
         before = "" if is_plain else "script "
-        text += [f"== {network.stem}", "network", *(["quiet"] if "--quiet" in how else []),
-                 *(before + line for line in network.read_text(encoding="utf-8").splitlines()),
-                 *network.with_suffix(".transcript").read_text(encoding="utf-8").splitlines(),
-                 *(["ends finished"] if network.with_suffix(".transcript").stat().st_size == 0 else [])]
+        script, transcript = (case.text(heading).decode().splitlines() for heading in ("stdin", "stdout"))
+        text += [f"== {case.name}", "network", *(["quiet"] if b"--quiet" in case.words else []), *(before + line for line in script),
+                 *(transcript or ["ends finished"])]
     folder.write("worked", lines_of(*text))
     assert folder("worked") == (0, f"worked: {runs} of {runs} runs as told", "") and runs > 30
 

@@ -5,14 +5,15 @@ from pathlib import Path
 
 import pytest
 
-from test_network import WORKED, how
+from stored_cases import StoredCase
+from test_network import WORKED
 from test_web import downloaded
 from tools import ROOT, program
 from web_page import Opened, in_chromium, set_fields, set_network
 
 pytestmark = in_chromium
 # The worked networks that run to their end, with all lines.
-PLAIN = [it for it in WORKED if how(it) == (0, [])]
+PLAIN = [case for case in WORKED if not case.words and not case.status]
 THREE = ROOT / "examples/networks/three.net"
 QUOTES = 'mote 1 calls print "hi\\n", post 4 MSG x"é"\nmote 2 echo\nlink 1 2 delay 1\n2 serial "ab\\n"\ntick 1\n'
 
@@ -38,9 +39,9 @@ def test_chart(mote_page: Opened) -> None:
         assert mote_page.ask("await idle(); return shown.chart;") == told[0]
 
 
-@pytest.mark.parametrize("script", PLAIN, ids=[it.stem for it in PLAIN])
-def test_worked_charts(mote_page: Opened, script: Path) -> None:
-    text = script.read_text(encoding="utf-8")
+@pytest.mark.parametrize("case", PLAIN, ids=[case.name for case in PLAIN])
+def test_worked_charts(mote_page: Opened, case: StoredCase) -> None:
+    text = case.text("stdin").decode()
     mote_page.ask("await click('many-motes'); await click('tab-chart');")
     set_network(mote_page, text)
     told = mote_page.ask("await idle(); return [shown.chart, byId('chart-drawing').childElementCount];")

@@ -27,6 +27,11 @@ def parts(browser: Browser, tmp_path_factory: pytest.TempPathFactory) -> Iterato
     opened.close()
 
 
+# Parts of expressions: what a run returned; an experiment without lines; a library that leaves an experiment to scenario.
+TOLD = "(({ transcript, end, fault }) => [transcript && textOf(transcript), end, fault])"
+EMPTY = "{ applications: '', script: '', ...DEFAULT_SIZES, quiet: false }"
+UNREAD = "{ run: () => ({ name: 'BAD_LINE', transcript: utf8.encode('') }) }"
+
 # Expressions, and their values.
 VALUES: list[tuple[str, Any]] = [
     # Bytes and texts.
@@ -42,6 +47,8 @@ VALUES: list[tuple[str, Any]] = [
     # Calls.
     ("withoutQuotes('print \"a\\\\n\\\\\"\\\\\\\\\"')", "print 610a225c"),
     ("withoutQuotes('print \"\"')", "print -"),
+    ("withoutQuotes('post 4 140 x\"\"')", "post 4 140 x"),
+    ("withoutQuotes('post 4 140 x\"a, b\"')", "post 4 140 x612c2062"),
     ("readCall(' mmem-write  1 4 \"hi\" ').text", "mmem-write 1 4 6869"),
     ("readCall('MMEM-WRITE 1 4 -')", "there is no call “MMEM-WRITE”"),
     ("readCall('kill')", "write kill PROCESS"),
@@ -60,6 +67,8 @@ VALUES: list[tuple[str, Any]] = [
     ("[readCall('post 4 140 7')].map(({ payload, number, bytes }) => [payload, number, bytes])[0]", [1, 7, []]),
     ("[readCall('post 4 140 x')].map(({ payload, number, bytes }) => [payload, number, bytes])[0]", [2, 0, []]),
     ("[readCall('post 4 140 x0aF0')].map(({ payload, text, bytes }) => [payload, text, bytes])[0]", [2, "post 4 140 x0af0", [10, 240]]),
+    ("readCall('post 4 140 x\"\"').text", "post 4 140 x"),
+    ("readCall('post 4 140 x-')", "“x-” must be a number from 0 to 4,294,967,295 (payload)"),
     ("readCall('post 4 140 x' + '00'.repeat(127)).bytes.length", 127),
     ("readCall('post 4 140 x' + '00'.repeat(128))", "at most 127 bytes are allowed"),
     ("RULES.calls.every((call, place) => CALLS.get(call.name).kind === place + 1)", True),
@@ -74,9 +83,12 @@ VALUES: list[tuple[str, Any]] = [
      " script: 'tick 1\\n# x\\ntext hi' })", "app hello\ncalls wait\nmmem 64\nquiet\ntick 1\nscript # x\ntext hi\n"),
     ("scenarioText({ applications: 'hello', ...DEFAULT_SIZES, quiet: false, script: 'tick 1\\ntick x\\ntext hi\\n' }, 2)",
      "app hello\ntick 1\nscript tick x\nscript text hi\n"),
+    # A line of spaces is no application; a scenario file has empty lines alone.
+    ("scenarioText({ applications: 'hello\\n  \\ncalls wait', ...DEFAULT_SIZES, quiet: false, script: '' })", "app hello\n\ncalls wait\n"),
     ("scenarioLines({ applications: '', ...DEFAULT_SIZES, quiet: false, script: 'tick 1\\n\\nwalk' })"
      ".map(({ editor, line }) => [editor, line])", [["script", 1], ["script", 2], ["script", 3]]),
     ("endOf(utf8.encode('x\\nbad line 12\\n'))", {"name": "BAD_LINE", "line": 12}),
+    ("endOf(utf8.encode('bad line 16777216\\n'))", {"name": "BAD_LINE", "line": 16777216}),
     ("endOf(utf8.encode('halt\\n'))", {"name": "HALTED", "line": 0}),
     ("endOf(utf8.encode('too long\\n'))", {"name": "TOO_LONG", "line": 0}),
     ("endOf(utf8.encode('> tick 1\\n'))", {"name": "FINISHED", "line": 0}),
@@ -87,6 +99,31 @@ VALUES: list[tuple[str, Any]] = [
      {"message": "Heap memory must be a multiple of 4, from 20 to 65,536 bytes.", "editor": "heap", "line": 0}),
     ("faultOf({ name: 'TOO_MANY_APPLICATIONS', application: 1 }, [{ line: 2 }, { line: 5 }])",
      {"message": "At most 1 applications are allowed.", "editor": "applications", "line": 5}),
+    ("faultOf({ name: 'OUT_OF_MEMORY' }, [])", {"message": "The mote ran out of memory.", "editor": None, "line": 0}),
+    # Runs, with stand-ins for the library and for the program scenario, which reads what the library doesn't.
+    (f"{TOLD}(runExperiment({{ run: (_, names, script) => ({{ name: 'FINISHED', line: 0,"
+     f" transcript: utf8.encode(`${{names}}; ${{textOf(script)}}`) }}) }}, null, {{ ...{EMPTY}, applications: 'hello\\n# x\\n\\nblink',"
+     " script: 'tick 1' }))", ["hello\nblink; tick 1", {"name": "FINISHED", "line": 0}, None]),
+    (f"{TOLD}(runExperiment({{ run: () => ({{ name: 'BAD_SIZES', reason: 2, transcript: null }}) }}, null, {EMPTY}))",
+     [None, None, {"message": "Heap memory must be a multiple of 4, from 20 to 65,536 bytes.", "editor": "heap", "line": 0}]),
+    (f"{TOLD}(runExperiment({UNREAD}, {{ run: () => ({{ status: 0, output: utf8.encode('bad line 2\\n') }}) }}, {EMPTY}))",
+     ["bad line 2\n", {"name": "BAD_LINE", "line": 2},
+      {"message": "This line is malformed: write tick N, serial HEX, frame HEX or text WORDS.", "editor": "script", "line": 2}]),
+    (f"{TOLD}(runExperiment(null, {{ run: () => ({{ status: 2, errors: utf8.encode('scenario: experiment: line 2: no such call\\n') }}) }},"
+     f" {{ ...{EMPTY}, applications: 'rows\\non INIT: walk' }}))",
+     [None, None, {"message": "no such call", "editor": "applications", "line": 2}]),
+    (f"{TOLD}(runExperiment({UNREAD}, {{ run: () => ({{ status: 2, errors: utf8.encode('scenario: experiment: line 1: bad\\n') }}) }},"
+     f" {{ ...{EMPTY}, mmem: 6 }}))", [None, None, {"message": "bad", "editor": "mmem", "line": 1}]),
+    (f"{TOLD}(runExperiment({UNREAD}, {{ run: (words, input, {{ bytes }}) => (textOf(bytes).includes('script tick x') ?"
+     " { status: 0, output: utf8.encode('bad line 2\\n') } :"
+     f" {{ status: 2, errors: utf8.encode('scenario: experiment: line 3: no such line\\n') }}) }}, {{ ...{EMPTY}, applications: 'hello',"
+     " script: 'tick 1\\ntick x' }))",
+     ["bad line 2\n", {"name": "BAD_LINE", "line": 2}, {"message": "no such line", "editor": "script", "line": 2}]),
+    ("[64, 70].map((status) => runNetwork({ network: { run: () => ({ status, output: utf8.encode(''),"
+     " errors: utf8.encode('network: out of memory\\n') }) }, scenario: { run: () => ({ status: 0,"
+     " output: utf8.encode('{\"script\": \"\"}') }) } }, { network: 'mote 1', only: 9, quiet: false }).fault)",
+     [{"message": "There is no mote 9: choose another one.", "editor": "only", "line": 0},
+      {"message": "The network ended early: out of memory.", "editor": None, "line": 0}]),
     # Networks.
     ("motesIn('# x\\nmote 1..3 hello --mmem 64 blink calls wait, exit\\nline 1..3 delay 1\\nmote 4\\ntick 1\\nmote 5 hello')",
      [{"first": 1, "last": 3, "names": ["hello", "blink", "calls"], "options": ["--mmem", "64"]},
@@ -172,7 +209,8 @@ VALUES: list[tuple[str, Any]] = [
     ("foldedRows([...'abcdeabcdeabcde']).map(({ count }) => count)", [1, 1, 1, 1, 1, 10]),
     ("foldedRows([...'abcdeabcdeabcd']).length", 14),
     # The report of a run.
-    ("[0.04, 9.96, 10.2, 999.4, 1000, 61240].map(milliseconds)", ["0.0 ms", "10.0 ms", "10 ms", "999 ms", "1.0 s", "61.2 s"]),
+    ("[0.04, 9.96, 10.2, 999.4, 999.6, 1000, 61240].map(milliseconds)",
+     ["0.0 ms", "10.0 ms", "10 ms", "999 ms", "1.0 s", "1.0 s", "61.2 s"]),
     ("outcomeInWords({ end: { name: 'HALTED' }, lines: ['a'], took: 5, rows: null })", "The mote halted: 1 line in 5.0 ms."),
     ("outcomeInWords({ end: { name: 'FINISHED' }, lines: ['a', 'b'], took: 5, rows: [] })",
      "The script was run to its end: 2 lines in 5.0 ms, repeated lines folded."),

@@ -11,7 +11,7 @@ from typing import Any
 import pytest
 
 from call_rules import OF_MOTE
-from test_network import WORKED, how
+from test_network import WORKED
 from test_network_random import drawn_network
 from tools import ROOT
 from web_cases import Case, Maker, NativeLibrary, native
@@ -151,8 +151,8 @@ def test_malformed_networks(mote_page: Opened) -> None:
 
 
 def test_worked_networks(mote_page: Opened) -> None:
-    given: list[dict[str, Any]] = [{"words": how(it)[1], "input": it.read_text(encoding="utf-8"), "file": None} for it in WORKED]
-    wanted = [[how(it)[0], hashlib.sha256(it.with_suffix(".transcript").read_bytes()).hexdigest(), ""] for it in WORKED]
+    given: list[dict[str, Any]] = [{"words": it.words.decode().split(), "input": it.text("stdin").decode(), "file": None} for it in WORKED]
+    wanted = [[it.status, hashlib.sha256(it.text("stdout")).hexdigest(), ""] for it in WORKED]
     assert differing(mote_page.ask(with_cases(PROGRAM_RUNS, given, "network")), wanted, WORKED) == []
 
 

@@ -7,6 +7,8 @@ from pathlib import Path
 
 import pytest
 
+from must_fail import read_edit, rounds_of
+from rattle_functions import Source
 from small_tree import Tree
 from tools import CRATES, ROOT, needs, run
 
@@ -168,6 +170,34 @@ def test_all_crates_and_none(wrong: Wrong) -> None:
     assert wrong()[0] == "1 passed, 1 failed"
     ran = wrong.tree.run("tests/wrong_bodies", "nothing", stdin=b"")
     assert (ran.returncode, wrong.tree.stderr) == (1, "wrong_bodies: there is no crate nothing\n")
+
+
+def test_contract(tmp_path: Path) -> None:
+    """An edit of a head or a contract is alone in its round: the proofs of callers rest on these, so that another edit could seem refused.
+    """
+    (tmp_path / "src").mkdir()
+    (tmp_path / "src/lib.rt").write_text("""pub fn one(a: u8) -> u8
+    requires { a ≤ 8 }
+    ensures {
+        result ≡ 1
+    }
+{
+    a + 2
+}
+
+fn two(
+    b: u8,
+) -> u8 {
+    one(b)
+}
+
+fn three() -> u8 { 7 }
+""", encoding="utf-8")
+    source, edits = Source(tmp_path), []
+    for place, old in enumerate(["a ≤ 8", "result ≡ 1", "    b: u8", "a + 2", "one(b)", "7"]):
+        write_edit(tmp_path / "must-fail", f"edit{place}", old, "other")
+        edits.append(read_edit(tmp_path / f"must-fail/edit{place}.edit", tmp_path, source))
+    assert [[it.name[4] for it in together] for together in rounds_of(edits)] == [["0"], ["1"], ["2"], ["3", "4", "5"]]
 
 
 # ---- As a stage of the gate ----

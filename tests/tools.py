@@ -82,8 +82,8 @@ def is_quick() -> bool:
     return "TOARMUTS_TESTS_QUICK" in os.environ
 
 
-# What `./contiki`, `./mote` and the other commands have built where it isn't proved.
-UNPROVED = ("mote", "scenario", "network", "mote_picture", "network_picture", "toarmuts")
+# What `scripts/unproved.py` can build where it isn't proved.
+UNPROVED = ("mote", "scenario", "network", "mote_picture", "network_picture", "toarmuts", "modules_c")
 
 
 @functools.lru_cache(maxsize=None)

@@ -3,6 +3,7 @@ from __future__ import annotations
 
 import random
 import re
+from typing import NamedTuple
 
 from common import NAMES, ROOT, random_call
 
@@ -10,6 +11,24 @@ from toarmuts import Network, Options
 
 PROGRAM = ROOT / "crates/network/out/network"
 SETS_UP = ("mote", "link", "line", "ring", "mesh", "grid", "room", "rounds")
+
+
+class StoredNetwork(NamedTuple):
+    """A worked network: its name, script and transcript, the words after `network`, and the status of its run."""
+    name: str
+    script: str
+    transcript: str
+    words: str = ""
+    status: int = 0
+
+
+def stored_networks():
+    """Those of tests/networks, whose form tests/stored_cases.py has."""
+    for file in sorted((ROOT / "tests/networks").iterdir()):
+        text = file.read_text()
+        texts = dict(re.findall(r"^-- (\w+)\n((?:(?!-- ).*\n)*)", text, re.M))
+        words, status = re.match(r"\$ network ?(.*)", text)[1], re.search(r"^-- status (\d+)$", text, re.M)
+        yield StoredNetwork(file.stem, texts.get("stdin", ""), texts.get("stdout", ""), words, int(status[1]) if status else 0)
 
 
 def carriage(words):

@@ -104,7 +104,7 @@ def least(work):
 def worked_runs(size, run):
     """Each comes out or is refused, with the least size and with larger ones; how many come out with the last."""
     count = 0
-    for path in [*sorted((ROOT / "crates/scenario/data").glob("*.runs")), *sorted((ROOT / "examples").glob("*.scenario"))]:
+    for path in [*sorted((ROOT / "crates/scenario/data").glob("*.scenario")), *sorted((ROOT / "examples").glob("*.scenario"))]:
         for scenario in read_file(path):
             try:
                 wanted = run(scenario).transcript.data

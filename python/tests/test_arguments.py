@@ -155,6 +155,7 @@ WRONG = [
     (lambda: Call.parse("print 0"), BadCall, "'print 0': 0 is no hex of at most 64 bytes"),
     (lambda: Call.parse("\ud800"), BadCall, "'\\ud800': no call '\\ud800'"),
     (lambda: Call.parse("wait \ud800"), BadCall, "'wait \\ud800': more words than the call takes: \\ud800"),
+    (lambda: Call.parse("post 4 140 x-"), BadCall, "'post 4 140 x-': x- is no number from 0 to 4294967295"),
     (lambda: Call.parse("kill \ud800"), BadCall, "'kill \\ud800': \\ud800 is no number from 0 to 255"),
     (lambda: Call.parse("kill 4 5"), BadCall, "'kill 4 5': more words than the call takes: 5"),
     # Transcripts and scenarios.

@@ -395,7 +395,7 @@ def test_what_is_left_out_last():
 
 def test_coverage_of_worked_runs():
     """All but what tests/cells names as out of reach."""
-    runs = [scenario.run() for path in sorted((ROOT / "crates/scenario/data").glob("*.runs")) for scenario in read_file(path)
+    runs = [scenario.run() for path in sorted((ROOT / "crates/scenario/data").glob("*.scenario")) for scenario in read_file(path)
             if scenario.end != "bad sizes"]
     runs += [scenario.run() for path in sorted((ROOT / "examples").glob("*.scenario")) for scenario in read_file(path)]
     coverage = coverage_of(runs)

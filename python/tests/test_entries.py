@@ -69,7 +69,7 @@ def test_random_runs_entry_by_entry(seeds):
 
 
 def test_worked_runs_entry_by_entry():
-    for path in sorted((ROOT / "crates/scenario/data").glob("*.runs")):
+    for path in sorted((ROOT / "crates/scenario/data").glob("*.scenario")):
         for scenario in read_file(path):
             if scenario.transcript and not scenario.quiet:
                 check_entries(Transcript(scenario.transcript), scenario.transcript)

@@ -168,6 +168,12 @@ def test_packet_within_another(text):
     assert (frame.source, frame.destination, frame.ports, frame.payload) == (address(4), address(3), (8765, 5678), b"hi")
 
 
+def test_addresses_of_the_outer_header():
+    """What a packet within another one leaves out of its addresses is that of the outer ones, and not of the link (RFC 6282, 3.2.2)."""
+    frame = read(header(2, 1), "7e55" + plain(4)[16:] + plain(3)[16:] + "ee" "7e77" + UDP + "6869")
+    assert (frame.source, frame.destination, frame.payload) == (address(4), address(3), b"hi")
+
+
 @pytest.mark.parametrize("text", [
     "", "21", "030007", "09ec07" + "00" * 20, "21ee07" + "00" * 20, "013c07", "000007",
     header(1, 2) + NEXT, header(1, 2) + "7e77" "f0" "223d", header(1, 2) + "7e74" + UDP, header(1, 2) + "7ef7" "01" + UDP,
@@ -242,6 +248,13 @@ def test_repeats_are_one_packet():
                                                                                        Delivery(2, 1, 8, 9, b"hi")]
 
 
+@pytest.mark.parametrize("others, packets", [(127, 1), (128, 2)])
+def test_frames_between_repeats(others, packets):
+    """The sender's number has 8 bits: after 128 other frames an equal one is another packet, which may have arrived or not."""
+    between = "".join(sent(2, 2, to_all(2, number) + "05") for number in range(2, 2 + others))
+    assert len(ports_of(sent(1, 2, hello(1)) + between + sent(8, 2, hello(1)))) == packets
+
+
 def test_fragments_of_a_run():
     """A packet of 72 bytes, of which UDP's data are 24, in two fragments: 8 bytes of data after the headers, then 16 from 56 on."""
     first = header(1, 2, 1) + "c048" "0005" + NEXT + UDP + "01" * 8
@@ -249,6 +262,13 @@ def test_fragments_of_a_run():
     text = sent(1, 2, first) + sent(1, 2, second) + heard(2, 1, second) + sent(3, 2, second) + heard(4, 1, first)
     assert [str(frame) for frame in read_frames(text)] == ["fragment 1 of 2", "fragment 2 of 2", "fragment 2 of 2"]
     assert ports_of(text) == [Delivery(2, 1, 1, 4, b"\1" * 8 + b"\2" * 16)]
+
+
+def test_fragments_of_no_packet():
+    """Whole, they aren't one of IPv6. A line of a transcript whose hex lacks a digit is no frame."""
+    text = sent(1, 2, header(1, 2, 1) + "c010" "0001" "41" + "00" * 8) + sent(1, 2, header(1, 2, 2) + "e010" "0001" "01" + "00" * 8)
+    assert [str(frame) for frame in read_frames(text)] == ["fragment 1 of 2", "fragment 2 of 2"] and ports_of(text) == []
+    assert read_frames("1 note sent 416\n") == []
 
 
 def dao(target, parent, lifetime="1e"):

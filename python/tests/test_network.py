@@ -14,13 +14,14 @@ import time
 
 import pytest
 from common import ROOT
-from networks import PROGRAM, random_network, read_network
+from networks import PROGRAM, StoredNetwork, random_network, read_network, stored_networks
 
 import toarmuts
 from toarmuts import (ApplicationError, BadInput, BadNetwork, BadScenario, BadSizes, BadTranscript, Event, EventCode, Frame, Link, Loss,
                       MmemAlloc, MmemWrite, Mote, MoteError, Network, NetworkKind, NetworkTranscript, NoApplication, NotReached, PacketDone,
                       PacketOpen, PacketRead, PacketSend, Print, Run, RunEnded, Status, TimerSet, Transcript, Wait, WrongType, run_network)
 from toarmuts.network_setup import read_input
+from toarmuts.network_transcript import Place
 from toarmuts.pcap import packets
 
 PACKAGE = str(pathlib.Path(toarmuts.__file__).parent)
@@ -90,18 +91,19 @@ def test_a_network_halts_where_an_input_takes_all_its_rounds():
 
 def worked():
     """The worked networks whose lines a run from Python has."""
-    for place in sorted([*(ROOT / "tests/networks").glob("*.net"), *(ROOT / "examples/networks").glob("*.net")]):
-        run = place.with_suffix(".run")
-        if "bad line" not in place.with_suffix(".transcript").read_text() and (not run.exists() or "args" not in run.read_text()):
-            yield pytest.param(place, id=place.stem)
+    examples = [StoredNetwork(file.stem, file.read_text(), file.with_suffix(".transcript").read_text())
+                for file in sorted((ROOT / "examples/networks").glob("*.net"))]
+    for case in [*stored_networks(), *examples]:
+        if "bad line" not in case.transcript and not case.words:
+            yield pytest.param(case, id=case.name)
 
 
-@pytest.mark.parametrize("place", worked())
-def test_worked_networks(place):
+@pytest.mark.parametrize("case", worked())
+def test_worked_networks(case):
     """The transcripts were written by hand, from docs/network.md."""
-    network, inputs = read_network(place.read_text())
+    network, inputs = read_network(case.script)
     run = run_network(network, inputs)
-    assert run.difference(place.with_suffix(".transcript").read_bytes()) is None
+    assert run.difference(case.transcript) is None
     assert run.finished == (not run.text.endswith("\nhalt\n"))
     for number in range(1, len(network) + 1):
         assert run.mote(number).again().text == run.mote(number).text
@@ -253,6 +255,15 @@ def test_a_network_goes_on_until_something_holds():
     with pytest.raises(NotReached):
         network.until(lambda network: False, most=5)
     assert network.clock == 25
+
+
+def test_a_frame_that_was_under_way_before_is_waited_for():
+    """Its arrival is counted from when it was sent, and not from when the network is first asked to go on."""
+    network = Network(["relay", "relay"]).link(1, 2, delay=7)
+    network.frame(1, b"hi")
+    network.tick(3)
+    network.until(lambda it: it.sent(2))
+    assert network.clock == 7
 
 
 def test_a_halted_mote_is_not_waited_for():
@@ -412,6 +423,13 @@ def test_what_a_network_did_goes_on_from_where_it_was():
         run.printed(), run.sent(), run.frames(), run.frames(2))
     assert (network.mote(3).printed(4), network.mote(2).sent(), network.mote(1).transcript) == (
         run.mote(3).printed(4), run.sent(2), run.transcript.mote(1))
+
+
+def test_the_front_of_a_part():
+    """Its lines have the numbers and clocks that they have in the part, of the network and of the mote."""
+    part = NetworkTranscript("1 > tick 2\n1 > tick 3\n= 20\n", lines_before=5, clock_before=9, before={1: Place(3, 4)})
+    told = [(it.line, it.clock, it.entry.line, it.entry.clock) for it in part.front(2)]
+    assert told == [(6, 9, 4, 6), (7, 9, 5, 9)] and part.front(9) == part and len(part.front(0)) == 0
 
 
 def test_many_inputs_are_taken_as_fast_as_few():
@@ -593,6 +611,8 @@ link 2 3 delay 1 lot 7 seed 9
 tick 10
 """
     assert run_network(Network(["relay"] * 2).link(1, 2, lot=1, seed=2**32 - 1)).script().endswith("lot 1 seed 4294967295\n")
+    for few in (Network(rounds=5, room=1025), Network(rounds=16_777_215, room=1023)):
+        assert run_network(few).script() == f"room {few.setup.room}\nrounds {few.setup.rounds}\n"
     for large in (Network(["relay"] * 2).line(lot=1, seed=2**32 - 1), Network(["relay"], rounds=2**32)):
         with pytest.raises(BadScenario, match="a number of a network's script is at most 4,294,967,295; this one is more: 4294967296"):
             run_network(large).script()
@@ -721,13 +741,15 @@ def test_packets():
     head = bytes.fromhex("4d3cb2a1 0200 0400 00000000 00000000 ffff0000 e6000000")
     data = packets(network.frames())
     assert data[:24] == head and len(data) == 24 + 30 * 17
-    # At 10 ms, and at 130.
-    assert data[24:41] == struct.pack("<4I", 0, 10_000_000, 1, 1) + b"b"
-    assert data[24 + 12 * 17:24 + 13 * 17] == struct.pack("<4I", 0, 130_000_000, 1, 1) + b"b"
     # At 10 ticks of 1/128 s, and at 130.
-    data = packets(network.frames(), 128)
     assert data[24:41] == struct.pack("<4I", 0, 78_125_000, 1, 1) + b"b"
     assert data[24 + 12 * 17:24 + 13 * 17] == struct.pack("<4I", 1, 15_625_000, 1, 1) + b"b"
+    # At 10 ms, and at 130.
+    data = packets(network.frames(), 1000)
+    assert data[24:41] == struct.pack("<4I", 0, 10_000_000, 1, 1) + b"b"
+    assert data[24 + 12 * 17:24 + 13 * 17] == struct.pack("<4I", 0, 130_000_000, 1, 1) + b"b"
+    # 1 6/7 s, less than a nanosecond left out.
+    assert packets([Frame(13, 1, b"a")], 7)[24:32] == struct.pack("<2I", 1, 857_142_857)
 
 
 def test_the_last_second_of_packets():
@@ -749,7 +771,7 @@ def test_a_file_of_packets(tmp_path):
     assert place.read_bytes() == packets([Frame(0, 1, frame), Frame(64, 2, frame)], 100)
     if shutil.which("tshark") is None:
         pytest.skip("no tshark: passed, but for what it reads")
-    network.pcap(place, ticks_of_a_second=128)
+    network.pcap(place)
     fields = ["frame.time_epoch", "frame.len", "wpan.seq_no", "wpan.dst_pan", "wpan.dst16", "wpan.src16"]
     words = ["tshark", "-r", place, "-T", "fields", *(word for field in fields for word in ("-e", field))]
     told = subprocess.run(words, capture_output=True, text=True, check=True).stdout

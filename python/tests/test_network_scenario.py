@@ -1,13 +1,14 @@
 """Scenario files with networks: worked ones, malformed lines, and pytest."""
 import pytest
 from common import ROOT
+from networks import stored_networks
 from test_plugin import run_pytest
 
 from toarmuts import BadScenario, NetworkRun, read_scenarios
 from toarmuts.errors import NotInPython
 from toarmuts.scenario import is_line, read_file
 
-WORKED = [place for place in sorted((ROOT / "tests/networks").glob("*.net")) if not place.with_suffix(".run").exists()]
+WORKED = [case for case in stored_networks() if not case.words and not case.status]
 MOTE = "mote N WORD.. sets up the next motes, N or N..M, as mote does with these words"
 LINK = "link A B delay D is for two motes that there are, and D is at least 1"
 RULE = ("links are between motes that there are, with a delay of at least 1; "
@@ -23,12 +24,11 @@ def test_examples(name):
         assert outcome.fault is None and isinstance(outcome.run, NetworkRun), outcome.fault
 
 
-@pytest.mark.parametrize("place", WORKED, ids=lambda place: place.stem)
-def test_worked_networks(place):
+@pytest.mark.parametrize("case", WORKED, ids=lambda case: case.name)
+def test_worked_networks(case):
     """Worked networks of the program `network` have the same transcripts from a file that is read here."""
-    transcript = place.with_suffix(".transcript").read_text()
-    scenario, = read_scenarios(f"network\n{place.read_text()}{transcript}")
-    assert scenario.transcript == transcript and scenario.carry_out().fault is None
+    scenario, = read_scenarios(f"network\n{case.script}{case.transcript}")
+    assert scenario.transcript == case.transcript and scenario.carry_out().fault is None
 
 
 def test_lines():

@@ -207,8 +207,8 @@ def test_a_file_with_more_motes_than_are_drawn():
     case = make_network_case(Network(["hello"]), [])
     with pytest.raises(toarmuts.BadScenario, match="the target draws another case than the file's, which has 3 motes"):
         case.with_file("mote 1..3 hello\n")
-    made = case.with_file("# tick 4\nmote 1 hello\nlink 1 1 delay 3 lot 5 seed 6\nroom 7\n\ntick 5\n")
-    assert made.script == ("tick 5",) and made.setup.links == (Link(1, 1, 3, Loss(lot=5, seed=6)),)
+    made = case.with_file("# tick 4\nmote 1 hello\nlink 1 1 delay 3 lot 5 seed 6\nroom 7\n\ntick 5\ntick 6\r\n\x0ctick 7\u2028\n")
+    assert made.script == ("tick 5", "tick 6\r", "\x0ctick 7\u2028") and made.setup.links == (Link(1, 1, 3, Loss(lot=5, seed=6)),)
 
 
 def test_coverage_of_a_network():

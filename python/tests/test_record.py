@@ -34,6 +34,11 @@ def test_each_part():
     assert Record.of((HEAD + BODY).encode()) == record == pickle.loads(pickle.dumps(record))
 
 
+def test_spaces_of_a_comment():
+    """One space after `#` isn't part of it; all others are."""
+    assert Record.of(HEAD + "#  two \n#none\n# a\tb\t\n").notes == (" two ", "none", "a\tb\t")
+
+
 def test_no_quota_and_no_node():
     record = Record.of(HEAD.replace("quota 16 node 258", "quota 0 node 0"))
     assert (record.options.quota, record.node, len(record.script), record.checks) == (None, None, 0, ())

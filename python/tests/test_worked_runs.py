@@ -11,7 +11,7 @@ import toarmuts
 from toarmuts import BadScenario, BadSizes, Print, Run, Script, TimerSet, Wait, read_scenarios
 from toarmuts.scenario import read_file
 
-FILES = sorted([*(ROOT / "crates/scenario/data").glob("*.runs"), *(ROOT / "examples").glob("*.scenario")])
+FILES = sorted([*(ROOT / "crates/scenario/data").glob("*.scenario"), *(ROOT / "examples").glob("*.scenario")])
 RUNS = [pytest.param(scenario, id=f"{path.name}: {scenario.name}") for path in FILES for scenario in read_file(path)]
 PROGRAM = ROOT / "crates/mote/out/mote"
 
@@ -22,7 +22,7 @@ def test_comes_out_as_told(scenario):
 
 
 def test_there_are_as_many_as_the_pages_say():
-    runs = sum(len(read_file(path)) for path in FILES if path.suffix == ".runs")
+    runs = sum(len(read_file(path)) for path in FILES if path.parent.name == "data")
     assert f"all {runs} worked runs" in (ROOT / "docs/tested.md").read_text()
 
 

@@ -3,6 +3,7 @@ from __future__ import annotations
 
 import base64
 import hashlib
+import importlib
 import importlib.util
 import json
 import re
@@ -75,7 +76,8 @@ def page_script(modules: Mapping[str, Path]) -> str:
 
 def about() -> str:
     """docs/page.md as HTML. Its title is that of the tab."""
-    import markdown  # type: ignore[import]  # it has no types
+    # Debian has its types in a package of their own: this way mypy needs none, and finds nothing where they are there.
+    markdown = importlib.import_module("markdown")
     text = read(ROOT / "docs/page.md").partition("\n")[2]
     made: str = markdown.markdown(text, extensions=["tables", "toc"], output_format="html")
     return made

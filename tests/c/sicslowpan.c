@@ -46,6 +46,12 @@ input_packet(struct packet *packet, const linkaddr_t *from)
   arrivals++;
 }
 
+bool
+has_slots(size_t slots)
+{
+  return slots > 0;
+}
+
 /* A frame arrives where it was sent to, in a block of its length. */
 bool
 transmit(const uint8_t *bytes, size_t length, const linkaddr_t *to)

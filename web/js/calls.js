@@ -8,11 +8,11 @@ const ARGUMENTS = new Map(RULES.arguments.map((argument) => [argument.name, argu
 // Says why a call is malformed.
 class BadCall extends Error {}
 
-// Hex in place of a text in quotes: "hi\n".
+// Hex in place of a text in quotes: "hi\n". For no bytes that is a dash, but nothing after the x of a line.
 function withoutQuotes(line) {
-  return line.replace(/"((?:[^"\\]|\\["\\n])*)"/g, (_, text) => {
+  return line.replace(/(x?)"((?:[^"\\]|\\["\\n])*)"/g, (_, mark, text) => {
     const plain = text.replace(/\\(.)/g, (_all, letter) => (letter === "n" ? "\n" : letter));
-    return hexOf(utf8.encode(plain)) || "-";
+    return mark + (hexOf(utf8.encode(plain)) || (mark ? "" : "-"));
   });
 }
 
@@ -33,7 +33,7 @@ function readNumber(word, most, name) {
 function readPayload(word) {
   if (word === "-") return { payload: PAYLOAD.NONE, number: 0, bytes: [] };
   if (word === "x") return { payload: PAYLOAD.LINE, number: 0, bytes: [] };
-  if (word.startsWith("x")) return { payload: PAYLOAD.LINE, number: 0, bytes: readBytes(word.slice(1), MOST_PAYLOAD) };
+  if (/^x[^-]/.test(word)) return { payload: PAYLOAD.LINE, number: 0, bytes: readBytes(word.slice(1), MOST_PAYLOAD) };
   return { payload: PAYLOAD.NUMBER, number: readNumber(word, 2 ** 32 - 1, "payload"), bytes: [] };
 }
 

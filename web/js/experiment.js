@@ -39,7 +39,8 @@ const moteOf = (experiment) => ({ names: namesOf(experiment), options: optionsOf
 // which ends the run, the lines are taken as they are.
 function scenarioLines(experiment, malformed = Infinity) {
   const applications = linesIn(experiment.applications).map((text, place) => ({
-    text: isNothing(text) || /^(app|calls|rows|on)\b/.test(text) ? text : `app ${text}`, editor: "applications", line: place + 1,
+    text: text.trim() === "" ? "" : isNothing(text) || /^(app|calls|rows|on)\b/.test(text) ? text : `app ${text}`,
+    editor: "applications", line: place + 1,
   }));
   const sizes = unusualSizes(experiment).map((name) => ({ text: `${name} ${experiment[name]}`, editor: name, line: 1 }));
   const quiet = experiment.quiet ? [{ text: "quiet", editor: "quiet", line: 1 }] : [];

@@ -5,7 +5,7 @@ const ENDS = {
 };
 
 function milliseconds(time) {
-  return time < 1000 ? `${time.toFixed(time < 10 ? 1 : 0)} ms` : `${(time / 1000).toFixed(1)} s`;
+  return time < 999.5 ? `${time.toFixed(time < 10 ? 1 : 0)} ms` : `${(time / 1000).toFixed(1)} s`;
 }
 
 // What the page took longer than the run, in milliseconds, is worth a word.

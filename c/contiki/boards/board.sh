@@ -27,6 +27,7 @@ read_board() {
 check_board() {
     [[ -z $network$sanitize$replay$tests && -z $compiler && $kind == transcript ]] ||
         give_up "--board builds an image: leave out --network, --sanitize, --replay, --test, --picture, --gdb, --build and --cc" 64
+    [[ " ${words[*]} " != *' --quiet '* ]] || give_up "a board writes its whole transcript: leave out --quiet" 64
     [[ -n $out || -n $run ]] || give_up "--board needs -o IMAGE, or --run" 64
     [[ -n $run || -z $record$radio ]] || give_up "--record FILE and --radio are for --run: the image writes its record to the third port" 64
     [[ -z $script || -f $script ]] || give_up "$script: no such file" 64
@@ -74,8 +75,7 @@ build_board_driver() {
     done
     compile_into "$made" "$driver"/src/{,board/}*.c "$include/toarmuts_memory.c"
     compile_into "$made/modules" "${modules[@]}"
-    if ! arm-none-eabi-ar rc "$made/modules.a" "$made"/modules/*.o || ! arm-none-eabi-ld -r "$made"/*.o -o "$made/driver" ||
-        ! arm-none-eabi-objcopy --localize-hidden "$made/driver"; then
+    if ! arm-none-eabi-ar rc "$made/modules.a" "$made"/modules/*.o || ! arm-none-eabi-ld -r "$made"/*.o -o "$made/driver"; then
         give_up "the driver can't be linked" 65
     fi
     rm -r "$made/modules" "$made"/*.o
@@ -116,15 +116,20 @@ build_image() {
     build_board_driver
     write_settings
     for part in "$board" "$room/settings.c"; do
-        parts+=("$room/$(basename "$part" .c).o")
+        parts+=("$room/part-${#parts[@]}.o")
         "$compiler" "${driver_flags[@]}" "${includes[@]}" "-I$driver/src/board" -c "$part" -o "${parts[-1]}" ||
             give_up "$part doesn't compile" 65
     done
+    # The names of driver and board are local: a program may have the same ones.
+    if ! arm-none-eabi-ld -r "${parts[@]}" "$objects/driver.o" -o "$room/driver.o" ||
+        ! arm-none-eabi-objcopy --localize-hidden "$room/driver.o"; then
+        give_up "the driver can't be linked" 65
+    fi
     choose_source_flags
     record=yes choose_facts
-    make_program "$1" "${source_flags[@]}" "${files[@]}" "${facts[@]}" "${parts[@]}" "$objects/driver.o" "$objects/modules.a" "$archive" \
-        -nostartfiles -T "$memory" "-L$driver/src/board" \
-        -Wl,--gc-sections,--no-warn-rwx-segments,--no-warn-execstack,--no-enum-size-warning,-Map="$room/map"
+    make_program "$1" "${source_flags[@]}" "${files[@]}" "${facts[@]}" "$room/driver.o" "$objects/modules.a" "$archive" \
+        -nostartfiles -T "$memory" "-L$driver/src/board" "${libraries[@]}" \
+        -Wl,--gc-sections,--no-warn-rwx-segments,--no-warn-execstack,--no-enum-size-warning
 }
 
 # Runs an image. With a script the transcript is written, or with --text what is printed; otherwise the first port is the terminal.
@@ -133,12 +138,18 @@ run_image() {
     [[ -n $record ]] || ports[5]=null
     local emulator=(qemu-system-arm -M "$machine" -display none -monitor none -no-reboot -kernel "$image")
     if [[ -z $script ]]; then
-        "${emulator[@]}" -icount "shift=$shift" "${ports[@]}"
+        if [[ -t 0 ]]; then
+            # The emulator would set the terminal to send each key, unseen, and byte 13 for a line end; so it has whole lines. cat opens
+            # the terminal anew, since the emulator reads without waiting.
+            exec < <(exec cat /dev/stdin)
+            jobs+=("$!")
+        fi
+        "${bound[@]}" "${emulator[@]}" -icount "shift=$shift" "${ports[@]}"
         return
     fi
     ports=(-serial null -serial null -serial stdio)
     [[ " ${words[*]} " != *' --text '* ]] || ports=(-serial stdio -serial null -serial null)
-    "${emulator[@]}" -icount "shift=$shift,sleep=off" "${ports[@]}" -semihosting-config enable=on,target=native </dev/null
+    "${bound[@]}" "${emulator[@]}" -icount "shift=$shift,sleep=off" "${ports[@]}" -semihosting-config enable=on,target=native </dev/null
 }
 
 use_board() {

@@ -81,32 +81,11 @@ board_pump(enum port port)
   int byte;
   UART(port, ICR) = BOTH;
   while((UART(port, FR) & RXFE) == 0) {
-    uint8_t received = (uint8_t)UART(port, DR);
-    if(port != RECORD) {
-      input_received(port, received);
-    }
+    input_received(port, (uint8_t)UART(port, DR));
   }
   while((UART(port, FR) & TXFF) == 0 && (byte = output_next(port)) >= 0) {
     UART(port, DR) = (uint32_t)byte;
   }
-}
-
-static void
-handle_console(void)
-{
-  board_pump(CONSOLE);
-}
-
-static void
-handle_radio(void)
-{
-  board_pump(RADIO);
-}
-
-static void
-handle_record(void)
-{
-  board_pump(RECORD);
 }
 
 static void

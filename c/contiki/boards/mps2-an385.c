@@ -46,32 +46,11 @@ board_pump(enum port port)
   int byte;
   UART(port, INTERRUPT) = BOTH;
   while((UART(port, STATE) & HAS_BYTE) != 0) {
-    uint8_t received = (uint8_t)UART(port, DATA);
-    if(port != RECORD) {
-      input_received(port, received);
-    }
+    input_received(port, (uint8_t)UART(port, DATA));
   }
   while((UART(port, STATE) & IS_FULL) == 0 && (byte = output_next(port)) >= 0) {
     UART(port, DATA) = (uint32_t)byte;
   }
-}
-
-static void
-handle_console(void)
-{
-  board_pump(CONSOLE);
-}
-
-static void
-handle_radio(void)
-{
-  board_pump(RADIO);
-}
-
-static void
-handle_record(void)
-{
-  board_pump(RECORD);
 }
 
 VECTORS_OF_PART = {

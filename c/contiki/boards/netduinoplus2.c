@@ -46,33 +46,12 @@ board_pump(enum port port)
 {
   int byte;
   while((REG(usart[port] + SR) & RXNE) != 0) {
-    uint8_t received = (uint8_t)REG(usart[port] + DR);
-    if(port != RECORD) {
-      input_received(port, received);
-    }
+    input_received(port, (uint8_t)REG(usart[port] + DR));
   }
   while((REG(usart[port] + SR) & TXE) != 0 && (byte = output_next(port)) >= 0) {
     REG(usart[port] + DR) = (uint32_t)byte;
   }
   REG(usart[port] + CR1) = ENABLED | RXNE | (output_is_left(port) ? TXE : 0);
-}
-
-static void
-handle_console(void)
-{
-  board_pump(CONSOLE);
-}
-
-static void
-handle_radio(void)
-{
-  board_pump(RADIO);
-}
-
-static void
-handle_record(void)
-{
-  board_pump(RECORD);
 }
 
 VECTORS_OF_PART = {

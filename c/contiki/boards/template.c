@@ -46,33 +46,12 @@ board_pump(enum port port)
 {
   int byte;
   while((UART(port, STATE) & HAS_BYTE) != 0) {
-    uint8_t received = (uint8_t)UART(port, DATA);
-    if(port != RECORD) {
-      input_received(port, received);
-    }
+    input_received(port, (uint8_t)UART(port, DATA));
   }
   while((UART(port, STATE) & HAS_ROOM) != 0 && (byte = output_next(port)) >= 0) {
     UART(port, DATA) = (uint32_t)byte;
   }
   UART(port, CONTROL) = INTERRUPT_AT_BYTE | (output_is_left(port) ? INTERRUPT_AT_ROOM : 0);
-}
-
-static void
-handle_console(void)
-{
-  board_pump(CONSOLE);
-}
-
-static void
-handle_radio(void)
-{
-  board_pump(RADIO);
-}
-
-static void
-handle_record(void)
-{
-  board_pump(RECORD);
 }
 
 VECTORS_OF_PART = {handle_console, handle_radio, handle_record};

@@ -6,23 +6,9 @@
  * owner's calls change those, which is a law of the mote. Before the mote reads bytes, as to send a frame, they are written to it.
  */
 #include "driver.h"
+#include "sanitizer.h"
 
 #include <stdlib.h>
-
-#if defined(__SANITIZE_ADDRESS__)
-#define HAS_ADDRESS_SANITIZER
-#elif defined(__has_feature)
-#if __has_feature(address_sanitizer)
-#define HAS_ADDRESS_SANITIZER
-#endif
-#endif
-
-#ifdef HAS_ADDRESS_SANITIZER
-#include <sanitizer/asan_interface.h>
-#else
-#define ASAN_POISON_MEMORY_REGION(place, size) ((void)(place), (void)(size))
-#define ASAN_UNPOISON_MEMORY_REGION(place, size) ((void)(place), (void)(size))
-#endif
 
 /* Allocates bytes for the program or the driver, all 0. */
 void *

@@ -48,6 +48,17 @@ module _ (nodes : List Alarm) (at : ℕ) (x : Alarm) where
           let above : at + 1 ≤ k = omega (arith, low, differs) in
           kept k differs (omega (arith, above)) (omega (arith, above)) (won k above high)
 
+-- a node that didn't change leaves those above right
+pub settled : (nodes : List Alarm) (count at : ℕ) → IsWon nodes at → ((k : ℕ) → 1 ≤ k → k < count → k ≢ at → IsWon nodes k) →
+    (k : ℕ) → 1 ≤ k → k < count → IsWon nodes k
+settled nodes count at game won k low high = by_test (k == at) refl
+  where
+    by_test : (b : Bool) → (k == at) ≡ b → IsWon nodes k
+    by_test true e =
+        let same : k ≡ at = grind (arith, nat_tests) in
+        rw same game
+    by_test false e = won k low high (grind (arith, nat_tests))
+
 -- the players
 pub players_kept : (nodes : List Alarm) (count at : ℕ) (x : Alarm) → at < count → drop count (set nodes at x) ≡ drop count nodes
 players_kept [] zero at x h = absurd (omega (arith, h))

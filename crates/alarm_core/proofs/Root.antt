@@ -2,7 +2,7 @@
 use Rattle.std.proofs.Common.{◌≡◌, ℕ, zero, suc, ◌+◌, ◌<◌, ◌≤◌, List, [], ◌∷◌, length, get_or, refl, ap, sym, subst, ◌∙◌, arith, Some}
 use Rattle.alarm_core.specs.declared.alarm.Alarm.{Alarm}
 use Rattle.alarm_core.specs.Alarms.{first_alarm}
-use Rattle.alarm_core.specs.Code.Tournaments.{IsTournament, moments_in, no_alarm, node_of}
+use Rattle.alarm_core.specs.Code.Tournaments.{IsTournament, earlier_of, moments_in, no_alarm, node_of}
 use Rattle.alarm_core.proofs.First.{Leads, alarm_at, first_is, root_leads, some_player}
 use Rattle.alarm_core.proofs.Rows.{length_moments, moment_at}
 
@@ -14,6 +14,14 @@ any_default (x ∷ nodes) (suc i) d e h = any_default nodes i d e (omega (arith,
 -- what was read is the node
 pub read : (nodes : List Alarm) (i j : ℕ) (x : Alarm) → x ≡ get_or nodes i x → i ≡ j → j < length nodes → x ≡ node_of nodes j
 read nodes i j x e same h = e ∙ (ap (λ (k : ℕ). get_or nodes k x) same ∙ any_default nodes j x no_alarm h)
+
+-- the winner of a game, of which both players were read
+pub winner_is : (nodes : List Alarm) (at i j : ℕ) (left right winner : Alarm) → left ≡ get_or nodes i left → right ≡ get_or nodes j right →
+    winner ≡ earlier_of left right → i ≡ at + at → j ≡ at + at + 1 → at + at + 1 < length nodes →
+    winner ≡ earlier_of (node_of nodes (at + at)) (node_of nodes (at + at + 1))
+winner_is nodes at i j left right winner e f is p q h =
+    is ∙ (ap (λ (a : Alarm). earlier_of a right) (read nodes i (at + at) left e p (omega (arith, h)))
+    ∙ ap (earlier_of (node_of nodes (at + at))) (read nodes j (at + at + 1) right f q h))
 
 alarm_is : (a : Alarm) (moment owner : ℕ) → moment ≡ a.moment → owner ≡ a.owner → record { moment = moment; owner = owner } ≡ a
 alarm_is a moment owner e f = rw (e, f) refl

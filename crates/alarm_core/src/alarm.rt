@@ -14,7 +14,10 @@ pub struct Alarm {
 pub(crate) fn earlier(a: Alarm, b: Alarm) -> Alarm
     ensures { result ≡ earlier_of a b }
 {
-    if a.moment < b.moment || (a.moment == b.moment && a.owner <= b.owner) {
+    // Branches: a test of both fields at once computes all comparisons each time.
+    if a.moment == b.moment {
+        if a.owner <= b.owner { a } else { b }
+    } else if a.moment < b.moment {
         a
     } else {
         b

@@ -20,7 +20,12 @@ pub(crate) fn climb(nodes: &mut Vec<Alarm>, count: usize, from: usize)
 {
     let mut at = from;
     while at > 0 {
-        nodes[at] = earlier(nodes[2 * at], nodes[2 * at + 1]);
+        let winner = earlier(nodes[2 * at], nodes[2 * at + 1]);
+        // The games above depend on this node alone of those that may have changed.
+        if nodes[at] == winner {
+            return;
+        }
+        nodes[at] = winner;
         at /= 2;
     }
 }

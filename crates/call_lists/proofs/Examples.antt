@@ -12,7 +12,7 @@ use Rattle.mote_types.specs.declared.call.Call.{Call}
 use Rattle.mote_types.specs.declared.event.Payload.{Payload}
 use denote.Ref.{Bor}
 use Rattle.call_lists.proofs.Cuts.{differ}
-use Rattle.call_lists.specs.Applications.{IsNamed}
+use Rattle.call_lists.specs.Applications.{IsListed, IsNamed}
 use Rattle.call_lists.specs.Calls.{AreMade, AreOfParts, AreWaits, IsCall, IsListOf}
 use Rattle.call_lists.specs.Faults.{IsNoCall, IsNoList, IsNoName, IsNoNumber, TellsNoName}
 use Rattle.call_lists.specs.Ranges.{ArePossible, IsByte, IsChunk, IsPayload, IsPossible, IsWide}
@@ -100,6 +100,10 @@ names : IsNamed (codes "hello") (Application.Named (Bundled.Hello (record {}))) 
     × (IsNamed (codes "echo") (Application.Named (Bundled.Hello (record {}))) → ⊥) × (IsNamed (codes "hello") Application.ClockWatcher → ⊥)
     × ((name : List ℕ) (calls : Steps 128) → IsNamed name (Application.Listed calls) → ⊥)
 names = (refl, refl, λ is. cc is, λ is. grind arith, λ name calls is. is)
+
+-- no other application is a list
+no_list : (text : List ℕ) → IsListed text Application.ClockWatcher → ⊥
+no_list text is = is
 
 read_256 : read_number (codes "256") ≡ Some 256
 unfolding digits
@@ -195,8 +199,9 @@ module _ (told : Bor (List ℕ)) where
   no_digits : told.now ≡ codes "-" → IsNoNumber (codes "-") 0 255 (CallFault.NoNumber told 0 255)
   no_digits is = (is, refl, refl, tt)
 
-  -- not reported: a valid number, another bound, another word or name, an existing name
+  -- not reported: a valid number, the least or the greatest one too, another bound, another word or name, an existing name
   not_told : IsNoNumber (codes "255") 0 255 (CallFault.NoNumber told 0 255) ⊎ IsNoNumber (codes "-") 0 255 (CallFault.NoNumber told 1 255)
+      ⊎ IsNoNumber (codes "255") 255 300 (CallFault.NoNumber told 255 300) ⊎ IsNoNumber (codes "-") 0 255 (CallFault.NoNumber told 0 254)
       ⊎ ((told.now ≡ codes "7") × IsNoNumber (codes "-") 0 255 (CallFault.NoNumber told 0 255))
       ⊎ ((told.now ≡ codes "nobody") × TellsNoName (codes "somebody") (CallFault.NoApplication told))
       ⊎ TellsNoName (codes "hello") (CallFault.NoApplication told) → ⊥

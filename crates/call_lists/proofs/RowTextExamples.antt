@@ -1,5 +1,5 @@
 -- Examples: texts that are rows, and texts that aren't.
-use Rattle.std.proofs.Common.{◌≡◌, ◌∙◌, ◌⊎◌, ℕ, true, false, List, [], ◌∷◌, ◌++◌, inl, inr, refl, ap, arith, codes, drop, length, Some, None}
+use Rattle.std.proofs.Common.{◌≡◌, ◌∙◌, ◌⊎◌, ℕ, Bool, true, false, List, [], ◌∷◌, ◌++◌, inl, inr, refl, sym, ap, append-nil, arith, codes, drop, length, Some, None}
 use Rattle.std.proofs.lemmas.Grind.{common_steps}
 use Rattle.std.specs.Fmt.{digits}
 use Rattle.call_lists.specs.Spaced.{spaced}
@@ -7,7 +7,7 @@ use Rattle.mote_types.specs.EventNumbers.{PACKET, SERIAL_LINE, TIMER}
 use Rattle.mote_types.specs.declared.call.Call.{Call}
 use Rattle.call_lists.proofs.Cuts.{differ}
 use Rattle.call_lists.specs.Rows.{Rule}
-use Rattle.call_lists.specs.RowTexts.{AreMade, AreOfParts, IsBehindColon, IsCallTold, IsRow, IsStimulus}
+use Rattle.call_lists.specs.RowTexts.{AreCalls, AreMade, AreOfParts, IsBehindColon, IsCallTold, IsRow, IsStimulus}
 use Rattle.call_lists.specs.declared.rows.row.Step.{Step}
 use Rattle.call_lists.specs.declared.rows.trigger.Trigger.{Trigger}
 
@@ -16,9 +16,10 @@ stimuli : IsStimulus (codes "136 0") (Trigger.Event TIMER (Some 0)) × IsStimulu
 unfolding digits
 stimuli = (inl refl, inr (refl, inl (refl, refl)), (refl, tt), (refl, (omega arith, omega arith)))
 
--- no timer 4, no refusal 0 or 19; one event is not any event
+-- no timer 4, no refusal 0 or 19; one event is not any event; a callback is no refusal
 no_stimuli : IsStimulus (codes "callback 4") (Trigger.Callback (Some 4)) ⊎ IsStimulus (codes "refused 19") (Trigger.Refused (Some 19))
-    ⊎ IsStimulus (codes "refused 0") (Trigger.Refused (Some 0)) ⊎ IsStimulus (codes "136") Trigger.Any → ⊥
+    ⊎ IsStimulus (codes "refused 0") (Trigger.Refused (Some 0)) ⊎ IsStimulus (codes "136") Trigger.Any
+    ⊎ IsStimulus (codes "refused") (Trigger.Callback None) ⊎ IsStimulus (codes "callback") (Trigger.Refused None) → ⊥
 no_stimuli is = grind arith
 
 -- a line has no number
@@ -32,6 +33,12 @@ unfolding digits
 no_frame (inl numbered) = differ numbered refl
 no_frame (inr (none, inl line)) = let codes_differ : ◌≡◌ {A = ℕ} 139 138 = line.1 in absurd (omega arith)
 no_frame (inr (none, inr frame)) = differ frame.0 refl
+
+no_line : IsStimulus (codes "frame") (Trigger.Event SERIAL_LINE None) → ⊥
+unfolding digits
+no_line (inl numbered) = differ numbered refl
+no_line (inr (none, inl line)) = differ line.0 refl
+no_line (inr (none, inr frame)) = let codes_differ : ◌≡◌ {A = ℕ} 138 139 = frame.1 in absurd (omega arith)
 
 kills : IsCallTold (codes "kill told") true (Call.Kill 0)
 unfolding digits spaced
@@ -53,6 +60,11 @@ no_told (a ∷ b ∷ front) same = let sizes = ap length same in absurd (grind (
 
 written : IsCallTold (codes "kill 0") true (Call.Kill 0) → ⊥
 written is = no_told is.0 is.1
+
+-- the words before `told` are those of the call
+no_kill : (is : IsCallTold (codes "exit told") true (Call.Kill 0)) → is.0 ≡ codes "exit" → ⊥
+no_kill (front, same, inl dash) is = differ (sym (ap (λ (words : List ℕ). words ++ codes " -") is) ∙ dash.1) refl
+no_kill (front, same, inr number) is = differ (sym (ap (λ (words : List ℕ). words ++ codes " 0") is) ∙ number.1) refl
 
 another_call : IsCallTold (codes "exit") false Call.Wait → ⊥
 another_call is = grind arith
@@ -118,3 +130,32 @@ begun rule is = is.5
 not_repeated : (steps : List Step) → IsBehindColon (codes " wait") steps true → ⊥
 not_repeated steps (inl nothing) = cc nothing.0
 not_repeated steps (inr some) = let sizes = ap length some.1 in absurd (grind (arith, common_steps, sizes))
+
+-- a part makes one call at least
+none_made : (part : List ℕ) (first others : List Step) → [] ≡ first ++ others → AreMade part first → ⊥
+none_made part [] others same (inl once) = let one : ◌≡◌ {A = ℕ} 0 1 = once.0 in absurd (omega arith)
+none_made part [] others same (inr numbered) = absurd (omega (arith, numbered.1))
+none_made part (step ∷ first) others same made = absurd (cc)
+
+no_calls : (text : List ℕ) → AreCalls text [] → ⊥
+no_calls text is = none_made is.0 is.3.0 is.3.1 is.3.2 is.3.3
+
+-- one part is the whole text
+one_part : (text : List ℕ) (steps : List Step) (are : AreCalls text steps) → are.1 ≡ [] → text ≡ are.0
+one_part text steps are none = rw none at are.2 ∙ append-nil are.0
+
+-- where nothing follows the colon, no call is made, and nothing begins again
+nothing_said : (steps : List Step) (repeats : Bool) → IsBehindColon [] steps repeats → (steps ≡ []) × (repeats ≡ false)
+nothing_said steps repeats (inl nothing) = (nothing.1, nothing.2)
+nothing_said steps repeats (inr some) = absurd (let text = some.1 in cc)
+
+-- the parts of a row
+module _ (text : List ℕ) (rule : Rule) (is : IsRow text rule) where
+  colon : text ≡ is.0 ++ codes ":" ++ is.1
+  colon = is.2
+
+  of_any : rule.trigger ≡ Trigger.Any → is.0 ≡ codes "any"
+  of_any any = rw any at is.3
+
+  without_calls : is.1 ≡ [] → (rule.steps ≡ []) × (rule.repeats ≡ false)
+  without_calls none = nothing_said rule.steps rule.repeats (rw none at is.4)

@@ -1,6 +1,7 @@
 //! The words of a call: its numbers, and bytes in hex.
 
-ghost use Rattle.std.specs.Prelude.{◌≡◌, ◌≢◌, ◌≤◌, ◌++◌, ℕ, Bool, if◌then◌else◌, List, [], ◌∷◌, decimal, is_ok, is_some, Option, Some, None, IfErr, IfOk, IfSome, IsSome, OnErr, OnOk};
+ghost use Rattle.std.specs.Prelude.{◌≡◌, ◌≢◌, ◌≤◌, ◌++◌, ℕ, Bool, if◌then◌else◌, List, [], ◌∷◌, decimal, is_ok, is_some, Option, Some, None, Err, IfErr, IfOk, IfSome, IsSome, OnErr, OnOk};
+ghost use Rattle.std.specs.Option.{option_or};
 ghost use Rattle.hex.specs.Hex.{decode_of};
 ghost use Rattle.mote_text.specs.EntryText.{hex, payload_word};
 ghost use Rattle.mote_text.specs.Script.{read_number};
@@ -58,8 +59,10 @@ impl<'a> Words<'a> {
         self.name
     }
 
+    /// Stores a fault, unless one was met before.
     pub(crate) fn note(&mut self, fault: CallFault<'a>)
         ensures fault { IsSome self.new.fault }
+        ensures first { self.new.fault ≡ option_or self.old.fault (Some fault.entry) }
         ensures left { left_in self.new ≡ None }
     {
         if self.fault.is_none() {
@@ -155,6 +158,7 @@ impl<'a> Words<'a> {
     /// The first fault.
     pub(crate) fn finish(mut self) -> Result<(), CallFault<'a>>
         ensures taken { OnOk result ((self.entry.fault ≡ None) × (self.entry.rest ≡ None)) }
+        ensures first { IfSome self.entry.fault (λ fault. result ≡ Err fault) }
         ensures refused { OnErr result (left_in self.entry ≢ Some []) }
     {
         if let Some(rest) = self.rest {

@@ -1,4 +1,4 @@
-//! Why a mote came to no end.
+//! Why the run of a mote failed.
 
 ghost use Rattle.std.specs.Prelude.{◌≡◌};
 
@@ -7,7 +7,7 @@ use mote_types::fault::BootFault;
 use std::alloc::AllocFailed;
 use thiserror::Error;
 
-/// Why a mote came to no end.
+/// Why the run of a mote failed.
 #[derive(Clone, Copy, Debug, PartialEq, Eq, Drop, Error)]
 pub enum MoteFault {
     /// A size is out of its range or no multiple of 4, or there are more than 16 applications.

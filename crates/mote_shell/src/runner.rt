@@ -47,7 +47,7 @@ pub trait Runner<T: FromName> {
         ensures write_fault { IsErrOf result Refused.Write ↔ (K.failure_count sink.old < K.failure_count sink.new) };
 }
 
-/// What a program reports of a mote that came to no end.
+/// What a program reports of a run that failed.
 fn failure_of<'a>(fault: MoteFault) -> Failure<'a>
     ensures { result ≡ failure_in_mote fault }
 {

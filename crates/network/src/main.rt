@@ -31,7 +31,7 @@ fn read_all<R: AllocGlobal + io::Input>(rt: &R) -> Result<Vec<u8>, Failure<'stat
     }
 }
 
-/// Reports why a network's run came to no end, and returns the status that the program exits with.
+/// Reports why a network's run failed, and returns the status that the program exits with.
 fn report_run<R: Print + Eprint>(rt: &R, fault: RunFault) -> u8 {
     match fault {
         RunFault::Write => finish(rt, PROGRAM, Err(Failure::Write)),

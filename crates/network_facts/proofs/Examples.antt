@@ -10,7 +10,7 @@ use Rattle.transcript_lines.specs.declared.line.Note.{Note}
 use Rattle.transcript_lines.specs.Forms.{is_line}
 use Rattle.network_facts.specs.Capture.{bytes_in, global_header, is_late, lengths_of, moment_of, record_of, sends}
 use Rattle.network_facts.specs.Flights.{clocks, is_way}
-use Rattle.network_facts.specs.NetworkLines.{is_network_line, mote_in, network_line_text}
+use Rattle.network_facts.specs.NetworkLines.{clock_in, is_network_line, mote_in, network_line_text}
 use Rattle.network_facts.specs.declared.flights.Fate.{Fate}
 use Rattle.network_facts.specs.declared.flights.Flight.{Flight}
 use Rattle.network_facts.specs.declared.line.NetworkLine.{NetworkLine}
@@ -36,6 +36,9 @@ a_line : map is_network_line (NetworkLine.Lost 1 2 ∷ NetworkLine.Mote 1 (Line.
 unfolding is_line
 a_line = refl
 
+clocks_in : map clock_in (codes "= 14" ∷ codes "= 014" ∷ codes "=14" ∷ codes "1 halt" ∷ []) ≡ Some (NetworkLine.Clock 14) ∷ None ∷ None ∷ None ∷ []
+clocks_in = refl
+
 motes : map mote_in (codes "1" ∷ codes "0" ∷ codes "01" ∷ []) ≡ Some 1 ∷ None ∷ None ∷ []
 motes = refl
 
@@ -45,13 +48,21 @@ header : global_header ≡ 212 ∷ 195 ∷ 178 ∷ 161 ∷ 2 ∷ 0 ∷ 4 ∷ 0 �
 unfolding global_header
 header = refl
 
--- tick 1,002 is 2,000 microseconds after second 1
-record_at : record_of 1002 (10 ∷ 11 ∷ []) ≡ 1 ∷ 0 ∷ 0 ∷ 0 ∷ 208 ∷ 7 ∷ 0 ∷ 0 ∷ 2 ∷ 0 ∷ 0 ∷ 0 ∷ 2 ∷ 0 ∷ 0 ∷ 0 ∷ 10 ∷ 11 ∷ []
+-- of ticks of a millisecond, tick 1,002 is 2,000 microseconds after second 1
+record_at : record_of 1000 1002 (10 ∷ 11 ∷ []) ≡ 1 ∷ 0 ∷ 0 ∷ 0 ∷ 208 ∷ 7 ∷ 0 ∷ 0 ∷ 2 ∷ 0 ∷ 0 ∷ 0 ∷ 2 ∷ 0 ∷ 0 ∷ 0 ∷ 10 ∷ 11 ∷ []
 unfolding moment_of lengths_of
 record_at = refl
 
-late : map is_late (4294967295999 ∷ 4294967296000 ∷ []) ≡ false ∷ true ∷ []
+-- of 128 ticks a second, tick 129 is 7,812 microseconds and a half after second 1: the half is cut off
+cut_off : moment_of 128 129 ≡ 1 ∷ 0 ∷ 0 ∷ 0 ∷ 132 ∷ 30 ∷ 0 ∷ 0 ∷ []
+unfolding moment_of
+cut_off = refl
+
+late : map (is_late 1000) (4294967295999 ∷ 4294967296000 ∷ []) ≡ false ∷ true ∷ []
 late = refl
+
+late_by_seconds : map (is_late 128) (549755813887 ∷ 549755813888 ∷ []) ≡ false ∷ true ∷ []
+late_by_seconds = refl
 
 bytes : map bytes_in (codes "0a0b" ∷ codes "-" ∷ []) ≡ (10 ∷ 11 ∷ []) ∷ [] ∷ []
 unfolding decode_pairs

@@ -18,20 +18,20 @@ global_header =
     to_le_bytes w32 2712847316 ++ to_le_bytes w16 2 ++ to_le_bytes w16 4 ++ to_le_bytes w32 0 ++ to_le_bytes w32 0
     ++ to_le_bytes w32 127 ++ to_le_bytes w32 230
 
--- when a frame was sent, by its tick, each a millisecond: the second, and the microseconds in it
-unfoldable pub moment_of : ℕ → List ℕ
-moment_of tick = to_le_bytes w32 (tick / 1000) ++ to_le_bytes w32 (tick % 1000 * 1000)
+-- when a frame was sent, by its tick and the number of ticks in a second: the second, and the whole microseconds in it
+unfoldable pub moment_of : ℕ → ℕ → List ℕ
+moment_of clock_second tick = to_le_bytes w32 (tick / clock_second) ++ to_le_bytes w32 (tick % clock_second * 1000000 / clock_second)
 
 -- the number of its bytes, as captured and as sent
 unfoldable pub lengths_of : ℕ → List ℕ
 lengths_of bytes = to_le_bytes w32 bytes ++ to_le_bytes w32 bytes
 
-abbrev pub record_of : ℕ → List ℕ → List ℕ
-record_of tick frame = moment_of tick ++ lengths_of (length frame) ++ frame
+abbrev pub record_of : ℕ → ℕ → List ℕ → List ℕ
+record_of clock_second tick frame = moment_of clock_second tick ++ lengths_of (length frame) ++ frame
 
 -- its second doesn't fit 32 bits
-abbrev pub is_late : ℕ → Bool
-is_late tick = nat_le 4294967296000 tick
+abbrev pub is_late : ℕ → ℕ → Bool
+is_late clock_second tick = nat_le 4294967296 (tick / clock_second)
 
 -- ---- the frames of a run
 
@@ -84,15 +84,15 @@ sends clock (line ∷ lines) = with_sent (sent_in clock line) (sends (clock_afte
 
 -- ---- the capture: no frame has more than 127 bytes
 
-abbrev pub is_sent_late : Sent → Bool
-is_sent_late sent = is_late sent.clock
+abbrev pub is_sent_late : ℕ → Sent → Bool
+is_sent_late clock_second sent = is_late clock_second sent.clock
 
-abbrev pub sent_record : Sent → List ℕ
-sent_record sent = record_of sent.clock (take 127 (bytes_in sent.digits.now))
+abbrev pub sent_record : ℕ → Sent → List ℕ
+sent_record clock_second sent = record_of clock_second sent.clock (take 127 (bytes_in sent.digits.now))
 
-abbrev pub pcap_with : List Sent → List ℕ
-pcap_with sent = global_header ++ flat_map sent_record sent
+abbrev pub pcap_with : ℕ → List Sent → List ℕ
+pcap_with clock_second sent = global_header ++ flat_map (sent_record clock_second) sent
 
--- the capture of a run whose transcript has these lines
-abbrev pub pcap_of : List NetworkLine → List ℕ
-pcap_of lines = pcap_with (sends 0 lines)
+-- the capture of a run whose transcript has these lines, and whose seconds have this number of ticks
+abbrev pub pcap_of : ℕ → List NetworkLine → List ℕ
+pcap_of clock_second lines = pcap_with clock_second (sends 0 lines)

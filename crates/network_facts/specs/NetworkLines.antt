@@ -1,7 +1,7 @@
 -- The lines of a network's transcript, and how each says what it says.
-use Rattle.std.specs.Prelude.{ℕ, Bool, true, false, ◌&&◌, List, ◌++◌, length, codes, decimal, Option, Some, None, option_and_then, if◌then◌else◌, nat_le}
+use Rattle.std.specs.Prelude.{ℕ, Bool, true, false, ◌&&◌, List, ◌++◌, length, codes, decimal, Option, Some, None, option_and_then, option_map, if◌then◌else◌, nat_le}
 use Rattle.transcript_lines.specs.Forms.{is_line}
-use Rattle.transcript_lines.specs.Lines.{ending_text, line_text}
+use Rattle.transcript_lines.specs.Lines.{behind, ending_text, line_text}
 use Rattle.transcript_lines.specs.Words.{read_number}
 use Rattle.transcript_lines.specs.declared.line.Ending.{Ending}
 use Rattle.transcript_lines.specs.declared.line.Input.{Input}
@@ -22,6 +22,10 @@ network_line_text (NetworkLine.Full from to) = codes "full " ++ two_motes_text f
 network_line_text (NetworkLine.Missed from to) = codes "missed " ++ two_motes_text from to
 network_line_text (NetworkLine.Unheard mote) = codes "missed - " ++ decimal mote
 network_line_text (NetworkLine.Ending ending) = ending_text ending
+
+-- the line of a clock: `= 14`
+abbrev pub clock_in : List ℕ → Option NetworkLine
+clock_in line = option_map (λ moment. NetworkLine.Clock moment) (option_and_then read_number (behind (codes "= ") line))
 
 -- motes have the numbers 1, 2, ..
 abbrev pub is_mote : ℕ → Bool

@@ -1,6 +1,6 @@
 //! The frames that were sent, as a capture: a file in the format of libpcap.
 
-ghost use Rattle.std.specs.Prelude.{◌≡◌, ◌≤◌, ◌++◌, false, true, length, take, IfOk, IsErrOf};
+ghost use Rattle.std.specs.Prelude.{◌≡◌, ◌≤◌, ◌<◌, ◌*◌, ◌/◌, ◌++◌, false, true, length, take, IfOk, IsErrOf};
 ghost use Rattle.std.specs.Int.{to_le_bytes};
 ghost use Rattle.std.specs.List.{list_any};
 ghost use mir.Syntax.{w32};
@@ -11,9 +11,6 @@ use crate::line::NetworkLine;
 use hex::FromHexError;
 use std::alloc::{AllocError, Global};
 use transcript_lines::{Line, Note};
-
-/// The ticks in a second: one is a millisecond.
-const SECOND: u64 = 1_000;
 
 /// The most bytes that a frame has.
 const LONGEST: usize = 127;
@@ -65,14 +62,24 @@ fn push_header(out: &mut Vec<u8>) -> Result<(), AllocError>
     out.extend_from_slice(&HEADER)
 }
 
+/// The microseconds of ticks that make less than a second, rounded down.
+fn microseconds(ticks: u64, clock_second: u32) -> u32
+    requires { ticks < clock_second }
+    ensures { result ≡ ticks * 1000000 / clock_second }
+{
+    (ticks * 1_000_000 / clock_second as u64) as u32
+}
+
 /// Appends when a frame was sent: the second, and the microseconds in it.
 #[tactic(auto, unfolding(crate::specs::Capture::moment_of))]
-fn push_moment(out: &mut Vec<u8>, clock: u64) -> Result<(), AllocError>
-    requires { spec.is_late clock ≡ false }
-    ensures { IfOk result (λ _. out.new.items ≡ out.old.items ++ spec.moment_of clock) }
+fn push_moment(out: &mut Vec<u8>, clock: u64, clock_second: u32) -> Result<(), AllocError>
+    requires second { 1 ≤ clock_second }
+    requires in_time { spec.is_late clock_second clock ≡ false }
+    ensures { IfOk result (λ _. out.new.items ≡ out.old.items ++ spec.moment_of clock_second clock) }
 {
-    push_word(out, (clock / SECOND) as u32)?;
-    push_word(out, (clock % SECOND * 1_000) as u32)
+    let second = clock_second as u64;
+    push_word(out, (clock / second) as u32)?;
+    push_word(out, microseconds(clock % second, clock_second))
 }
 
 /// Appends the number of a frame's bytes, as captured and as sent.
@@ -86,18 +93,24 @@ fn push_lengths(out: &mut Vec<u8>, bytes: usize) -> Result<(), AllocError>
 }
 
 /// Appends a frame with its header.
-fn push_record(out: &mut Vec<u8>, clock: u64, bytes: &[u8]) -> Result<(), AllocError>
-    requires in_time { spec.is_late clock ≡ false }
+fn push_record(
+    out: &mut Vec<u8>,
+    clock: u64,
+    bytes: &[u8],
+    clock_second: u32,
+) -> Result<(), AllocError>
+    requires second { 1 ≤ clock_second }
+    requires in_time { spec.is_late clock_second clock ≡ false }
     requires short { length bytes.now ≤ 127 }
-    ensures { IfOk result (λ _. out.new.items ≡ out.old.items ++ spec.record_of clock bytes.now) }
+    ensures { IfOk result (λ _. out.new.items ≡ out.old.items ++ spec.record_of clock_second clock bytes.now) }
 {
-    push_moment(out, clock)?;
+    push_moment(out, clock, clock_second)?;
     push_lengths(out, bytes.len())?;
     out.extend_from_slice(bytes)
 }
 
 /// The bytes that digits say; none where they are no digits.
-fn bytes_in(alloc: Global, digits: &str) -> Result<Vec<u8>, AllocError>
+pub fn bytes_in(alloc: Global, digits: &str) -> Result<Vec<u8>, AllocError>
     ensures { IfOk result (λ bytes. bytes.items ≡ spec.bytes_in digits.now) }
 {
     match hex::decode(alloc, digits) {
@@ -120,10 +133,11 @@ fn captured(bytes: &[u8]) -> &[u8]
 }
 
 /// Whether a frame was sent at a moment that the format can't state.
-fn is_late(clock: u64) -> bool
-    ensures { result ≡ spec.is_late clock }
+fn is_late(clock: u64, clock_second: u32) -> bool
+    requires { 1 ≤ clock_second }
+    ensures { result ≡ spec.is_late clock_second clock }
 {
-    clock / SECOND > 4_294_967_295
+    clock / clock_second as u64 >= 4_294_967_296
 }
 
 /// The frame that was sent, as a line says it.
@@ -162,46 +176,59 @@ fn sends_of<'a>(alloc: Global, lines: &[NetworkLine<'a>]) -> Result<Vec<Sent<'a>
 }
 
 /// Appends a frame, where the format can state its moment.
-fn push_sent(alloc: Global, out: &mut Vec<u8>, sent: &Sent<'_>) -> Result<(), CaptureFault>
-    ensures record { IfOk result (λ _. out.new.items ≡ out.old.items ++ spec.sent_record sent.now) }
-    ensures in_time { IfOk result (λ _. spec.is_late sent.now.clock ≡ false) }
-    ensures late { IsErrOf result CaptureFault.Late → spec.is_late sent.now.clock ≡ true }
+fn push_sent(
+    alloc: Global,
+    out: &mut Vec<u8>,
+    sent: &Sent<'_>,
+    clock_second: u32,
+) -> Result<(), CaptureFault>
+    requires { 1 ≤ clock_second }
+    ensures record { IfOk result (λ _. out.new.items ≡ out.old.items ++ spec.sent_record clock_second sent.now) }
+    ensures in_time { IfOk result (λ _. spec.is_late clock_second sent.now.clock ≡ false) }
+    ensures late { IsErrOf result CaptureFault.Late → spec.is_late clock_second sent.now.clock ≡ true }
 {
-    if is_late(sent.clock) {
+    if is_late(sent.clock, clock_second) {
         return Err(CaptureFault::Late);
     }
     let bytes = bytes_in(alloc, sent.digits)?;
-    push_record(out, sent.clock, captured(bytes.as_slice()))?;
+    push_record(out, sent.clock, captured(bytes.as_slice()), clock_second)?;
     Ok(())
 }
 
 /// The records of these frames after the global header.
-fn records_of(alloc: Global, sends: &[Sent<'_>]) -> Result<Vec<u8>, CaptureFault>
-    ensures pcap { IfOk result (λ pcap. pcap.items ≡ spec.pcap_with sends.now) }
-    ensures in_time { IfOk result (λ _. list_any spec.is_sent_late sends.now ≡ false) }
-    ensures late { IsErrOf result CaptureFault.Late → list_any spec.is_sent_late sends.now ≡ true }
+fn records_of(alloc: Global, sends: &[Sent<'_>], clock_second: u32) -> Result<Vec<u8>, CaptureFault>
+    requires { 1 ≤ clock_second }
+    ensures pcap { IfOk result (λ pcap. pcap.items ≡ spec.pcap_with clock_second sends.now) }
+    ensures in_time { IfOk result (λ _. list_any (spec.is_sent_late clock_second) sends.now ≡ false) }
+    ensures late { IsErrOf result CaptureFault.Late → list_any (spec.is_sent_late clock_second) sends.now ≡ true }
 {
     let mut out = Vec::new(alloc);
     push_header(&mut out)?;
     for sent in sends {
-        push_sent(alloc, &mut out, sent)?;
+        push_sent(alloc, &mut out, sent, clock_second)?;
     }
     Ok(out)
 }
 
 /// The capture of a run, by the lines of its transcript: a file in the format of libpcap, with a record for each frame that was sent, in
-/// order, at the millisecond that is the number of its tick. The frames are those of IEEE 802.15.4 without their check sequence.
+/// order, at the time of its tick: `clock_second` ticks are a second, and a microsecond that isn't whole is cut off. The frames are those
+/// of IEEE 802.15.4 without their check sequence.
 ///
 /// # Errors
 ///
 /// `Late` where a frame was sent too late for the format, or `Memory` where memory was refused.
 ///
 /// Source: draft-ietf-opsawg-pcap, sections 4 and 5; link type 230 is LINKTYPE_IEEE802_15_4_NOFCS.
-pub fn capture_of(alloc: Global, lines: &[NetworkLine<'_>]) -> Result<Vec<u8>, CaptureFault>
-    ensures pcap { IfOk result (λ pcap. pcap.items ≡ spec.pcap_of lines.now) }
-    ensures in_time { IfOk result (λ _. list_any spec.is_sent_late (spec.sends 0 lines.now) ≡ false) }
-    ensures late { IsErrOf result CaptureFault.Late → list_any spec.is_sent_late (spec.sends 0 lines.now) ≡ true }
+pub fn capture_of(
+    alloc: Global,
+    lines: &[NetworkLine<'_>],
+    clock_second: u32,
+) -> Result<Vec<u8>, CaptureFault>
+    requires { 1 ≤ clock_second }
+    ensures pcap { IfOk result (λ pcap. pcap.items ≡ spec.pcap_of clock_second lines.now) }
+    ensures in_time { IfOk result (λ _. list_any (spec.is_sent_late clock_second) (spec.sends 0 lines.now) ≡ false) }
+    ensures late { IsErrOf result CaptureFault.Late → list_any (spec.is_sent_late clock_second) (spec.sends 0 lines.now) ≡ true }
 {
     let sends = sends_of(alloc, lines)?;
-    records_of(alloc, sends.as_slice())
+    records_of(alloc, sends.as_slice(), clock_second)
 }

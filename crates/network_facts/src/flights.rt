@@ -1,10 +1,11 @@
-//! Which send each arrival belongs to, by the links of the network.
+//! Which send each arrival belongs to, by the links of the network: the frames on their way from one mote to another.
 
 ghost use Rattle.std.specs.Prelude.{◌≡◌, All, IfOk, IfSome, Some, slice_get, slice_index, true};
 ghost use Rattle.std.specs.Bool.{OnTrue};
 ghost use Rattle.std.specs.List.{list_any};
 ghost use Rattle.network_facts.specs.Flights as spec;
 ghost use Rattle.network_facts.specs.Flights.{IsEnded, IsFlight};
+ghost use Rattle.network_facts.specs.InFlight.{at_end};
 ghost use Rattle.network_facts.specs.declared.line.NetworkLine.{NetworkLine};
 ghost use Rattle.network_facts.specs.declared.flights.Fate.{Fate};
 ghost use Rattle.transcript_lines.specs.declared.line.Input.{Input};
@@ -13,6 +14,7 @@ ghost use Rattle.transcript_lines.specs.declared.line.Note.{Note};
 
 use crate::capture::clock_after;
 use crate::line::NetworkLine;
+use crate::walk::walked;
 use std::alloc::{AllocError, Global};
 use transcript_lines::{Input, Line, Note};
 
@@ -57,161 +59,6 @@ pub struct Flights {
     pub flights: Vec<Flight>,
     /// The lines with an arrival that belongs to no send: a frame from outside, where all links are known.
     pub outside: Vec<usize>,
-}
-
-/// A frame in flight.
-#[derive(Clone, Copy, Drop)]
-struct Pending<'a> {
-    from: u64,
-    to: u64,
-    sent: usize,
-    /// When it arrives.
-    due: u64,
-    digits: &'a str,
-}
-
-impl Pending<'_> {
-    fn ended(&self, line: usize, fate: Fate) -> Flight {
-        Flight {
-            from: self.from,
-            to: self.to,
-            sent: self.sent,
-            ended: line,
-            fate,
-        }
-    }
-}
-
-/// The walk over the lines of a run.
-#[derive(Drop)]
-struct Walk<'a, 'b> {
-    links: &'b [Link],
-    clock: u64,
-    /// The mote that sent last, and the line of that.
-    last: Option<(u64, usize)>,
-    /// In the order in which they were sent, and that of the links.
-    pending: Vec<Pending<'a>>,
-    found: Flights,
-}
-
-/// Puts a frame over each link of its sender.
-fn send<'a>(
-    pending: &mut Vec<Pending<'a>>,
-    links: &[Link],
-    clock: u64,
-    from: u64,
-    sent: usize,
-    digits: &'a str,
-) -> Result<(), AllocError> {
-    for link in links {
-        if link.from == from {
-            if let Some(due) = clock.checked_add(link.delay) {
-                pending.push(Pending {
-                    from,
-                    to: link.to,
-                    sent,
-                    due,
-                    digits,
-                })?;
-            }
-        }
-    }
-    Ok(())
-}
-
-impl<'a> Walk<'a, '_> {
-    /// A frame is heard: the first one in flight that is due there now and has these bytes.
-    fn hear(&mut self, line: usize, to: u64, digits: &str) -> Result<(), AllocError> {
-        let clock = self.clock;
-        let at = self.pending.as_slice().iter().position(|frame| frame.to == to
-            && frame.due == clock
-            && frame.digits == digits);
-        self.end_at(line, at, Fate::Heard)
-    }
-
-    /// A frame arrives at a mote that was halted.
-    fn miss(&mut self, line: usize, from: u64, to: u64) -> Result<(), AllocError> {
-        let clock = self.clock;
-        let at = self.pending.as_slice().iter().position(|frame| frame.from == from
-            && frame.to == to
-            && frame.due == clock);
-        self.end_at(line, at, Fate::Missed)
-    }
-
-    /// Ends the flight in this position. Where there is none, the frame comes from outside.
-    fn end_at(&mut self, line: usize, at: Option<usize>, fate: Fate) -> Result<(), AllocError> {
-        match at {
-            Some(at) if at < self.pending.len() => {
-                let frame = self.pending.remove(at);
-                self.found.flights.push(frame.ended(line, fate))?;
-            }
-            _ => self.found.outside.push(line)?,
-        }
-        Ok(())
-    }
-
-    /// The frame that was sent last isn't carried to this mote. Without links, that is all that is known of it.
-    fn drop_last(&mut self, line: usize, from: u64, to: u64, fate: Fate) -> Result<(), AllocError> {
-        let Some((last, sent)) = self.last else {
-            return Ok(());
-        };
-        if last != from {
-            return Ok(());
-        }
-        let at = self
-            .pending
-            .as_slice()
-            .iter()
-            .position(|frame| frame.sent == sent && frame.to == to);
-        if let Some(at) = at {
-            if at < self.pending.len() {
-                let _ = self.pending.remove(at);
-            }
-        }
-        self.found.flights.push(Flight {
-            from,
-            to,
-            sent,
-            ended: line,
-            fate,
-        })?;
-        Ok(())
-    }
-
-    fn take_mote_line(&mut self, at: usize, mote: u64, line: &Line<'a>) -> Result<(), AllocError> {
-        match *line {
-            Line::Note(Note::Sent(digits)) => {
-                self.last = Some((mote, at));
-                send(&mut self.pending, self.links, self.clock, mote, at, digits)
-            }
-            Line::Input(Input::Frame(digits)) => self.hear(at, mote, digits),
-            _ => Ok(()),
-        }
-    }
-
-    fn take_line(&mut self, at: usize, line: &NetworkLine<'a>) -> Result<(), AllocError> {
-        self.clock = clock_after(self.clock, line);
-        match *line {
-            NetworkLine::Mote(mote, told) => self.take_mote_line(at, mote, &told),
-            NetworkLine::Lost(from, to) => self.drop_last(at, from, to, Fate::Lost),
-            NetworkLine::Full(from, to) => self.drop_last(at, from, to, Fate::Full),
-            NetworkLine::Missed(from, to) => self.miss(at, from, to),
-            NetworkLine::Clock(_) | NetworkLine::Unheard(_) | NetworkLine::Ending(_) => Ok(()),
-        }
-    }
-
-    /// What is in flight at the end.
-    fn end(self, lines: usize) -> Result<Flights, AllocError> {
-        let Walk {
-            pending,
-            mut found,
-            ..
-        } = self;
-        for frame in pending.as_slice() {
-            found.flights.push(frame.ended(lines, Fate::UnderWay))?;
-        }
-        Ok(found)
-    }
 }
 
 /// The clock at each line.
@@ -383,29 +230,9 @@ impl Checked<'_, '_> {
     }
 }
 
-/// What a walk over the lines finds.
-fn walked(alloc: Global, lines: &[NetworkLine<'_>], links: &[Link]) -> Result<Flights, AllocError> {
-    let mut walk = Walk {
-        links,
-        clock: 0,
-        last: None,
-        pending: Vec::new(alloc),
-        found: Flights {
-            flights: Vec::new(alloc),
-            outside: Vec::new(alloc),
-        },
-    };
-    for at in 0..lines.len() {
-        walk.take_line(at, &lines[at])?;
-    }
-    walk.end(lines.len())
-}
-
 /// The frames on their way, by the lines of a transcript and the links in the order of their lines. An arrival belongs to the first send
 /// that is due there at that moment, by a link's delay, and has the same bytes. Where two links lead from one mote to another, a frame
 /// that isn't carried is taken for the first link's.
-///
-/// Promised is that each is a flight of the run, not that none is left out.
 ///
 /// # Errors
 ///
@@ -415,7 +242,8 @@ pub fn flights_of(
     lines: &[NetworkLine<'_>],
     links: &[Link],
 ) -> Result<Flights, AllocError>
-    ensures { IfOk result (λ found. All (IsFlight links.now lines.now) found.flights.items) }
+    ensures flights { IfOk result (λ found. All (IsFlight links.now lines.now) found.flights.items) }
+    ensures outside { IfOk result (λ found. found.outside.items ≡ (at_end links.now lines.now).outside) }
 {
     let found = walked(alloc, lines, links)?;
     let clocks = clocks_of(alloc, lines)?;

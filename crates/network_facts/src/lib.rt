@@ -6,7 +6,8 @@ pub mod capture;
 pub mod flights;
 pub mod line;
 mod numbers;
+mod walk;
 
-pub use capture::{CaptureFault, capture_of};
+pub use capture::{CaptureFault, bytes_in, capture_of};
 pub use flights::{Fate, Flight, Flights, Link, flights_of};
 pub use line::{NetworkLine, read_network_line};

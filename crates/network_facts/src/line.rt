@@ -1,7 +1,7 @@
 //! The lines of a network's transcript.
 
-ghost use Rattle.std.specs.Prelude.{◌≡◌, true, IfSome};
-ghost use Rattle.network_facts.specs.NetworkLines.{is_network_line, is_of_mote, is_short, network_line_text};
+ghost use Rattle.std.specs.Prelude.{◌≡◌, true, Some, IfSome};
+ghost use Rattle.network_facts.specs.NetworkLines.{clock_in, is_network_line, is_of_mote, is_short, network_line_text};
 
 use crate::numbers::{mote_in, number_in, two_motes_in};
 use transcript_lines::{Ending, Input, Line, Note, read_line};
@@ -92,6 +92,7 @@ fn read_fate(line: &str) -> Option<NetworkLine<'_>>
 pub fn read_network_line(line: &str) -> Option<NetworkLine<'_>>
     ensures told { IfSome result (λ told. line.now ≡ network_line_text told) }
     ensures form { IfSome result (λ told. is_network_line told ≡ true) }
+    ensures clock { IfSome (clock_in line.now) (λ told. result ≡ Some told) }
 {
     if let Some(text) = line.strip_prefix("= ") {
         return Some(NetworkLine::Clock(number_in(text)?));

@@ -4,6 +4,7 @@ ghost use Rattle.std.specs.Prelude.{◌≡◌, IfOk};
 ghost use Rattle.picture_svg.specs.Markup.{IsDocument};
 
 use crate::flying::{draw_flights, draw_outside};
+use crate::frames::Frames;
 use crate::names::name_of;
 use crate::options::Wish;
 use crate::place::{CHARACTER, CLOCK, Layout, MOST_LANES, MOTES, ROW, ROWS_TO_HEAD};
@@ -70,6 +71,7 @@ struct Chart {
     layout: Layout,
     rows: Rows,
     flights: Flights,
+    frames: Frames,
     motes: usize,
 }
 
@@ -81,6 +83,7 @@ impl Chart {
         Ok(Chart {
             layout: Layout::new(motes, rows.count()),
             flights: flights_of(alloc, lines, run.links.as_slice())?,
+            frames: Frames::of(alloc, lines)?,
             rows,
             motes,
         })
@@ -366,7 +369,7 @@ fn draw_rows(pen: &mut Pen, chart: &Chart, run: &Run<'_>) -> Result<(), AllocErr
     let lines = run.lines.as_slice();
     for (number, row) in chart.rows.rows.iter().enumerate() {
         if let (Some(at), Some(line)) = (chart.rows.shown_at(number), lines.get(row.line)) {
-            let words = words_of(pen.alloc, line)?;
+            let words = words_of(pen.alloc, line, &chart.frames)?;
             draw_motes(pen, &chart.layout, at, *row, words.mote)?;
             draw_words(pen, &chart.layout, at, &words)?;
         }
@@ -436,20 +439,15 @@ fn draw_ground(pen: &mut Pen, layout: &Layout) -> Result<(), AllocError> {
 /// Draws the frames on their way.
 fn draw_frames(pen: &mut Pen, chart: &Chart, run: &Run<'_>) -> Result<(), AllocError> {
     let (layout, rows, flights) = (&chart.layout, &chart.rows, &chart.flights);
+    let lines = run.lines.as_slice();
     let title = if run.has_script {
         "from outside"
     } else {
         "a frame arrives"
     };
-    draw_flights(pen, layout, rows, flights.flights.as_slice())?;
-    draw_outside(
-        pen,
-        layout,
-        rows,
-        run.lines.as_slice(),
-        flights.outside.as_slice(),
-        title,
-    )
+    let found = flights.flights.as_slice();
+    draw_flights(pen, layout, rows, found, lines, &chart.frames)?;
+    draw_outside(pen, layout, rows, lines, flights.outside.as_slice(), title)
 }
 
 /// All that a chart shows.

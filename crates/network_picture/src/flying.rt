@@ -1,5 +1,6 @@
 //! The frames of a chart on their way.
 
+use crate::frames::Frames;
 use crate::place::{Layout, ROW};
 use crate::rows::Rows;
 use network_facts::{Fate, Flight, NetworkLine};
@@ -92,12 +93,25 @@ fn commands_of(
     }
 }
 
+/// The words for a flight, with the frame's name where it has one.
+fn title_of(pen: &Pen, flight: &Flight, name: &str) -> Result<String, AllocError> {
+    let between = if name.is_empty() { "" } else { " " };
+    format!(in pen.alloc;
+        "{name}{between}from mote {} to mote {}: {}",
+        flight.from,
+        flight.to,
+        fate_words(flight.fate)
+    )
+}
+
 /// Draws a flight, where one of its ends is shown and both motes have lanes.
 fn draw_flight(
     pen: &mut Pen,
     layout: &Layout,
     rows: &Rows,
     flight: &Flight,
+    lines: &[NetworkLine<'_>],
+    frames: &Frames,
 ) -> Result<(), AllocError> {
     let ((first, is_first), (last, is_last)) = (
         rows.place_of(flight.sent),
@@ -112,12 +126,8 @@ fn draw_flight(
         return Ok(());
     }
     let commands = commands_of(pen, layout, flight, first, last)?;
-    let title = format!(in pen.alloc;
-        "from mote {} to mote {}: {}",
-        flight.from,
-        flight.to,
-        fate_words(flight.fate)
-    )?;
+    let name = frames.name_sent(pen.alloc, lines, flight.sent)?;
+    let title = title_of(pen, flight, name.as_str())?;
     pen.line(fate_class(flight.fate), commands.as_str(), title.as_str())
 }
 
@@ -127,9 +137,11 @@ pub(crate) fn draw_flights(
     layout: &Layout,
     rows: &Rows,
     flights: &[Flight],
+    lines: &[NetworkLine<'_>],
+    frames: &Frames,
 ) -> Result<(), AllocError> {
     for flight in flights {
-        draw_flight(pen, layout, rows, flight)?;
+        draw_flight(pen, layout, rows, flight, lines, frames)?;
     }
     Ok(())
 }

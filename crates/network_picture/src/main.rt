@@ -1,16 +1,21 @@
 //! Draws the run of a network: a script and a transcript come from standard input, one SVG or capture goes to standard output.
 //!
 //! The contracts here promise that the program is safe and that it ends, and that a picture is a well-formed document. What a line says,
-//! and each byte of a capture, is promised by `network_facts`. How a script's links are read, and where a picture has what, is only
-//! tested.
+//! and each byte of a capture, is promised by `network_facts`. How a script's links are read, what frames are called, and where a picture
+//! has what, is only tested.
 #![tactic(auto)]
 
 mod chart;
+mod cursor;
 mod flying;
+mod frames;
 mod links;
+mod lowpan;
 mod names;
 mod options;
+mod packet;
 mod place;
+mod radio_header;
 mod reading;
 mod rows;
 mod style;
@@ -74,7 +79,7 @@ fn written(alloc: Global, run: &Run<'_>, wish: Wish) -> Result<Vec<u8>, Undrawn>
         return Err(Undrawn::Quiet);
     }
     if wish.pcap {
-        return Ok(capture_of(alloc, run.lines.as_slice())?);
+        return Ok(capture_of(alloc, run.lines.as_slice(), wish.clock_second.max(1))?);
     }
     Ok(chart_of(alloc, run, wish)?)
 }

@@ -24,7 +24,9 @@ Exit status:
 Example:
   network < three.net > three.transcript
   cat three.net three.transcript | network_picture > three.svg
-  network_picture --pcap < three.transcript > three.pcap";
+  network_picture --pcap --clock-second 1000 < three.transcript > three.pcap";
+
+const CLOCK_SECOND: &str = "CLOCK_SECOND of the network's programs, for the times of a capture";
 
 const PCAP: &str =
     "Writes the frames that were sent in place of the picture, as a capture for tshark and Wireshark";
@@ -40,6 +42,8 @@ pub(crate) const PROGRAM: Program = Program {
 pub(crate) struct Wish {
     /// A capture in place of the picture.
     pub(crate) pcap: bool,
+    /// The number of ticks in a second, at least 1.
+    pub(crate) clock_second: u32,
     /// The clocks between which the picture shows the run.
     pub(crate) from: u64,
     pub(crate) to: u64,
@@ -60,7 +64,10 @@ fn command<'a>(alloc: Global, program: Program) -> Result<Command<'a>, AllocErro
         .version(program.version)
         .about(ABOUT)
         .after_help(program.after_help);
-    with_range(alloc, command)?.arg(flag(alloc, "pcap", PCAP))
+    let seconds = value_parser!(u32).range(1..=999_999_999);
+    with_range(alloc, command)?
+        .arg(flag(alloc, "pcap", PCAP))?
+        .arg(number_option(alloc, "clock-second", seconds, CLOCK_SECOND).default_value("128"))
 }
 
 /// What the parser makes of the words, of which the first is the program's name.
@@ -78,6 +85,7 @@ pub(crate) fn wish_of(alloc: Global, words: &[&str]) -> Result<Wish, Failure<'st
     let matches = parse(alloc, words)?;
     Ok(Wish {
         pcap: matches.get_flag("pcap"),
+        clock_second: matches.get_one::<u32>("clock-second").unwrap_or(128),
         from: matches.get_one::<u64>("from").unwrap_or(0),
         to: matches.get_one::<u64>("to").unwrap_or(u64::MAX),
     })

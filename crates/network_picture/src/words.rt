@@ -1,9 +1,10 @@
 //! The short words of a row.
 
+use crate::frames::Frames;
 use network_facts::NetworkLine;
 use picture_facts::words::{push_call, push_ending, push_input, push_note, push_told};
 use std::alloc::{AllocError, Global};
-use transcript_lines::{Ending, Line, Origin, Turn};
+use transcript_lines::{Ending, Input, Line, Note, Origin, Turn};
 
 /// The words of a row, and the mote beside whose lane they are; no mote for the end of the run.
 #[derive(Drop)]
@@ -31,6 +32,29 @@ fn push_line(alloc: Global, out: &mut String, line: &Line<'_>) -> Result<(), All
         Line::Turn(turn) => push_turn(alloc, out, &turn),
         Line::Note(note) => push_note(alloc, out, &note),
         Line::Ending(_) => out.push_str("✗ halted"),
+    }
+}
+
+/// A line of a mote, with the name of its frame in place of the bytes where the frame has one.
+fn push_mote_line(
+    alloc: Global,
+    out: &mut String,
+    line: &Line<'_>,
+    frames: &Frames,
+) -> Result<(), AllocError> {
+    let (digits, is_sent) = match *line {
+        Line::Note(Note::Sent(digits)) => (digits, true),
+        Line::Input(Input::Frame(digits)) => (digits, false),
+        _ => return push_line(alloc, out, line),
+    };
+    let name = frames.name(alloc, digits)?;
+    let size = digits.len() / 2;
+    if name.is_empty() {
+        push_line(alloc, out, line)
+    } else if is_sent {
+        write!(out, "sent {name}, {size} bytes")
+    } else {
+        write!(out, "frame of {size}: {name}")
     }
 }
 
@@ -64,16 +88,20 @@ fn is_red(line: &NetworkLine<'_>) -> bool {
         NetworkLine::Clock(_)
             | NetworkLine::Mote(_, Line::Input(_))
             | NetworkLine::Mote(_, Line::Turn(_))
-            | NetworkLine::Mote(_, Line::Note(transcript_lines::Note::Sent(_)))
+            | NetworkLine::Mote(_, Line::Note(Note::Sent(_)))
     )
 }
 
 /// The words of a line.
-pub(crate) fn words_of(alloc: Global, line: &NetworkLine<'_>) -> Result<Words, AllocError> {
+pub(crate) fn words_of(
+    alloc: Global,
+    line: &NetworkLine<'_>,
+    frames: &Frames,
+) -> Result<Words, AllocError> {
     let mut text = String::new(alloc);
     match *line {
         NetworkLine::Clock(moment) => write!(text, "= {moment}")?,
-        NetworkLine::Mote(_, told) => push_line(alloc, &mut text, &told)?,
+        NetworkLine::Mote(_, told) => push_mote_line(alloc, &mut text, &told, frames)?,
         NetworkLine::Lost(_, to) => write!(text, "lost to {to}")?,
         NetworkLine::Full(_, to) => write!(text, "no room to {to}")?,
         NetworkLine::Missed(from, _) => write!(text, "✗ missed from {from}")?,

@@ -173,8 +173,8 @@ unfolding read_line
 an_input = refl
 
 -- a mote that is asked for, and no mote
-there : (is_there (Some 3) 3 ≡ true) × (is_there (Some 4) 3 ≡ false) × (is_there None 0 ≡ true)
-there = (refl, refl, refl)
+there : (is_there (Some 3) 3 ≡ true) × (is_there (Some 4) 3 ≡ false) × (is_there (Some 0) 3 ≡ false) × (is_there None 0 ≡ true)
+there = (refl, refl, refl, refl)
 
 at_once : EndsAtOnce (End.BadLine 7) (codes "bad line 7\n") (Ok (End.BadLine 7))
 unfolding line_of digits

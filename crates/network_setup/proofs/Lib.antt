@@ -1,6 +1,7 @@
 pub mod Asking
 pub mod Booting
 pub mod Cutting
+pub mod Ending
 pub mod Examples
 mod CounterExamples
 pub mod Linking

@@ -1,5 +1,5 @@
 -- The run of a whole script, from its first line on.
-use Rattle.std.specs.Prelude.{◌≡◌, ◌≤◌, ◌<◌, ◌+◌, ℕ, Bool, true, false, List, [], ◌++◌, length, nat_le, Option, Some, None, Result, Ok, Err}
+use Rattle.std.specs.Prelude.{◌≡◌, ◌≤◌, ◌<◌, ◌+◌, ℕ, Bool, true, false, ◌&&◌, List, [], ◌++◌, length, nat_le, Option, Some, None, Result, Ok, Err}
 use Rattle.mote_text.specs.Script.{script_limit}
 use Rattle.mote_text.specs.declared.script.End.{End}
 use Rattle.network_run.specs.NetworkRunText.{script_lines}
@@ -18,10 +18,10 @@ EndsAtOnce end written (Ok told) = (told ≡ end) × (written ≡ last_line end)
 EndsAtOnce end written (Err fault) =
     (fault ≡ SetUpRunFault.Run RunFault.Write) × ((rest : List ℕ) × (written ++ rest ≡ last_line end))
 
--- the mote that is asked for, if one is, is among so many
+-- the mote that is asked for, if one is, is one of this many
 abbrev pub is_there : Option ℕ → ℕ → Bool
 is_there None motes = true
-is_there (Some number) motes = nat_le number motes
+is_there (Some number) motes = nat_le 1 number && nat_le number motes
 
 -- the lines up to the first input were executed, and set up this network; those from that one on are left, and it is line `first`
 pub record IsSetUp (script : List ℕ) (first : ℕ) (left : List (List ℕ)) (setup : SetupView) : Type 0 where

@@ -33,3 +33,9 @@ abbrev pub IfMalformed : {A : Type 0} → Result A LineFault → Type 0 → Type
 IfMalformed (Ok _) Why = Unit {0}
 IfMalformed (Err LineFault.Malformed) Why = Why
 IfMalformed (Err LineFault.Memory) Why = Unit {0}
+
+-- where memory is refused, this is so
+abbrev pub IfNoMemory : {A : Type 0} → Result A LineFault → Type 0 → Type 0
+IfNoMemory (Ok _) Why = Unit {0}
+IfNoMemory (Err LineFault.Malformed) Why = Unit {0}
+IfNoMemory (Err LineFault.Memory) Why = Why

@@ -1,11 +1,14 @@
 //! The run of a whole script.
 
-ghost use Rattle.std.specs.Prelude.{◌≡◌, ◌<◌, ◌+◌, ◌-◌, ◌^◌, ◌↔◌, [], length, IsErrOf};
+ghost use Rattle.std.specs.Prelude.{◌≡◌, ◌<◌, ◌+◌, ◌-◌, ◌^◌, ◌↔◌, [], length, Err, IsErrOf};
 ghost use Rattle.network_run.specs.NetworkRunText.{Gives, script_lines};
 ghost use Rattle.network_setup.specs.MoteApps.{voices_of};
 ghost use Rattle.network_setup.specs.ScriptRuns.{EndsAtOnce, HasRunScript, is_there};
 ghost use Rattle.network_setup.specs.SetUpRuns.{HasRunSetUp, start_of};
 ghost use Rattle.network_setup.specs.SetupView.{SetupView};
+ghost use Rattle.network_setup.specs.declared.fault.LineFault.{LineFault};
+ghost use Rattle.network_setup.specs.declared.fault.SetUpRunFault.{SetUpRunFault};
+ghost use Rattle.mote_text.specs.declared.script.End.{End};
 ghost use Rattle.network_text.specs.NetworkScript.{read_network_lines};
 
 use crate::fault::{LineFault, SetUpRunFault};
@@ -33,12 +36,31 @@ fn end_at_once<K: ByteSink>(sink: &mut K, end: End) -> Result<End, SetUpRunFault
     }
 }
 
-/// Whether there is the mote that is asked for, if one is.
+/// Ends a run of which one of the first lines wasn't taken: this one, as it is malformed or memory was refused.
+fn end_in_setup<K: ByteSink>(
+    sink: &mut K,
+    number: u32,
+    fault: LineFault,
+) -> Result<End, SetUpRunFault>
+    requires countable { K.failure_count sink.old < 2 ^ 64 - 1 }
+    ensures bad_line { K.is_named → fault ≡ LineFault.Malformed →
+        Gives (K.given sink.old) (K.given sink.new) (λ written. EndsAtOnce (End.BadLine number) written result) }
+    ensures no_memory { fault ≡ LineFault.Memory →
+        (result ≡ Err SetUpRunFault.Memory) × (K.is_named → K.given sink.new ≡ K.given sink.old) }
+    ensures write_fault { IsErrOf result (SetUpRunFault.Run RunFault.Write) ↔ (K.failure_count sink.old < K.failure_count sink.new) }
+{
+    match fault {
+        LineFault::Malformed => end_at_once(sink, End::BadLine(number)),
+        LineFault::Memory => Err(SetUpRunFault::Memory),
+    }
+}
+
+/// Whether there is the mote that is asked for, if one is. The first one has number 1.
 fn is_there(only: Option<u32>, motes: usize) -> bool
     ensures { result ≡ is_there only motes }
 {
     match only {
-        Some(number) => number as usize <= motes,
+        Some(number) => number >= 1 && number as usize <= motes,
         None => true,
     }
 }
@@ -68,8 +90,7 @@ pub fn run_script<K: ByteSink>(
     let mut setup = Setup::new(alloc);
     let inputs = match read_setup(alloc, script, &mut setup) {
         Ok(inputs) => inputs,
-        Err((_, LineFault::Memory)) => return Err(SetUpRunFault::Memory),
-        Err((number, LineFault::Malformed)) => return end_at_once(sink, End::BadLine(number)),
+        Err((number, fault)) => return end_in_setup(sink, number, fault),
     };
     if !is_there(only, setup.motes.len()) {
         return Err(SetUpRunFault::NoMote);

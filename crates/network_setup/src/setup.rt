@@ -9,7 +9,7 @@ ghost use Rattle.network_setup.specs.Lines.{line_said, with_links_said, with_roo
 ghost use Rattle.network_setup.specs.MoteLines.{AddsMotes, HasOneMore, IsAdded, IsListLast, SaysNoMote, SaysNoMotes, mote_line, with_calls, with_option};
 ghost use Rattle.network_setup.specs.SetUpRuns.{HasBooted};
 ghost use Rattle.network_setup.specs.SetupView.{HasJustBooted, empty_setup};
-ghost use Rattle.network_setup.specs.Setting.{Does, IfMalformed};
+ghost use Rattle.network_setup.specs.Setting.{Does, IfMalformed, IfNoMemory};
 
 use crate::carriage::Carriage;
 use crate::fault::LineFault;
@@ -234,6 +234,7 @@ fn boot(alloc: Global, config: Config) -> Result<Session, LineFault>
     ensures booted { IfOk result (λ mote. HasJustBooted config mote) }
     ensures bootable { IfOk result (λ _. is_bootable config ≡ true) }
     ensures malformed { IfMalformed result (is_bootable config ≡ false) }
+    ensures memory { IfNoMemory result (is_bootable config ≡ true) }
 {
     match Session::boot(alloc, config) {
         Ok(mote) => Ok(mote),
@@ -247,6 +248,7 @@ fn boot_mote(alloc: Global, motes: &mut Vec<Session>, config: Config) -> Result<
     ensures added { IfOk result (λ _. IsAdded config motes.old.items motes.new.items) }
     ensures bootable { IfOk result (λ _. is_bootable config ≡ true) }
     ensures malformed { IfMalformed result (is_bootable config ≡ false) }
+    ensures memory { IfNoMemory result (is_bootable config ≡ true) }
     ensures err { OnErr result (motes.new.items ≡ motes.old.items) }
 {
     let mote = match boot(alloc, config) {
@@ -348,6 +350,7 @@ impl Setup {
         ensures added { IfOk result (λ _. HasOneMore config applications self.old self.new) }
         ensures bootable { IfOk result (λ _. is_bootable config ≡ true) }
         ensures malformed { IfMalformed result (is_bootable config ≡ false) }
+        ensures memory { IfNoMemory result (is_bootable config ≡ true) }
     {
         boot_mote(alloc, &mut self.motes, config)?;
         if self.applications.push(applications).is_err()

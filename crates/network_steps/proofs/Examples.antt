@@ -1,5 +1,5 @@
 -- Worked examples: lines of what happened, losses that are still to be reported, and refusals.
-use Rattle.std.proofs.Common.{◌≡◌, ℕ, [], ◌∷◌, arith, codes, refl, None, Some}
+use Rattle.std.proofs.Common.{◌≡◌, ◌⊎◌, ◌∙◌, ℕ, [], ◌∷◌, false, arith, codes, inl, inr, refl, sym, None, Option, Some}
 use Rattle.std.specs.Fmt.{digits}
 use Rattle.medium_core.specs.Air.{still_air}
 use Rattle.medium_core.specs.declared.link.Fate.{Fate}
@@ -8,12 +8,16 @@ use Rattle.medium_core.specs.declared.link.Loss.{Loss}
 use Rattle.mote_session.specs.declared.refusal.SessionRefusal.{SessionRefusal}
 use Rattle.mote_text.specs.EntryText.{line_of}
 use Rattle.network_session.specs.Network.{NetworkView}
+use Rattle.network_session.specs.Refusals.{step_refusal}
+use Rattle.network_session.specs.declared.fault.NetworkFault.{NetworkFault}
+use Rattle.network_text.specs.NetworkRuns.{moves_text}
 use Rattle.network_steps.specs.Lines.{came_line, losses_left}
-use Rattle.network_steps.specs.Refusals.{due_refusal, link_refusal, tick_refusal}
+use Rattle.network_steps.specs.Refusals.{due_refusal, fault_of, link_refusal, tick_refusal}
 use Rattle.network_steps.specs.StepsView.{StepsView, opened_net, opened_steps, unlinked}
-use Rattle.network_steps.specs.Works.{TakesLink, came_of, last_after, phase_after}
+use Rattle.network_steps.specs.Works.{IsRefused, RefusesInput, TakesLink, came_of, last_after, phase_after}
 use Rattle.network_steps.specs.declared.came.Came.{Came}
 use Rattle.network_steps.specs.declared.came.Phase.{Phase}
+use Rattle.network_steps.specs.declared.came.Waiting.{Waiting}
 use Rattle.network_steps.specs.declared.fault.StepsFault.{StepsFault}
 use Rattle.network_session.specs.declared.outcome.Outcome.{Outcome}
 
@@ -78,3 +82,31 @@ unlinked_lists = refl
 for_nothing : (from : ℕ) (link : Link) (new : StepsView) → new.free_links ≡ 2 → TakesLink from link empty new → ⊥
 unfolding empty
 for_nothing from link new free takes = absurd (omega (arith, free, takes.one))
+
+-- ---- what `next` refuses
+
+module _ (fault : StepsFault) (old new : NetworkView) (refused : IsRefused fault old None new) where
+  -- nothing is refused where the next step can be made, and no input waits
+  no_reason : step_refusal new ≡ None → ⊥
+  no_reason goes = by_side refused.refuses
+    where
+      by_side : (step_refusal new ≡ Some refused.cause) ⊎ RefusesInput None new refused.cause → ⊥
+      by_side (inl step) = let e : None ≡ Some refused.cause = sym goes ∙ step in absurd (cc)
+      by_side (inr input) = input
+
+  -- the moves before have no lines
+  a_line : moves_text false old refused.moves ≡ codes "= 1\n" → ⊥
+  a_line text = let e : codes "= 1\n" ≡ [] = sym text ∙ refused.silent in absurd (cc)
+
+-- a network refuses no step for lack of room
+no_room : (waiting : Option Waiting) (old new : NetworkView) → IsRefused StepsFault.NoRoom old waiting new → ⊥
+no_room waiting old new refused = by_cause refused.cause refused.reported
+  where
+    by_cause : (cause : NetworkFault) → StepsFault.NoRoom ≡ fault_of cause → ⊥
+    by_cause (NetworkFault.Refused refusal) e = absurd (cc)
+    by_cause NetworkFault.NoTurn e = absurd (cc)
+    by_cause NetworkFault.NotAtRest e = absurd (cc)
+    by_cause NetworkFault.NoMote e = absurd (cc)
+    by_cause NetworkFault.Behind e = absurd (cc)
+    by_cause NetworkFault.IsTime e = absurd (cc)
+    by_cause NetworkFault.TooLong e = absurd (cc)

@@ -1,19 +1,21 @@
 -- What a network comes to, and the text of that.
-use Rattle.std.proofs.Common.{◌≡◌, ℕ, ◌<◌, nat_lt, not, ◌&&◌, arith, Bool, true, false, List, [], ◌∷◌, ◌++◌, slice_get, refl, ap, sym, subst, ◌∙◌, append-nil, Option, None, Some, is_some, IsSomeAnd, Result, Ok, Err, IfOk, codes, if◌then◌else◌}
+use Rattle.std.proofs.Common.{◌≡◌, ℕ, ◌<◌, nat_lt, not, ◌&&◌, arith, Bool, true, false, List, [], ◌∷◌, ◌++◌, slice_get, refl, ap, sym, subst, ◌∙◌, append-nil, Option, None, Some, is_some, IsSomeAnd, Result, Ok, Err, IfErr, IfOk, IfSome, inl, inr, codes, if◌then◌else◌}
 use Rattle.std.proofs.lemmas.Bool.Decides.{nat_tests}
 use Rattle.std.proofs.lemmas.List.{append_assoc}
 use Rattle.medium_core.specs.Air.{Air, arrival, links_from, sent}
 use Rattle.medium_core.specs.declared.flight.Flight.{Flight}
 use Rattle.mote_session.specs.Sent.{sent_in}
-use Rattle.mote_session.specs.SessionView.{SessionView}
+use Rattle.mote_session.specs.SessionView.{AwaitedCall, SessionView}
+use Rattle.mote_session.specs.declared.refusal.SessionRefusal.{SessionRefusal}
 use Rattle.mote_types.specs.declared.entry.Entry.{Entry}
 use Rattle.mote_types.specs.declared.entry.Input.{Input}
 use Rattle.mote_types.specs.declared.entry.Note.{Note}
 use Rattle.network_session.specs.Logs.{happened, made, made_by}
 use Rattle.network_session.specs.Network.{NetworkView}
-use Rattle.network_session.specs.Refusals.{mote_at_work}
+use Rattle.network_session.specs.Refusals.{feed_refusal, mote_at_work, step_refusal, work_refusal}
 use Rattle.network_session.specs.Schedule.{due_step, is_unheard}
 use Rattle.network_session.specs.Steps.{IsNetworkFed, IsToldTime, aired_if}
+use Rattle.network_session.specs.declared.fault.NetworkFault.{NetworkFault}
 use Rattle.network_session.specs.declared.outcome.Outcome.{Outcome}
 use Rattle.network_session.proofs.Heard.{missed_due}
 use Rattle.network_session.proofs.Working.{there_after}
@@ -22,9 +24,9 @@ use Rattle.network_text.specs.NetworkText.{clock_line, fate_lines, frame_line, l
 use Rattle.network_text.specs.declared.input.NetworkInput.{NetworkInput}
 use Rattle.network_text.proofs.Moves.{inputs_on, leads_on, text_on}
 use Rattle.network_steps.specs.Lines.{is_loss, line_if, loss_line, losses_left}
-use Rattle.network_steps.specs.Refusals.{awaited_turn, turn_of}
+use Rattle.network_steps.specs.Refusals.{awaited_turn, fault_of, turn_of}
 use Rattle.network_steps.specs.StepsView.{StepsView}
-use Rattle.network_steps.specs.Works.{GoesNext, IsCame, ToldIfBehind, WorksTo, came_of, inputs_waiting, is_halted_in, is_reported, last_after, new_line, noted, phase_after, sending_after, sending_by}
+use Rattle.network_steps.specs.Works.{GoesNext, GoesOn, IsCame, IsRefused, ToldIfBehind, WorksTo, came_of, inputs_waiting, is_halted_in, is_reported, last_after, new_line, noted, phase_after, sending_after, sending_by}
 use Rattle.network_steps.specs.declared.came.Came.{Came}
 use Rattle.network_steps.specs.declared.came.Phase.{Phase}
 use Rattle.network_steps.specs.declared.came.Sending.{Sending}
@@ -321,3 +323,92 @@ told_so m old new told rested behind halted if_told if_untold = by_mote (slice_g
               record { rested = rested; behind = rw there (is_less mote.machine.clock old.air.clock late); told = if_told (b ∙ late) };
           untold = λ is. if_untold (b ∙ and_false mote.machine.is_halted (nat_lt mote.machine.clock old.air.clock) (sym h) is);
         }
+
+-- ---- what is refused
+
+-- the next step, after steps without lines
+pub step_refused : (cause : NetworkFault) (waiting : Option Waiting) (old new : NetworkView) → GoesOn old new → step_refusal new ≡ Some cause →
+    IsRefused (fault_of cause) old waiting new
+step_refused cause waiting old new g refuses =
+    record {
+      moves = g.moves;
+      leads = g.leads;
+      silent = g.silent;
+      left = inputs_waiting waiting;
+      inputs = rw g.own refl;
+      cause = cause;
+      refuses = inl refuses;
+      reported = refl;
+    }
+
+-- the input that waits, at rest
+pub input_refused : (cause : NetworkFault) (w : Waiting) (old new : NetworkView) → IsResting old → feed_refusal w.mote w.input old ≡ Some cause →
+    new ≡ old → IsRefused (fault_of cause) old (Some w) new
+input_refused cause w old new rested refuses same =
+    subst (IsRefused (fault_of cause) old (Some w)) (sym same)
+    (record {
+      moves = [];
+      leads = refl;
+      silent = refl;
+      left = inputs_waiting (Some w);
+      inputs = refl;
+      cause = cause;
+      refuses = inr (rested, refuses);
+      reported = refl;
+    })
+
+-- a step after that input
+pub later_refused : (cause : NetworkFault) (w : Waiting) (old mid new : NetworkView) → IsResting old → IsNetworkFed w.mote w.input old mid →
+    GoesOn mid new → step_refusal new ≡ Some cause → IsRefused (fault_of cause) old (Some w) new
+later_refused cause w old mid new rested fed g refuses =
+    record {
+      moves = Move.Hand w.mote w.input mid ∷ g.moves;
+      leads = (record { rested = rested; fed = fed }, g.leads);
+      silent = g.silent;
+      left = [];
+      inputs = rw g.own refl;
+      cause = cause;
+      refuses = inl refuses;
+      reported = refl;
+    }
+
+-- rest comes first
+pub refused_at_rest : (r : Result Came StepsFault) (waiting : Option Waiting) (old mid new : NetworkView) → WorksTo Outcome.Rest old mid →
+    IfErr r (λ (fault : StepsFault). IsRefused fault mid waiting new) → IfErr r (λ (fault : StepsFault). IsRefused fault old waiting new)
+refused_at_rest (Ok came) waiting old mid new w refused = tt
+refused_at_rest (Err fault) waiting old mid new w refused =
+    let moves = all_steps Outcome.Rest old mid w in
+    let leads = steps_lead Outcome.Rest old mid w in
+    let silent : moves_text false old moves ≡ [] = steps_text Outcome.Rest old mid w in
+    record {
+      moves = moves ++ refused.moves;
+      leads = leads_on moves refused.moves old mid new leads refused.leads;
+      silent = text_on false moves refused.moves old mid leads ∙ rw (silent, refused.silent) refl;
+      left = refused.left;
+      inputs =
+          ap (λ (inputs : List NetworkInput). inputs ++ refused.left) (inputs_on moves refused.moves)
+          ∙ rw (steps_own Outcome.Rest old mid w) refused.inputs;
+      cause = refused.cause;
+      refuses = refused.refuses;
+      reported = refused.reported;
+    }
+
+-- a turn awaits its call
+
+turn_refuses : (net : NetworkView) (active : Option ℕ) (turn : AwaitedCall) → turn_of (mote_at_work net active) ≡ Some turn →
+    (is_some active ≡ true) × (work_refusal (mote_at_work net active) ≡ Some (NetworkFault.Refused SessionRefusal.AwaitsCall))
+turn_refuses net None turn e = absurd (cc)
+turn_refuses net (Some m) turn e = (refl, by_mote (slice_get net.motes m) e)
+  where
+    by_mote : (o : Option SessionView) → turn_of o ≡ Some turn → work_refusal o ≡ Some (NetworkFault.Refused SessionRefusal.AwaitsCall)
+    by_mote None e = absurd (cc)
+    by_mote (Some mote) e = rw e refl
+
+pub turn_refused : {T : Type 0} (r : Option T) (awaited : T → AwaitedCall) (net : NetworkView) (waiting : Option Waiting) →
+    IfSome r (λ (one : T). awaited_turn net ≡ Some (awaited one)) → is_some r ≡ true →
+    IsRefused (StepsFault.Refused SessionRefusal.AwaitsCall) net waiting net
+turn_refused None awaited net waiting turn there = absurd (cc)
+turn_refused (Some one) awaited net waiting turn there =
+    let both = turn_refuses net net.active (awaited one) turn in
+    step_refused (NetworkFault.Refused SessionRefusal.AwaitsCall) waiting net net
+    (record { moves = []; leads = refl; silent = refl; own = refl }) (rw both.0 both.1)

@@ -1,22 +1,25 @@
 -- What a network does until something is reported.
-use Rattle.std.specs.Prelude.{◌≡◌, ℕ, ◌+◌, Bool, true, false, not, ◌&&◌, List, [], ◌∷◌, ◌++◌, slice_get, Option, None, Some, is_some, if◌then◌else◌, nat_lt}
+use Rattle.std.specs.Prelude.{◌≡◌, ◌⊎◌, ℕ, ◌+◌, Bool, true, false, not, ◌&&◌, List, [], ◌∷◌, ◌++◌, slice_get, Option, None, Some, is_some, if◌then◌else◌, nat_lt}
 use Rattle.medium_core.specs.Air.{with_link}
 use Rattle.medium_core.specs.declared.link.Link.{Link}
 use Rattle.mote_session.specs.Sent.{sent_in}
 use Rattle.mote_session.specs.SessionView.{SessionView}
 use Rattle.mote_types.specs.declared.entry.Input.{Input}
 use Rattle.network_session.specs.Network.{NetworkView}
+use Rattle.network_session.specs.Refusals.{feed_refusal, step_refusal}
 use Rattle.network_session.specs.Schedule.{due_step}
+use Rattle.network_session.specs.declared.fault.NetworkFault.{NetworkFault}
 use Rattle.network_session.specs.declared.outcome.Outcome.{Outcome}
 use Rattle.network_text.specs.NetworkRuns.{DoesStep, IsResting, Leads, Move, PassesTime, TellsTime, inputs_of, moves_text}
 use Rattle.network_text.specs.declared.input.NetworkInput.{NetworkInput}
 use Rattle.network_steps.specs.Lines.{came_line, losses_left}
-use Rattle.network_steps.specs.Refusals.{awaited_turn}
+use Rattle.network_steps.specs.Refusals.{awaited_turn, fault_of}
 use Rattle.network_steps.specs.StepsView.{StepsView}
 use Rattle.network_steps.specs.declared.came.Came.{Came}
 use Rattle.network_steps.specs.declared.came.Phase.{Phase}
 use Rattle.network_steps.specs.declared.came.Sending.{Sending}
 use Rattle.network_steps.specs.declared.came.Waiting.{Waiting}
+use Rattle.network_steps.specs.declared.fault.StepsFault.{StepsFault}
 
 -- a step that has a line, awaits a call, or is the last one
 abbrev pub is_reported : Outcome → Bool
@@ -158,6 +161,22 @@ pub record GoesNext (came : Came) (old new : StepsView) : Type 0 where
   pub phase : new.phase ≡ phase_after came
   pub is_came : IsCame came new
   pub links : new.free_links ≡ old.free_links
+
+-- a network that rests refuses the input that waits
+abbrev pub RefusesInput : Option Waiting → NetworkView → NetworkFault → Type 0
+RefusesInput None net cause = ⊥
+RefusesInput (Some waiting) net cause = IsResting net × (feed_refusal waiting.mote waiting.input net ≡ Some cause)
+
+-- Some moves without lines lead from old to a network that refuses its next step, or the input that waited; only that input came in them
+pub record IsRefused (fault : StepsFault) (old : NetworkView) (waiting : Option Waiting) (new : NetworkView) : Type 0 where
+  pub moves : List Move
+  pub leads : Leads old moves new
+  pub silent : moves_text false old moves ≡ []
+  pub left : List NetworkInput
+  pub inputs : inputs_of moves ++ left ≡ inputs_waiting waiting
+  pub cause : NetworkFault
+  pub refuses : (step_refusal new ≡ Some cause) ⊎ RefusesInput waiting new cause
+  pub reported : fault ≡ fault_of cause
 
 -- time may go on
 pub record TakesTicks (ticks : ℕ) (old new : StepsView) : Type 0 where

@@ -11,7 +11,7 @@ ghost use Rattle.network_steps.specs.Lines.{came_line, is_loss, loss_line, losse
 ghost use Rattle.network_steps.specs.Refusals.{awaited_turn, due_refusal, feed_refusal, is_from_outside, link_refusal, submit_refusal, tick_refusal, told_refusal, unrest};
 ghost use Rattle.network_steps.specs.StepsView.{opened_steps, unlinked};
 ghost use Rattle.network_text.specs.NetworkRuns.{IsResting};
-ghost use Rattle.network_steps.specs.Works.{GoesNext, GoesOn, TakesFeed, TakesLink, TakesTicks, ToldIfBehind, WorksTo, came_of, is_halted_in, is_reported, noted, sending_after};
+ghost use Rattle.network_steps.specs.Works.{GoesNext, GoesOn, IsRefused, TakesFeed, TakesLink, TakesTicks, ToldIfBehind, WorksTo, came_of, is_halted_in, is_reported, noted, sending_after};
 ghost use Rattle.network_steps.specs.declared.came.Phase.TheVariants.{Resting as Rests, Working as Works};
 ghost use Rattle.network_steps.specs.declared.fault.StepsFault.{StepsFault};
 ghost use Rattle.mote_session.specs.declared.refusal.SessionRefusal.{SessionRefusal};
@@ -159,11 +159,12 @@ impl NetworkSteps {
     ///
     /// # Errors
     ///
-    /// `Refused(AwaitsCall)` where a turn awaits its call, and nothing has changed; `Refused(TooManyInputs)` where a mote was handed
-    /// 2^40 inputs.
+    /// `Refused(AwaitsCall)` where a turn awaits its call, and nothing has changed. Otherwise only what the network refuses: its next
+    /// step, or at rest the input that waits. That is `Refused(TooManyInputs)`, where a mote was handed 2^40 inputs.
     pub fn next(&mut self) -> Result<Came, StepsFault>
         ensures went { IfOk result (λ came. GoesNext came self.old self.new) }
         ensures closed { IfOk result (λ _. awaited_turn self.old.net ≡ None) }
+        ensures failed { IfErr result (λ fault. IsRefused fault self.old.net self.old.waiting self.new.net) }
         ensures awaits { awaited_turn self.old.net ≢ None
             → IsErrOf result (StepsFault.Refused SessionRefusal.AwaitsCall) × (self.new ≡ self.old) }
     {
@@ -179,7 +180,8 @@ impl NetworkSteps {
     /// Works to the next step that is reported, where nothing is left to be reported.
     fn go_on(&mut self) -> Result<Came, StepsFault>
         requires told { self.old.sending ≡ None }
-        ensures { IfOk result (λ came. GoesNext came self.old self.new) }
+        ensures went { IfOk result (λ came. GoesNext came self.old self.new) }
+        ensures failed { IfErr result (λ fault. IsRefused fault self.old.net self.old.waiting self.new.net) }
     {
         self.phase = Phase::Working;
         let outcome = match work(&mut self.network) {
@@ -222,7 +224,8 @@ impl NetworkSteps {
     fn rest(&mut self) -> Result<Came, StepsFault>
         requires rests { IsResting self.old.net }
         requires told { self.old.sending ≡ None }
-        ensures { IfOk result (λ came. GoesNext came self.old self.new) }
+        ensures went { IfOk result (λ came. GoesNext came self.old self.new) }
+        ensures failed { IfErr result (λ fault. IsRefused fault self.old.net self.old.waiting self.new.net) }
     {
         match self.waiting.take() {
             Some(waiting) => self.hand_over(waiting),
@@ -235,7 +238,8 @@ impl NetworkSteps {
         requires rests { IsResting self.old.net }
         requires told { self.old.sending ≡ None }
         requires taken { self.old.waiting ≡ None }
-        ensures { IfOk result (λ came. GoesNext came (record self.old { waiting = Some waiting }) self.new) }
+        ensures went { IfOk result (λ came. GoesNext came (record self.old { waiting = Some waiting }) self.new) }
+        ensures failed { IfErr result (λ fault. IsRefused fault self.old.net (Some waiting) self.new.net) }
     {
         self.phase = Phase::Working;
         let Waiting { mote, input } = waiting;

@@ -1,6 +1,7 @@
 //! The steps of a network, up to one that is reported.
 
-ghost use Rattle.std.specs.Prelude.{◌≡◌, IfOk, IfErr, None};
+ghost use Rattle.std.specs.Prelude.{◌≡◌, IfOk, IfErr, None, Some};
+ghost use Rattle.network_session.specs.Refusals.{step_refusal};
 ghost use Rattle.network_steps.specs.Works.{GoesOn, WorksTo, is_reported};
 
 use network_session::fault::NetworkFault;
@@ -34,6 +35,7 @@ fn is_reported(outcome: Outcome) -> bool
 pub(crate) fn work(network: &mut Network) -> Result<Outcome, NetworkFault>
     ensures works { IfOk result (λ outcome. WorksTo outcome network.old network.new) }
     ensures refused { IfErr result (λ _. GoesOn network.old network.new) }
+    ensures why { IfErr result (λ fault. step_refusal network.new ≡ Some fault) }
 {
     loop {
         let outcome = network.step()?;

@@ -1,3 +1,4 @@
+pub mod Digits
 mod Examples
 pub mod Moves
 pub mod Parting

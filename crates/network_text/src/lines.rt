@@ -1,7 +1,7 @@
 //! The lines of a network's transcript.
 #![tactic(auto, unfolding(mote_text::specs::EntryText::line_of))]
 
-ghost use Rattle.std.specs.Prelude.{◌≡◌, ◌≤◌, ◌+◌, ◌++◌, codes, decimal, length};
+ghost use Rattle.std.specs.Prelude.{◌≡◌, ◌≤◌, ◌<◌, ◌+◌, ◌%◌, ◌++◌, codes, decimal, length};
 ghost use Rattle.mote_text.specs.Code.Appending.{HasRoom};
 ghost use Rattle.network_text.specs.Code.StepLines.{last_entry_line};
 ghost use Rattle.network_text.specs.Code.Widths.{mote_line_limit, number_limit, own_line_limit};
@@ -32,6 +32,54 @@ fn push_mote_number(mote: usize, text: &mut OutputBuffer)
     text.push(Buffer::new().format(mote as u128 + 1).as_bytes());
 }
 
+/// The last digit of a number.
+fn digit(n: u32) -> u8
+    ensures { result ≡ 48 + n % 10 }
+{
+    b'0' + (n % 10) as u8
+}
+
+/// Appends a number of three or four digits, and a blank.
+#[tactic(auto, using(crate::proofs::Digits::three_digits, crate::proofs::Digits::four_digits))]
+fn push_digits(n: u32, text: &mut OutputBuffer)
+    requires least { 100 ≤ n }
+    requires most { n < 10_000 }
+    requires room { HasRoom text.old 5 }
+    ensures text { text.new.items ≡ text.old.items ++ (decimal n ++ codes " ") }
+    ensures length { length text.new.items ≤ length text.old.items + 5 }
+{
+    if n < 1_000 {
+        text.push(&[b'0' + (n / 100) as u8, digit(n / 10), digit(n), b' ']);
+    } else {
+        text.push(&[
+            b'0' + (n / 1_000) as u8,
+            digit(n / 100),
+            digit(n / 10),
+            digit(n),
+            b' ',
+        ]);
+    }
+}
+
+/// Appends the number of a mote after the first 255, and a blank.
+// Up to 9,999 the digits are written where they stay; `push_number_word` makes those of such a number apart, and copies them.
+#[inline(never)]
+fn push_long_mote_word(mote: usize, text: &mut OutputBuffer)
+    requires long { 255 ≤ mote }
+    requires room { HasRoom text.old (number_limit + 1) }
+    ensures text { text.new.items ≡ text.old.items ++ (mote_number mote ++ codes " ") }
+    ensures length { length text.new.items ≤ length text.old.items + (number_limit + 1) }
+{
+    if mote < 9_999 {
+        push_digits(mote as u32 + 1, text);
+    } else if mote < 4_294_967_295 {
+        push_number_word(mote as u32 + 1, text);
+    } else {
+        push_mote_number(mote, text);
+        text.push(b" ");
+    }
+}
+
 /// Appends the number of a mote, and a blank.
 #[inline(always)]
 fn push_mote_word(mote: usize, text: &mut OutputBuffer)
@@ -39,11 +87,10 @@ fn push_mote_word(mote: usize, text: &mut OutputBuffer)
     ensures text { text.new.items ≡ text.old.items ++ (mote_number mote ++ codes " ") }
     ensures length { length text.new.items ≤ length text.old.items + (number_limit + 1) }
 {
-    if mote < 4_294_967_295 {
+    if mote < 255 {
         push_number_word(mote as u32 + 1, text);
     } else {
-        push_mote_number(mote, text);
-        text.push(b" ");
+        push_long_mote_word(mote, text);
     }
 }
 

@@ -5,6 +5,7 @@ pub mod Chained
 pub mod Clocks
 pub mod Covers
 mod DumpExamples
+mod FactExamples
 pub mod Growing
 mod MarkExamples
 pub mod Room

@@ -45,7 +45,7 @@ The lines of a file:
 
 Exit status:
   0   each run came out as its file says, or was written
-  1   some run did not, or came to no end
+  1   some run did not, or failed
   2   a file has no form: nothing was run
   6   standard output, or a file, can't be written
   64  the words are no use

@@ -32,8 +32,8 @@ struct Count {
     as_told: u32,
     /// How often they had it in pieces.
     in_pieces: u32,
-    /// The number of runs without an expected outcome that did not end.
-    endless: u32,
+    /// The number of runs without an expected outcome that failed.
+    failed: u32,
 }
 
 /// Why a file can't be read.
@@ -163,7 +163,7 @@ impl<'a> ScenarioFile<'a> {
             told: 0,
             as_told: 0,
             in_pieces: 0,
-            endless: 0,
+            failed: 0,
         };
         let mut title = if wish.of_several {
             Some(self.path)
@@ -207,7 +207,7 @@ impl<'a> ScenarioFile<'a> {
             told,
             as_told,
             in_pieces,
-            endless,
+            failed,
         } = count;
         if thorough {
             println!(rt;
@@ -218,7 +218,7 @@ impl<'a> ScenarioFile<'a> {
             println!(rt; "{}: {as_told} of {told} runs as told", self.path)?;
         }
         let are_cut = !thorough || *in_pieces == told.saturating_mul(15);
-        Ok(as_told == told && are_cut && *endless == 0)
+        Ok(as_told == told && are_cut && *failed == 0)
     }
 }
 
@@ -237,7 +237,7 @@ fn carry_run_out<R: AllocGlobal + Print + Eprint>(
             println!(rt; "# {path}")?;
         }
         let has_ended = show(rt, part.name, name, scenario)?;
-        count.endless = count.endless.saturating_add(u32::from(!has_ended));
+        count.failed = count.failed.saturating_add(u32::from(!has_ended));
         return Ok(());
     }
     count.told = count.told.saturating_add(1);

@@ -28,7 +28,7 @@ fn end_words(alloc: Global, end: End) -> Result<String, AllocError> {
     }
 }
 
-/// The result of a run: how it ended, or why it did not end, and what it wrote.
+/// The result of a run: how it ended, or why it failed, and what it wrote.
 #[derive(Drop)]
 pub(crate) struct Outcome {
     pub(crate) end: String,
@@ -73,7 +73,7 @@ pub(crate) fn outcome_of(
     })
 }
 
-/// Executes the run of a mote, and consumes its applications. Returns how it ended, or why it did not end, and whether it ended.
+/// Executes the run of a mote, and consumes its applications. Returns how it ended, or why it failed, and whether it ended.
 fn run_mote(
     alloc: Global,
     scenario: &mut Scenario<'_>,
@@ -107,7 +107,7 @@ fn run_mote(
     end_of(alloc, ran)
 }
 
-/// How the run of a mote ended, or why it did not end, and whether it ended.
+/// How the run of a mote ended, or why it failed, and whether it ended.
 fn end_of(alloc: Global, ran: Result<End, MoteFault>) -> Result<(String, bool), AllocError> {
     match ran {
         Ok(end) => Ok((end_words(alloc, end)?, true)),

@@ -5,7 +5,7 @@
 pub(crate) enum Status {
     /// Each run came out as its file says, or was written; or the arguments asked only for a text.
     AsTold,
-    /// Some run did not come out as its file says, or did not end.
+    /// Some run did not come out as its file says, or failed.
     Differs,
     /// A file is malformed or can't be read, and nothing was run.
     NoForm,

@@ -47,7 +47,7 @@ module _ (t : Timer) where
   read_from n [] cells named from below e = absurd (omega arith)
   read_from n (u ∷ us) [] named from below e = refl
   read_from n (u ∷ us) (c ∷ cs) named from below e =
-      grind (arith, apart, read_from (n + 1) us cs named)
+      grind (arith, apart, first_placed n u us e, read_from (n + 1) us cs named)
 
 kept_at : (names : List Timer) (cells : List LinkedCell) (k : ℕ) (x : LinkedCell) → x.cell ≡ (get_or cells k zero_linked).cell →
     named_cells names (set cells k x) ≡ named_cells names cells

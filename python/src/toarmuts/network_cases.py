@@ -46,7 +46,8 @@ class NetworkCase:
 
     def with_file(self, text: str) -> "NetworkCase":
         """The same motes with the links and the script of a file, which may have fewer motes."""
-        lines = text.splitlines()
+        # A line may have any other byte, and is malformed then: str.splitlines would end it there.
+        lines = text.split("\n")
         count = max((int(found[2] or found[1]) for found in map(_MOTES.fullmatch, lines) if found is not None), default=0)
         if count > len(self.setup.motes):
             raise BadScenario(f"the target draws another case than the file's, which has {count} motes")

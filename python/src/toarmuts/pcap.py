@@ -18,15 +18,15 @@ LINK_TYPE = 230
 _MAGIC = 0xA1B23C4D
 _LONGEST = 65535
 _HEAD, _PACKET = struct.Struct("<IHHiIII"), struct.Struct("<IIII")
-TICKS_OF_A_SECOND = 1000
-"""A tick is a millisecond, as for ``network-picture --pcap``. For a program in C, its CLOCK_SECOND (default: 128) gives its own times."""
+TICKS_OF_A_SECOND = 128
+"""The default of CLOCK_SECOND, as for ``network-picture --pcap``."""
 
 
 def packets(frames: Iterable[Frame], ticks_of_a_second: int = TICKS_OF_A_SECOND) -> bytes:
     """The bytes of such a file.
 
     >>> len(packets([Frame(192, 1, b"hi")])), packets([Frame(192, 1, b"hi")])[24:32]
-    (42, b'\\x00\\x00\\x00\\x00\\x00\\xb0q\\x0b')
+    (42, b'\\x01\\x00\\x00\\x00\\x00e\\xcd\\x1d')
     """
     rate = check_number("ticks_of_a_second", ticks_of_a_second, 1, 10**9)
     made = [_HEAD.pack(_MAGIC, 2, 4, 0, 0, _LONGEST, LINK_TYPE)]

@@ -97,7 +97,8 @@ def read_payload_word(word: str, most: int) -> Payload:
         return None
     if word == "x":
         return b""
-    return read_bytes_word(word[1:], most) if word[:1] == "x" else read_number(word, 0xFFFF_FFFF)
+    # A line of no bytes is `x` alone.
+    return read_bytes_word(word[1:], most) if word[:1] == "x" and word != "x-" else read_number(word, 0xFFFF_FFFF)
 
 
 @dataclass(frozen=True, repr=False)

@@ -20,8 +20,8 @@ const struct program_facts program_facts = {.ticks_a_second = TICKS};
 const struct board_settings board_settings = {.sizes = {.mmem = 4096}};
 const uint8_t *stack_low;
 const void *stack_begin;
-extern const uint8_t stack_low_run[];
-const uint8_t stack_low_run[1];
+extern const uint8_t board_stack_low_run[];
+const uint8_t board_stack_low_run[1];
 
 /* A row of runs: what an interrupt brings, the counts that pass at each point, and the ticks to the mote's timer, or 0 if it has none. */
 struct row {
@@ -289,8 +289,6 @@ DOES_NOTHING(guard_stack, __attribute__((unused)) const uint8_t *low, __attribut
 DOES_NOTHING(record_input, __attribute__((unused)) uint32_t kind, __attribute__((unused)) uint32_t ticks,
              __attribute__((unused)) const uint8_t *bytes, __attribute__((unused)) size_t length)
 /* clang-format on */
-
-void firmware(void);
 
 int
 main(void)

@@ -26,6 +26,10 @@ must(const char *name, bool holds)
 const struct board_settings board_settings = {.has_record = true};
 static uint32_t interrupts_are_off;
 static size_t port_takes; /* of the bytes at one call of board_pump */
+static uint64_t now;      /* the clock, which goes on at each call of board_pump */
+static uint64_t latest = UINT64_MAX;
+const uint32_t board_hz = 1000;
+enum { PUMP = 10, SECOND = 1000 };
 
 uint32_t
 disable_interrupts(void)
@@ -39,6 +43,12 @@ void
 restore_interrupts(uint32_t before)
 {
   interrupts_are_off = before;
+}
+
+uint64_t
+clock_count(void)
+{
+  return now;
 }
 
 void
@@ -80,6 +90,8 @@ void
 board_pump(enum port port)
 {
   must("bytes leave while interrupts are off", interrupts_are_off != 0);
+  now += PUMP;
+  must("a port isn't waited for without end", now <= latest);
   for(size_t i = 0; i < port_takes; i++) {
     int byte = output_next(port);
     must("the next byte leaves", byte == pop(&outputs[port]));
@@ -143,12 +155,21 @@ must_wait_for_main_loop(enum port port)
   return count_ends(port) > 0 || inputs[port].length >= LONG_LINE;
 }
 
+/* Of a frame that lost a byte only the end is put, after the byte ESC, once there is room for both. */
 static void
 receive(enum port port, uint8_t byte)
 {
-  if(inputs[port].length == inputs[port].room) {
+  static bool has_gap;
+  bool is_in_gap = port == RADIO && has_gap;
+  size_t left = inputs[port].room - inputs[port].length;
+  if(left < (is_in_gap ? 2 : 1) || (is_in_gap && byte != 0xc0)) {
     inputs[port].lost++;
+    has_gap |= port == RADIO;
   } else {
+    if(is_in_gap) {
+      push(&inputs[port], 0xdb);
+      has_gap = false;
+    }
     push(&inputs[port], byte);
   }
   input_received(port, byte);
@@ -203,8 +224,14 @@ fill_inputs(void)
       }
       take_byte(port);
       check_inputs();
-      receive(port, 'x'); /* so the next position follows */
-      take_byte(port);
+      receive(port, end_of[port]); /* one byte, or two after a gap: so each position is once the first one */
+      while(inputs[port].length > 0) {
+        take_byte(port);
+      }
+      if(port == RADIO) {
+        receive(port, 'x');
+        take_byte(port);
+      }
     }
   }
 }
@@ -293,6 +320,7 @@ check_closed_rings(void)
 {
   static const char text[] = "a message of more than 16 bytes";
   receive(CONSOLE, 'x');
+  input_received(RECORD, 'x');
   check_inputs();
   port_takes = 1;
   for(size_t i = 0; i < sizeof text; i++) {
@@ -300,6 +328,65 @@ check_closed_rings(void)
   }
   output_put_at_once(RECORD, text, sizeof text);
   must("a message has left", outputs[RECORD].length == 0 && !output_is_left(RECORD));
+}
+
+/* At a fault. */
+
+static void
+put_at_once(enum port port, size_t length)
+{
+  static const uint8_t bytes[2 * MOST_ROOM];
+  for(size_t i = 0; i < length && outputs[port].length < outputs[port].room; i++) {
+    push(&outputs[port], 0);
+  }
+  output_put_at_once(port, bytes, length);
+}
+
+/* A port that takes nothing is waited for once, for two seconds; the others are not held up. */
+static void
+check_stuck_port(void)
+{
+  size_t room = outputs[CONSOLE].room;
+  uint64_t before = now;
+  port_takes = 0;
+  latest = now + 3 * SECOND;
+  put_at_once(CONSOLE, room + 5);
+  outputs[CONSOLE].lost += 5;
+  must("a port that takes nothing is waited for two seconds", now > before + 2 * SECOND);
+  latest = UINT64_MAX;
+  check_outputs();
+  before = now;
+  put_at_once(CONSOLE, 3);
+  outputs[CONSOLE].lost += 3;
+  must("and not a second time", now == before);
+  check_outputs();
+  port_takes = room;
+  output_put_at_once(RECORD, "", 0);
+  put_at_once(RECORD, 5);
+  must("another port is waited for", output_used(RECORD) == 0);
+  must("bytes wait for a port that takes nothing", output_used(CONSOLE) == room);
+}
+
+/* One that takes a byte is waited for again, for two seconds; so is one that was idle. */
+static void
+check_slow_port(void)
+{
+  enum { BYTES = 20 };
+  port_takes = 1;
+  for(unsigned i = 0; i < BYTES; i++) {
+    board_pump(CONSOLE);
+    must("a port that takes a byte again is waited for", output_is_awaited(CONSOLE, true));
+    now += 2 * SECOND;
+    must("for two seconds", output_is_awaited(CONSOLE, true));
+    now++;
+    must("and no longer", !output_is_awaited(CONSOLE, true));
+  }
+  must("a port that keeps up isn't waited for", !output_is_awaited(CONSOLE, false));
+  now += 2 * SECOND;
+  must("one that was idle is", output_is_awaited(CONSOLE, true));
+  put_at_once(CONSOLE, BYTES);
+  must("all has left", output_used(CONSOLE) == 0);
+  check_outputs();
 }
 
 int
@@ -315,5 +402,11 @@ main(void)
   use_inputs(RANDOM_CALLS);
   fill_outputs();
   use_outputs(RANDOM_CALLS / 10);
+  port_takes = MOST_ROOM;
+  put(CONSOLE, 0);
+  put(RECORD, 0);
+  check_stuck_port();
+  disable_interrupts();
+  check_slow_port();
   return conclude();
 }

@@ -32,6 +32,14 @@ board_pump(enum port port)
   (void)port;
 }
 
+const uint32_t board_hz = 1;
+
+uint64_t
+clock_count(void)
+{
+  return 0;
+}
+
 void
 give_up(int status, const char *format, ...)
 {

@@ -12,7 +12,7 @@ struct block {
 };
 
 static struct block *unused;
-static uint8_t *heap_end = heap_start;
+static uint8_t *heap_end = board_heap_start;
 static const uint8_t *limit;
 
 void
@@ -65,7 +65,7 @@ malloc(size_t wanted)
       return block + 1;
     }
   }
-  if(size > (size_t)(limit - heap_end)) {
+  if(heap_end > limit || size > (size_t)(limit - heap_end)) {
     errno = ENOMEM;
     return NULL;
   }
@@ -82,12 +82,15 @@ calloc(size_t count, size_t size)
   return bytes == NULL ? NULL : memset(bytes, 0, count * size);
 }
 
+/* As that of the GNU C library, it frees a block that gets the size 0. */
 void *
 realloc(void *bytes, size_t size)
 {
   size_t kept = bytes == NULL ? 0 : ((struct block *)bytes - 1)->size - sizeof(struct block);
-  void *moved = malloc(size);
-  if(moved != NULL) {
+  void *moved = bytes != NULL && size == 0 ? NULL : malloc(size);
+  if(bytes != NULL && size == 0) {
+    free(bytes);
+  } else if(moved != NULL) {
     memcpy(moved, bytes, kept < size ? kept : size);
     free(bytes);
   }

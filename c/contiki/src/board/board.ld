@@ -2,7 +2,7 @@
  * The image of a board, whose own linker script has the memories FLASH and RAM, and the sizes of the stack. The kernel's and the driver's code comes
  * first; the program's code and all constants are at 65,536 or above: an event's data below that is a number (docs/contiki.md).
  */
-ENTRY(reset)
+ENTRY(board_reset)
 
 SECTIONS
 {
@@ -15,22 +15,22 @@ SECTIONS
     . = ALIGN(8);
   } >FLASH
   .text (ORIGIN(FLASH) < 0x10000 && . < 0x10000 ? 0x10000 : .) : { *(.text*) *(.rodata*) . = ALIGN(8); } >FLASH
-  .ARM.exidx : { __exidx_start = .; *(.ARM.exidx*) *(.ARM.extab*) __exidx_end = .; } >FLASH
+  /DISCARD/ : { *(.ARM.exidx*) *(.ARM.extab*) } /* nothing unwinds a stack */
   process_entries : ALIGN(4) { KEEP(*(process_entries)) } >FLASH
 
-  .data : ALIGN(8) { data_start = .; *(.data*) . = ALIGN(8); data_end = .; } >RAM AT>FLASH
-  data_image = LOADADDR(.data);
+  .data : ALIGN(8) { board_data_start = .; *(.data*) . = ALIGN(8); board_data_end = .; } >RAM AT>FLASH
+  board_data_image = LOADADDR(.data);
 
   .bss (NOLOAD) : ALIGN(16) {
     /* First in RAM: it can't grow into anything. */
-    handler_stack_low = .; . += 768; . = ALIGN(8); handler_stack_top = .;
-    bss_start = .; *(.bss*) *(COMMON) . = ALIGN(8); bss_end = .;
+    board_handler_stack_low = .; . += 768; . = ALIGN(8); board_handler_stack_top = .;
+    board_bss_start = .; *(.bss*) *(COMMON) . = ALIGN(8); board_bss_end = .;
   } >RAM AT>RAM
 
-  heap_start = .;
-  stack_top = ORIGIN(RAM) + LENGTH(RAM);
+  board_heap_start = .;
+  board_stack_top = ORIGIN(RAM) + LENGTH(RAM);
   /* While the mote is opened, and from then on, above a guard of 4,096 bytes. */
-  stack_low_open = (stack_top - stack_size_open) & ~255;
-  stack_low_run = (stack_top - stack_size) & ~4095;
-  ASSERT(heap_start <= stack_low_open - 256, "variables and stack don't fit in RAM")
+  board_stack_low_open = (board_stack_top - stack_size_open) & ~255;
+  board_stack_low_run = (board_stack_top - stack_size) & ~4095;
+  ASSERT(board_heap_start <= board_stack_low_open - 256, "variables and stack don't fit in RAM")
 }

@@ -8,8 +8,8 @@
 enum { LONGEST_SLEEP = 1 << 30 };
 
 /* All counts since the start. It is asked more often than the counter begins anew, since no sleep is longer. */
-static uint64_t
-count_now(void)
+uint64_t
+clock_count(void)
 {
   static uint64_t counted;
   static uint32_t last;
@@ -39,7 +39,7 @@ count_of(uint64_t tick)
 uint64_t
 clock_ticks(void)
 {
-  return ticks_of(count_now());
+  return ticks_of(clock_count());
 }
 
 /* Sleeps up to a tick, or until an interrupt brings something. One that comes after the question stays pending, and ends the wait at once:
@@ -49,7 +49,7 @@ clock_sleep_until(uint64_t tick, bool (*is_waiting)(void))
 {
   uint64_t end = tick == UINT64_MAX ? UINT64_MAX : count_of(tick);
   uint32_t before = disable_interrupts();
-  uint64_t now = count_now();
+  uint64_t now = clock_count();
   if(end > now && !is_waiting()) {
     board_wake_after(end - now > LONGEST_SLEEP ? LONGEST_SLEEP : (uint32_t)(end - now));
     wait_for_interrupt();

@@ -14,15 +14,16 @@
 #undef getchar
 #undef getc
 
-/* The C library's files are none: only their addresses count. */
-static char files[3];
+/* The C library's files are none: their addresses count, and ferror finds no error in them. So they may overlap. */
+enum { STEP = 8 };
+static const uint8_t files[sizeof(FILE) + 2 * STEP] __attribute__((aligned(STEP)));
 
 void
 open_console(void)
 {
-  _REENT->_stdin = (FILE *)&files[0];
-  _REENT->_stdout = (FILE *)&files[1];
-  _REENT->_stderr = (FILE *)&files[2];
+  _REENT->_stdin = (FILE *)(uintptr_t)files;
+  _REENT->_stdout = (FILE *)(uintptr_t)(files + STEP);
+  _REENT->_stderr = (FILE *)(uintptr_t)(files + 2 * STEP);
 }
 
 static char gathered[CHUNK];
@@ -201,11 +202,13 @@ fputs(const char *text, FILE *file)
   return 1;
 }
 
+/* Returns the number of bytes, as that of the GNU C library does. */
 int
 puts(const char *text)
 {
   fputs(text, stdout);
-  return putchar('\n');
+  putchar('\n');
+  return (int)strlen(text) + 1;
 }
 
 size_t
@@ -267,4 +270,47 @@ fgets(char *bytes, int room, FILE *file)
   (void)room;
   (void)file;
   return NULL;
+}
+
+/* What the C library's sscanf is linked with, and never calls: its own files. */
+
+int _fflush_r(struct _reent *reent, FILE *file);
+int _read(int file, char *bytes, int length);
+int _write(int file, const char *bytes, int length);
+int _lseek(int file, int offset, int from);
+int _close(int file);
+
+int
+_fflush_r(struct _reent *reent, FILE *file)
+{
+  (void)reent;
+  return fflush(file);
+}
+
+int
+_read(int file, char *bytes, int length)
+{
+  (void)file;
+  (void)bytes;
+  (void)length;
+  return -1;
+}
+
+int
+_write(int file, const char *bytes, int length)
+{
+  return _read(file, (char *)(uintptr_t)bytes, length);
+}
+
+int
+_lseek(int file, int offset, int from)
+{
+  (void)from;
+  return _read(file, NULL, offset);
+}
+
+int
+_close(int file)
+{
+  return _read(file, NULL, 0);
 }

@@ -11,7 +11,8 @@
 #define BUS_ADDRESS REG(0xe000ed38)
 #define MPU_CONTROL REG(0xe000ed94)
 
-enum { STACKING = 0x1010, MEMORY_ADDRESS_VALID = 0x80, DIVISION = 1 << 25, INSTRUCTION = 0x1ff << 16, NO_CODE = 0x101, GUARD_REACH = 8192 };
+enum { STACKING = 0x1010, MEMORY_ADDRESS_VALID = 0x80, DIVISION = 1 << 25, INSTRUCTION = 0x1ff << 16, GUARD_REACH = 8192 };
+enum { EXCEPTION_NUMBER = 0x1ff, SYSTICK = 15, FIRST_INTERRUPT = 16 };
 
 static struct report report;
 
@@ -30,12 +31,16 @@ write_report(void)
 
 /* Says what happens where. */
 static CC_NORETURN void
-end_run(const char *what, int status)
+end_run(int status, const char *format, va_list arguments)
 {
+  size_t room;
+  int length;
   disable_interrupts();
   report.length = 0;
   add_place(&report);
-  add_text(&report, what);
+  room = REPORT_ROOM - report.length;
+  length = vsnprintf(report.text + report.length, room, format, arguments);
+  report.length += MIN((size_t)MAX(length, 0), room - 1);
   write_report();
   board_stop(status);
 }
@@ -53,26 +58,20 @@ halt(void)
 void
 stop(const char *format, ...)
 {
-  static char what[REPORT_ROOM / 2];
   va_list arguments;
   if(present_activation() != NULL) {
     flush_console();
   }
   va_start(arguments, format);
-  vsnprintf(what, sizeof what, format, arguments);
-  va_end(arguments);
-  end_run(what, STATUS_STOPPED);
+  end_run(STATUS_STOPPED, format, arguments);
 }
 
 void
 give_up(int status, const char *format, ...)
 {
-  static char what[REPORT_ROOM / 4];
   va_list arguments;
   va_start(arguments, format);
-  vsnprintf(what, sizeof what, format, arguments);
-  va_end(arguments);
-  end_run(what, status);
+  end_run(status, format, arguments);
 }
 
 /* The C library's ways to end a program. */
@@ -86,10 +85,7 @@ void
 exit(int status)
 {
   (void)status;
-  if(present_activation() != NULL) {
-    flush_console();
-  }
-  end_run("the program called exit", STATUS_STOPPED);
+  stop("the program called exit");
 }
 
 void
@@ -101,7 +97,7 @@ _exit(int status)
 void
 abort(void)
 {
-  end_run("the program was aborted (SIGABRT)", STATUS_STOPPED);
+  give_up(STATUS_STOPPED, "the program was aborted (SIGABRT)");
 }
 
 void
@@ -138,20 +134,23 @@ name_of_fault(uint32_t status, uint32_t address)
   return (status & INSTRUCTION) != 0 ? "a crash: an invalid instruction (SIGILL)" : "a crash: an invalid address (SIGSEGV)";
 }
 
-void report_fault(const uint32_t *frame, uint32_t exception);
-
-/* The frame that the processor pushed: r0 to r3, r12, lr, pc, and the status. */
-void
-report_fault(const uint32_t *frame, uint32_t exception)
+/* Says in which interrupt the processor was. */
+static void
+add_interrupt(uint32_t exception)
 {
-  uint32_t status = FAULT_STATUS;
-  uint32_t address = (status & MEMORY_ADDRESS_VALID) != 0 ? MEMORY_ADDRESS : BUS_ADDRESS;
-  bool has_frame = (status & STACKING) == 0;
-  MPU_CONTROL = 0; /* from here on nothing is guarded */
-  report.length = 0;
-  add_place(&report);
-  add_text(&report, name_of_fault(status, address));
-  write_report();
+  if(exception == SYSTICK) {
+    add_text(&report, "in SysTick: ");
+  } else if(exception != 0) {
+    add_text(&report, "in interrupt ");
+    add_number(&report, exception - FIRST_INTERRUPT);
+    add_text(&report, ": ");
+  }
+}
+
+/* What the processor says of a fault. */
+static void
+report_registers(const uint32_t *frame, uint32_t exception, uint32_t status, uint32_t address)
+{
   report.length = 0;
   add_text(&report, "exception ");
   add_number(&report, exception);
@@ -159,10 +158,41 @@ report_fault(const uint32_t *frame, uint32_t exception)
   add_hex(status);
   add_text(&report, ", address 0x");
   add_hex(address);
-  add_text(&report, has_frame ? ", at 0x" : "");
-  if(has_frame) {
+  if(frame != NULL) {
+    add_text(&report, ", at 0x");
     add_hex(frame[6]);
   }
   write_report();
+}
+
+/* The frame that the processor pushed: r0 to r3, r12, lr, pc, and the status. A second fault, while the first one is reported, has a
+ * message for which nothing of the program is read. */
+void
+report_fault(const uint32_t *frame, uint32_t exception)
+{
+  static const char *first;
+  static bool is_over;
+  uint32_t status = FAULT_STATUS;
+  uint32_t address = (status & MEMORY_ADDRESS_VALID) != 0 ? MEMORY_ADDRESS : BUS_ADDRESS;
+  bool is_first = first == NULL;
+  FAULT_STATUS = status; /* clears it, for a second one */
+  MPU_CONTROL = 0;       /* from here on nothing is guarded */
+  if(is_over) {
+    board_stop(STATUS_STOPPED);
+  }
+  is_over = !is_first;
+  report.length = 0;
+  if(is_first) {
+    first = name_of_fault(status, address);
+    add_place(&report);
+    add_interrupt((status & STACKING) != 0 ? 0 : frame[7] & EXCEPTION_NUMBER);
+    add_text(&report, first);
+  } else {
+    add_text(&report, "contiki: ");
+    add_text(&report, first);
+    add_text(&report, ", and another one where that was reported");
+  }
+  write_report();
+  report_registers((status & STACKING) != 0 ? NULL : frame, exception, status, address);
   board_stop(STATUS_STOPPED);
 }

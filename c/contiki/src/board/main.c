@@ -7,10 +7,9 @@
 
 #include "../record.h"
 
-enum { LINE_ROOM = 256, RUN_GUARD = 12, MOST_WAITING = 384, PATIENCE = 2 };
+enum { LINE_ROOM = 256, RUN_GUARD = 12, MOST_WAITING = 384 };
 
-extern const uint8_t stack_low_run[];
-void firmware(void);
+extern const uint8_t board_stack_low_run[];
 
 /* Opening the mote takes most of the stack, once. Afterwards most of that is malloc's, and the guard is wide. */
 static void
@@ -26,8 +25,8 @@ open_all(void)
   limit_heap((const uint8_t *)((uintptr_t)stack_low - (1u << OPEN_GUARD)));
   number_processes();
   open_mote(&board_settings.sizes);
-  limit_heap((const uint8_t *)((uintptr_t)stack_low_run - (1u << RUN_GUARD)));
-  guard_stack(stack_low_run, RUN_GUARD);
+  limit_heap((const uint8_t *)((uintptr_t)board_stack_low_run - (1u << RUN_GUARD)));
+  guard_stack(board_stack_low_run, RUN_GUARD);
   make_tables();
   rings_open();
   if(is_recording()) {
@@ -77,21 +76,13 @@ is_behind(enum port port)
   return output_used(port) > MOST_WAITING && !(port == RECORD && record_has_ended());
 }
 
-/* Whether all ports keep up. One that takes nothing for two seconds isn't waited for: then its bytes are lost, or the record ends. */
+/* Whether all ports keep up, or aren't waited for: then their bytes are lost, or the record ends. */
 static bool
 outputs_keep_up(void)
 {
-  static uint64_t since[PORTS];
-  static size_t used_then[PORTS];
-  uint64_t now = clock_ticks();
   bool keep_up = true;
   for(enum port port = CONSOLE; port < PORTS; port++) {
-    size_t used = output_used(port);
-    if(!is_behind(port) || used < used_then[port]) {
-      since[port] = now;
-    }
-    used_then[port] = used;
-    keep_up &= !is_behind(port) || now - since[port] > (uint64_t)PATIENCE * program_facts.ticks_a_second;
+    keep_up &= !output_is_awaited(port, is_behind(port));
   }
   return keep_up;
 }

@@ -74,12 +74,27 @@ note_losses(void)
   note_loss(&sent, output_lost(RADIO), "radio: ", " bytes not sent");
 }
 
-static void
-show_line(const uint8_t *line, size_t length)
+/* In a script: the last line of the transcript. It isn't inlined: otherwise each turn of a board with ports would need the line's stack. */
+static __attribute__((noinline)) void
+show_last_line(void)
 {
-  if(board_settings.run_script != NULL) {
-    output_put_at_once(RECORD, line, length);
-    output_put_at_once(RECORD, "\n", 1);
+  uint8_t line[LINE_ROOM];
+  size_t length;
+  if(last_line(line, sizeof line - 1, &length) == 0) {
+    line[length] = '\n';
+    output_put_at_once(RECORD, line, length + 1);
+  }
+}
+
+/* A frame that was sent is known only by its line. A line that has no room is another one. */
+static __attribute__((noinline)) void
+send_last_frame(void)
+{
+  static const char sent[] = "note sent ";
+  uint8_t line[sizeof sent + 2 * LINE_BYTES];
+  size_t length;
+  if(last_line(line, sizeof line, &length) == 0 && length > sizeof sent - 1 && memcmp(line, sent, sizeof sent - 1) == 0) {
+    send_frame(line + sizeof sent - 1, length - (sizeof sent - 1));
   }
 }
 
@@ -87,30 +102,22 @@ show_line(const uint8_t *line, size_t length)
 void
 show_turn(const struct toarmuts_call *call)
 {
-  uint8_t line[LINE_ROOM];
-  size_t length;
   line_count++;
   if(call->kind == TOARMUTS_CALL_PRINT) {
     output_put(CONSOLE, call->bytes, call->length);
   }
-  if(board_settings.run_script != NULL && last_line(line, sizeof line, &length) == 0) {
-    show_line(line, length);
+  if(board_settings.run_script != NULL) {
+    show_last_line();
   }
 }
 
-/* An input, a note or the halt. A frame that was sent is known only by its line. */
+/* An input, a note or the halt. */
 void
 show_entry(void)
 {
-  static const char sent[] = "note sent ";
-  uint8_t line[LINE_ROOM];
-  size_t length;
   line_count++;
-  if(last_line(line, sizeof line, &length) != 0) {
-    return;
+  if(board_settings.run_script != NULL) {
+    show_last_line();
   }
-  show_line(line, length);
-  if(length > sizeof sent - 1 && memcmp(line, sent, sizeof sent - 1) == 0) {
-    send_frame(line + sizeof sent - 1, length - (sizeof sent - 1));
-  }
+  send_last_frame();
 }

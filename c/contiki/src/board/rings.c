@@ -4,7 +4,7 @@
 
 #include <stdlib.h>
 
-enum { INPUT_ROOM = 512, MANY = 256, INPUTS = RECORD, FIRST_ROOM = 16, LINE_END = '\n', SLIP_END = 0xc0 };
+enum { INPUT_ROOM = 512, MANY = 256, INPUTS = RECORD, FIRST_ROOM = 16, LINE_END = '\n', SLIP_END = 0xc0, SLIP_ESC = 0xdb };
 
 /* The interrupt writes, the main loop reads. */
 struct input {
@@ -12,12 +12,16 @@ struct input {
   _Atomic uint32_t ends; /* of lines or frames that were put */
   uint32_t ends_taken;
   _Atomic uint32_t lost;
+  bool has_gap; /* the frame that is being put lost a byte */
 };
 
 /* The main loop writes; the interrupt reads, or the main loop while interrupts are disabled. */
 struct output {
   struct ring ring;
   uint32_t lost;
+  bool was_behind;
+  uint32_t taken_then;
+  uint64_t since; /* the count at which bytes were taken last, while it is behind */
 };
 
 /* Before the rings are open a fault is told by these. */
@@ -54,15 +58,34 @@ rings_open(void)
 
 /* Inputs. */
 
+static void
+put_input(struct input *input, uint8_t byte, bool is_end)
+{
+  if(!ring_put(&input->ring, byte)) {
+    count_up(&input->lost);
+    input->has_gap = input == &inputs[RADIO];
+  } else if(is_end) {
+    count_up(&input->ends);
+  }
+}
+
+/* What is left of a frame that lost a byte is lost, too, and an escape before its end makes it a bad one: the mote must not have it. */
 void
 input_received(enum port port, uint8_t byte)
 {
   struct input *input = &inputs[port];
-  if(!ring_put(&input->ring, byte)) {
-    count_up(&input->lost);
-  } else if(byte == end_of[port]) {
-    count_up(&input->ends);
+  if(port == RECORD) {
+    return;
   }
+  if(input->has_gap) {
+    if(byte != SLIP_END || ring_used(&input->ring) + 2 > input->ring.room) {
+      count_up(&input->lost);
+      return;
+    }
+    input->has_gap = false;
+    ring_put(&input->ring, SLIP_ESC);
+  }
+  put_input(input, byte, byte == end_of[port]);
 }
 
 /* Whether a line or a frame is whole, or so long that it must be taken in parts. */
@@ -118,6 +141,24 @@ input_has_frame(void)
 
 /* Outputs. */
 
+void
+handle_console(void)
+{
+  board_pump(CONSOLE);
+}
+
+void
+handle_radio(void)
+{
+  board_pump(RADIO);
+}
+
+void
+handle_record(void)
+{
+  board_pump(RECORD);
+}
+
 int
 output_next(enum port port)
 {
@@ -157,17 +198,37 @@ output_put(enum port port, const void *bytes, size_t length)
   return true;
 }
 
-/* Waits until all bytes have left: at a fault, where nothing else happens any more, and in a script. */
+/* Whether a port that is behind is waited for. One that takes nothing for a time isn't, until it takes something. */
+bool
+output_is_awaited(enum port port, bool is_behind)
+{
+  struct output *output = &outputs[port];
+  uint32_t taken = count_read(&output->ring.taken);
+  if(is_behind && (!output->was_behind || taken != output->taken_then)) {
+    output->taken_then = taken;
+    output->since = clock_count();
+  }
+  output->was_behind = is_behind;
+  return is_behind && clock_count() - output->since <= (uint64_t)PATIENCE * board_hz;
+}
+
+/* Waits until all bytes have left: at a fault, where nothing else happens any more, and in a script. At a fault a port that takes nothing
+ * doesn't hold up what follows: its bytes are lost. */
 void
 output_put_at_once(enum port port, const void *bytes, size_t length)
 {
-  for(size_t i = 0; i < length || output_is_left(port);) {
+  size_t i = 0;
+  while(i < length || output_is_left(port)) {
     if(i < length && ring_put(&outputs[port].ring, ((const uint8_t *)bytes)[i])) {
       i++;
-    } else {
+    } else if(board_settings.run_script != NULL || output_is_awaited(port, true)) {
       pump(port);
+    } else {
+      outputs[port].lost += (uint32_t)(length - i);
+      return;
     }
   }
+  output_is_awaited(port, false);
 }
 
 size_t

@@ -11,7 +11,11 @@ run_board_script(void)
   for(const char *line = board_script; line < board_script_end; number++) {
     const char *end = memchr(line, '\n', (size_t)(board_script_end - line));
     size_t length = (size_t)((end == NULL ? board_script_end : end) - line);
-    if(feed_line(line, length) != 0) {
+    uint32_t status = feed_line(line, length);
+    if(status != 0 && status != TOARMUTS_BAD_LINE) {
+      stop("the mote accepts no more inputs");
+    }
+    if(status != 0) {
       struct report report = {.length = 0};
       add_text(&report, "bad line ");
       add_number(&report, number);

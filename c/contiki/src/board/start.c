@@ -4,11 +4,10 @@
  */
 #include "firmware.h"
 
-extern uint8_t data_start[], data_end[], data_image[], bss_start[], bss_end[];
-extern const uint8_t stack_low_open[];
-void firmware(void);
+extern uint8_t board_data_start[], board_data_end[], board_data_image[], board_bss_start[], board_bss_end[];
+extern const uint8_t board_stack_low_open[];
 
-const uint8_t *stack_low = stack_low_open;
+const uint8_t *stack_low = board_stack_low_open;
 
 #define REG(address) (*(volatile uint32_t *)(address))
 #define CONFIGURATION REG(0xe000ed14)
@@ -20,7 +19,7 @@ const uint8_t *stack_low = stack_low_open;
 #define MPU_BASE REG(0xe000ed9c)
 #define MPU_SIZE REG(0xe000eda0)
 
-enum { NULL_GUARD = 8 };
+enum { NULL_GUARD = 8, PARTS_TO_LEAVE = 50 /* of a second: 20 milliseconds */ };
 enum { SYS_EXIT_EXTENDED = 0x20, APPLICATION_EXIT = 0x20026 };
 
 /* Asks the emulator, or a debugger: only with a script. */
@@ -41,11 +40,28 @@ board_stop(int status)
     const uint32_t arguments[2] = {APPLICATION_EXIT, (uint32_t)status};
     ask_host(SYS_EXIT_EXTENDED, arguments);
   } else if(!board_settings.stops_at_fault) {
+    /* First the bytes leave that the ports themselves have. */
+    for(uint32_t begin = board_count(); board_count() - begin < board_hz / PARTS_TO_LEAVE;) {
+    }
     RESET = 0x05fa0004;
   }
   for(;;) {
     __asm__ volatile("wfi");
   }
+}
+
+/* Tables of functions name these, for the unwinding of stacks. Nothing unwinds one, so the C library's 4 KB for that aren't linked. */
+void __aeabi_unwind_cpp_pr0(void);
+void __aeabi_unwind_cpp_pr1(void);
+
+void
+__aeabi_unwind_cpp_pr0(void)
+{
+}
+
+void
+__aeabi_unwind_cpp_pr1(void)
+{
 }
 
 /* A region of the MPU that nothing may be read from or written to. */
@@ -75,38 +91,37 @@ guard_stack(const uint8_t *low, unsigned log2_of_size)
 __attribute__((used, noreturn)) static void
 start(void)
 {
-  memcpy(data_start, data_image, (size_t)(data_end - data_start));
-  memset(bss_start, 0, (size_t)(bss_end - bss_start));
-  CONFIGURATION |= 0x10; /* a division by 0 is a fault */
+  memcpy(board_data_start, board_data_image, (size_t)(board_data_end - board_data_start));
+  memset(board_bss_start, 0, (size_t)(board_bss_end - board_bss_start));
+  CONFIGURATION |= 0x11; /* a division by 0 is a fault; a handler may end while another one doesn't */
   FAULT_HANDLERS |= 7u << 16;
-  guard_stack(stack_low_open, OPEN_GUARD);
+  guard_stack(board_stack_low_open, OPEN_GUARD);
   firmware();
   board_stop(0);
 }
 
-void reset(void);
+void board_reset(void);
 
 __attribute__((naked, used)) void
-reset(void)
+board_reset(void)
 {
-  __asm__ volatile("ldr r0, =stack_top\n msr psp, r0\n movs r0, #2\n msr control, r0\n isb\n bl start\n");
+  __asm__ volatile("ldr r0, =board_stack_top\n msr psp, r0\n movs r0, #2\n msr control, r0\n isb\n bl start\n");
 }
 
-void report_fault(const uint32_t *frame, uint32_t exception);
-
-/* A fault: the frame is on the stack that was in use. The handler's begins anew. */
+/* A fault: the frame is on the stack that was in use. Of the handlers' stack the report uses what is below, or all where that is little. It
+ * runs outside of any handler: there a further fault comes here again, where it would lock up the processor within one. */
 __attribute__((naked, used)) static void
 stop_at_fault(void)
 {
-  __asm__ volatile("tst lr, #4\n ite eq\n mrseq r0, msp\n mrsne r0, psp\n mrs r1, ipsr\n ldr r2, =handler_stack_top\n msr msp, r2\n"
-                   " b report_fault\n");
+  __asm__ volatile("cpsid i\n tst lr, #4\n ite eq\n mrseq r0, msp\n mrsne r0, psp\n mrs r1, ipsr\n"
+                   " ldr r2, =board_handler_stack_top\n mrs r3, msp\n sub r3, r2, r3\n cmp r3, #256\n it hi\n movhi sp, r2\n"
+                   " ldr r2, =report_fault\n bic r2, #1\n mov r3, #0x01000000\n push {r2, r3}\n push {r0-r3, r12, lr}\n"
+                   " ldr lr, =0xfffffff9\n bx lr\n");
 }
 
-extern void systick_handler(void);
-
 __attribute__((section(".vectors"), used)) static void (*const vectors[16])(void) = {
-  (void (*)(void))handler_stack_top,
-  reset,
+  (void (*)(void))board_handler_stack_top,
+  board_reset,
   stop_at_fault,
   stop_at_fault,
   stop_at_fault,

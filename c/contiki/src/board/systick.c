@@ -1,13 +1,11 @@
 /* SysTick, by which most boards wake. */
-#include "board.h"
+#include "firmware.h"
 
 #define REG(address) (*(volatile uint32_t *)(address))
 #define SYSTICK_CONTROL REG(0xe000e010)
 #define SYSTICK_RELOAD REG(0xe000e014)
 #define SYSTICK_VALUE REG(0xe000e018)
 enum { SYSTICK_MOST = 0xffffff };
-
-void systick_handler(void);
 
 /* It wakes once. */
 void

@@ -82,19 +82,17 @@ get_udp(struct bytes *in, uint8_t *udp, unsigned nhc)
   get(in, udp + 6, 2);
 }
 
-/* An extension header; returns its length in the packet, or 0. Padding at the end of options may be left out (section 4.2). */
+/* An extension header, of which `next` follows; returns its length in the packet, or 0. Padding at the end may be left out, but for that
+ * of a routing header, which isn't an option (section 4.2). */
 static size_t
 get_extension(struct bytes *in, uint8_t *header, size_t room, unsigned nhc)
 {
-  size_t length, whole;
-  if((nhc & NHC_EXT_NH) == 0) {
-    header[0] = (uint8_t)get_byte(in);
-  }
-  length = get_byte(in) + 2;
-  whole = (length + 7) / 8 * 8;
-  if(in->failed || whole > room) {
+  uint8_t next = (nhc & NHC_EXT_NH) == 0 ? (uint8_t)get_byte(in) : 0;
+  size_t length = get_byte(in) + 2, whole = (length + 7) / 8 * 8;
+  if(in->failed || whole > room || ((nhc & NHC_EXT_ID) == NHC_EXT_ROUTING && whole != length)) {
     return 0;
   }
+  header[0] = next;
   header[1] = (uint8_t)(whole / 8 - 1);
   get(in, header + 2, length - 2);
   if(whole - length == 1) {
@@ -136,14 +134,22 @@ get_next_headers(struct bytes *in, struct packet *packet, size_t *udp_at)
   }
 }
 
+/* Whether the modes of both addresses are known ones, and context 0 the only one that they use (section 3.1). */
+static bool
+are_modes_known(unsigned modes, unsigned contexts)
+{
+  bool uses_first = (modes & SAC) != 0 && (modes & SAM) != 0, uses_second = (modes & DAC) != 0;
+  return (modes & (M | DAC)) != (M | DAC) && (modes & (M | DAC | DAM)) != DAC && !(uses_first && contexts >> 4 != 0) &&
+         !(uses_second && (contexts & 15) != 0);
+}
+
 size_t
 expand(struct bytes *in, struct packet *packet, const linkaddr_t *source, const linkaddr_t *destination, size_t *udp_at)
 {
   static const uint8_t limits[] = {0, 1, 64, 255};
-  unsigned first = get_byte(in), second = get_byte(in), mode = second & 3;
+  unsigned first = get_byte(in), second = get_byte(in), mode = second & DAM;
   uint8_t *bytes = packet->bytes;
-  if((first & IPHC_MASK) != IPHC || ((second & CID) != 0 && get_byte(in) != 0) || (second & (M | DAC)) == (M | DAC) ||
-     (second & (M | DAC | 3)) == DAC) {
+  if((first & IPHC_MASK) != IPHC || !are_modes_known(second, (second & CID) != 0 ? get_byte(in) : 0)) {
     return 0;
   }
   memset(bytes, 0, UIP_IPUDPH_LEN);

@@ -1,6 +1,8 @@
 /* ICMPv6 (RFC 4443): echo replies, errors, and the messages of RPL. */
 #include "stack.h"
 
+#include "net/packetbuf.h"
+
 #include "sys/log.h"
 #define LOG_MODULE "ICMPv6"
 #define LOG_LEVEL mote_ipv6_settings.log_ipv6
@@ -17,8 +19,9 @@ static unsigned long last_error;
 
 /* Output. */
 
-void
-output_icmp(uint8_t type, uint8_t code, const uint8_t *body, size_t length, const uip_ipaddr_t *destination)
+/* Sends a message; from an address of the link or of the network, by its destination, where the source is NULL. */
+static void
+output_from(const uip_ipaddr_t *source, uint8_t type, uint8_t code, const uint8_t *body, size_t length, const uip_ipaddr_t *destination)
 {
   struct packet packet;
   uint8_t *icmp = packet.bytes + UIP_IPH_LEN;
@@ -27,6 +30,9 @@ output_icmp(uint8_t type, uint8_t code, const uint8_t *body, size_t length, cons
     return;
   }
   begin_packet(&packet, UIP_PROTO_ICMP6, destination);
+  if(source != NULL) {
+    memcpy(packet.bytes + SRC_AT, source, ADDRESS_SIZE);
+  }
   icmp[0] = type;
   icmp[1] = code;
   put16(icmp + 2, 0);
@@ -40,6 +46,12 @@ output_icmp(uint8_t type, uint8_t code, const uint8_t *body, size_t length, cons
     LOG_INFO_6ADDR(destination);
     LOG_INFO_("\n");
   }
+}
+
+void
+output_icmp(uint8_t type, uint8_t code, const uint8_t *body, size_t length, const uip_ipaddr_t *destination)
+{
+  output_from(NULL, type, code, body, length, destination);
 }
 
 /* Whether a packet has an ICMPv6 error: that causes no other one. */
@@ -78,8 +90,9 @@ send_error(uint8_t type, uint8_t code, uint32_t parameter, const struct packet *
   size_t length = MIN((size_t)packet->length, room);
   uint8_t body[FIELD + MOST_PACKET];
   bool may_be_group = type == TOO_BIG || (type == PARAMETER_PROBLEM && code == UNKNOWN_OPTION);
-  if(uip_is_addr_unspecified(&source) || uip_is_addr_mcast(&source) || uip_ds6_is_my_addr(&source) ||
-     (uip_is_addr_mcast(&destination) && !may_be_group) || has_error(packet) || !may_tell()) {
+  bool was_for_all = uip_is_addr_mcast(&destination) || linkaddr_cmp(packetbuf_addr(PACKETBUF_ADDR_RECEIVER), &linkaddr_null);
+  if(uip_is_addr_unspecified(&source) || uip_is_addr_mcast(&source) || uip_ds6_is_my_addr(&source) || (was_for_all && !may_be_group) ||
+     has_error(packet) || !may_tell()) {
     return;
   }
   put32(body, parameter);
@@ -93,7 +106,9 @@ static void
 drop(uip_stats_t *kind, const char *why)
 {
   uip_stat.icmp.drop++;
-  (*kind)++;
+  if(kind != NULL) {
+    (*kind)++;
+  }
   LOG_INFO("a message is dropped: %s\n", why);
 }
 
@@ -114,9 +129,13 @@ input_icmp(const struct packet *packet, size_t at, const linkaddr_t *from)
   if(checksum_of(packet, at, UIP_PROTO_ICMP6, &destination) != 0) {
     drop(&uip_stat.icmp.chkerr, "its checksum is wrong");
   } else if(icmp[0] == ECHO_REQUEST && icmp[1] == 0) {
-    output_icmp(ECHO_REPLY, 0, icmp + UIP_ICMPH_LEN, packet->length - at - UIP_ICMPH_LEN, &source);
+    /* The reply is from the address that was asked (section 4.2). */
+    output_from(uip_is_addr_mcast(&destination) ? NULL : &destination, ECHO_REPLY, 0, icmp + UIP_ICMPH_LEN,
+                packet->length - at - UIP_ICMPH_LEN, &source);
   } else if(icmp[0] == ICMP_RPL) {
-    input_rpl(packet, at, from);
+    if(!input_rpl(packet, at, from)) {
+      drop(NULL, "it isn't a message of RPL");
+    }
   } else if(icmp[0] < FIRST_INFORMATION) {
     input_error(icmp, &source);
   } else {

@@ -5,10 +5,11 @@
 #include "stack.h"
 
 /* The two bytes of IPHC (section 3.1.1). */
-enum { IPHC = 0x60, IPHC_MASK = 0xe0, NH = 0x04, CID = 0x80, SAC = 0x40, M = 0x08, DAC = 0x04 };
+enum { IPHC = 0x60, IPHC_MASK = 0xe0, NH = 0x04, CID = 0x80, SAC = 0x40, SAM = 0x30, M = 0x08, DAC = 0x04, DAM = 0x03 };
 
 /* The byte of a next header (sections 4.2 and 4.3). */
-enum { NHC_UDP = 0xf0, NHC_UDP_MASK = 0xf8, NHC_NO_CHECKSUM = 4, NHC_EXT = 0xe0, NHC_EXT_MASK = 0xf0, NHC_EXT_NH = 0x01 };
+enum { NHC_UDP = 0xf0, NHC_UDP_MASK = 0xf8, NHC_NO_CHECKSUM = 4 };
+enum { NHC_EXT = 0xe0, NHC_EXT_MASK = 0xf0, NHC_EXT_ID = 0x0e, NHC_EXT_ROUTING = 0x02, NHC_EXT_NH = 0x01 };
 
 /* A write or a read beyond the end fails; such a read gives zeros. */
 struct bytes {

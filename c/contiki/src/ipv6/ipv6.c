@@ -61,6 +61,9 @@ send_near(const struct packet *packet)
 {
   uip_ipaddr_t destination = get_address(packet->bytes + DST_AT);
   linkaddr_t next = link_of(&destination);
+  if(linkaddr_cmp(&next, &linkaddr_null)) {
+    return NO_WAY;
+  }
   return send_packet(packet, &next) ? SENT : NO_ROOM;
 }
 
@@ -90,6 +93,10 @@ send_down(struct packet *packet, const uip_ipaddr_t *destination)
   unsigned hops = path_to(destination, path);
   remove_option(packet);
   if(hops == 0) {
+    /* A DAO-ACK may find none, as the DAO of a mote on its way is yet to come. */
+    if(packet->bytes[6] != UIP_PROTO_ICMP6 || packet->bytes[UIP_IPH_LEN] != ICMP_RPL) {
+      report_missing_route(destination);
+    }
     return NO_WAY;
   }
   if((hops > 1 && !uip_ds6_is_my_addr(&source) && !encapsulate(packet)) || !add_source_route(packet)) {
@@ -115,11 +122,23 @@ send_far(struct packet *packet, const uip_ipaddr_t *destination)
   return send_packet(packet, &parent->link) ? SENT : NO_ROOM;
 }
 
+/* :: and ::1, which are never on a link (RFC 4291, sections 2.5.2 and 2.5.3). */
+static bool
+is_for_no_link(const uip_ipaddr_t *address)
+{
+  uip_ipaddr_t first = *address;
+  first.u8[ADDRESS_SIZE - 1] &= 0xfe;
+  return uip_is_addr_unspecified(&first);
+}
+
 static enum fate
 send_on(struct packet *packet)
 {
   uip_ipaddr_t destination = get_address(packet->bytes + DST_AT);
   put16(packet->bytes + 4, (size_t)packet->length - UIP_IPH_LEN);
+  if(is_for_no_link(&destination)) {
+    return NO_WAY;
+  }
   if(uip_is_addr_mcast(&destination)) {
     return send_packet(packet, NULL) ? SENT : NO_ROOM;
   }
@@ -173,11 +192,11 @@ forward(struct packet *packet)
   struct packet received;
   enum fate fate;
   if(uip_is_addr_linklocal(&source) || uip_is_addr_linklocal(&destination) || uip_is_addr_mcast(&destination) ||
-     uip_is_addr_unspecified(&destination)) {
+     is_for_no_link(&destination)) {
     drop(NULL, "it is for another mote of the link");
     return;
   }
-  received = *packet;
+  copy_packet(&received, packet);
   if(!may_hop(packet)) {
     return;
   }
@@ -189,23 +208,30 @@ forward(struct packet *packet)
     send_error(UNREACHABLE, NO_ROUTE, 0, &received);
   } else if(fate == TOO_LONG) {
     drop(NULL, "it is too long with RPL's header");
-    send_error(TOO_BIG, 0, MOST_PACKET - 8, &received);
+    send_error(TOO_BIG, 0, mote_ipv6_settings.buffer_size - 8u, &received);
   } else {
     drop(NULL, "a frame has no room");
   }
 }
 
-/* A packet in a packet that was for this mote. */
+/* A packet in a packet that was for this mote. Addresses of a link mean nothing in it: it may have come from far. */
 static void
 input_inner(const struct packet *packet, size_t at, const linkaddr_t *from)
 {
   struct packet inner;
+  uip_ipaddr_t source, destination;
   if(packet->length - at < UIP_IPH_LEN) {
     drop(&uip_stat.ip.lblenerr, "a length is wrong");
     return;
   }
   inner.length = (uint16_t)(packet->length - at);
   memcpy(inner.bytes, packet->bytes + at, inner.length);
+  source = get_address(inner.bytes + SRC_AT);
+  destination = get_address(inner.bytes + DST_AT);
+  if(uip_is_addr_linklocal(&source) || uip_is_addr_linklocal(&destination) || uip_is_addr_mcast(&destination)) {
+    drop(NULL, "it is of another link");
+    return;
+  }
   input_packet(&inner, from);
 }
 
@@ -236,11 +262,13 @@ input_content(const struct packet *packet, size_t at, size_t next_at, const link
 static enum hop
 input_route(struct packet *packet, size_t at)
 {
-  struct packet received = *packet;
-  enum hop hop = follow_source_route(packet, at);
+  size_t fault;
+  enum hop hop = follow_source_route(packet, at, &fault);
   if(hop == HOP_DROP) {
     drop(NULL, "its routing header is wrong");
-    send_error(PARAMETER_PROBLEM, BAD_FIELD, (uint32_t)at + 2, &received);
+    if(fault > 0) {
+      send_error(PARAMETER_PROBLEM, BAD_FIELD, (uint32_t)fault, packet);
+    }
   } else if(hop == HOP_ON && may_hop(packet)) {
     if(send_near(packet) == SENT) {
       uip_stat.ip.forwarded++;
@@ -251,12 +279,12 @@ input_route(struct packet *packet, size_t at)
   return hop;
 }
 
-/* A packet for this mote: its content is, or a source route leads on. */
+/* A packet for this mote: its content is, or a source route leads on. A hop-by-hop header that isn't the first one is unknown. */
 static void
 input_here(struct packet *packet, const linkaddr_t *from)
 {
   size_t at = UIP_IPH_LEN, next_at = 6;
-  while(is_extension(packet->bytes[next_at])) {
+  while(is_extension(packet->bytes[next_at]) && (packet->bytes[next_at] != UIP_PROTO_HBHO || at == UIP_IPH_LEN)) {
     uint8_t protocol = packet->bytes[next_at];
     if(protocol == UIP_PROTO_ROUTING && input_route(packet, at) != HOP_HERE) {
       return;
@@ -305,7 +333,7 @@ input_packet(struct packet *packet, const linkaddr_t *from)
   }
   source = get_address(packet->bytes + SRC_AT);
   destination = get_address(packet->bytes + DST_AT);
-  if(uip_is_addr_mcast(&source) || uip_is_addr_unspecified(&source)) {
+  if(uip_is_addr_mcast(&source) || is_for_no_link(&source)) {
     drop(NULL, "its sender isn't a mote");
   } else if(may_pass(packet)) {
     if(uip_ds6_is_my_addr(&destination) || uip_ds6_is_my_maddr(&destination)) {

@@ -27,19 +27,26 @@ struct waiting {
   uint8_t bytes[MOST_FRAME];
 };
 
-static struct waiting waiting[FRAMES];
+static struct waiting *waiting;
 static struct ctimer retry_timer;
 static bool must_arm;
 
 /* The last frames that arrived, to find those that come a second time. */
-static struct {
+static struct seen {
   linkaddr_t from;
   clock_time_t when;
   uint8_t sequence;
-} seen[SEEN];
+} * seen;
 static unsigned last_seen;
 
 static void retry(void *ptr);
+
+void
+start_mac(void)
+{
+  waiting = take_room(FRAMES, sizeof *waiting);
+  seen = take_room(SEEN, sizeof *seen);
+}
 
 /* Sets the timer for the first frame that is due. */
 static void
@@ -92,12 +99,12 @@ send_frame(const uint8_t *bytes, size_t length)
   return is_sent;
 }
 
-static bool
+static void
 try_once(struct waiting *one)
 {
   one->tries++;
   one->due = mote_radio_clock() + mote_radio_round_trip() + 1;
-  return send_frame(one->bytes, one->length);
+  send_frame(one->bytes, one->length);
 }
 
 /* Sends a frame again, or gives it up. */
@@ -114,6 +121,7 @@ try_again(struct waiting *one)
   LOG_INFO("a frame is given up after %d tries, to ", TRIES);
   LOG_INFO_LLADDR(&one->to);
   LOG_INFO_("\n");
+  note_tries(&one->to, TRIES, false);
   report_link_failure(&one->to);
 }
 
@@ -130,6 +138,17 @@ retry(void *ptr)
   arm_retries();
 }
 
+/* Whether a number is that of a frame that waits: an acknowledgement has no more than the number. */
+static bool
+is_number_taken(uint8_t sequence)
+{
+  bool is_taken = false;
+  for(unsigned i = 0; i < FRAMES; i++) {
+    is_taken |= waiting[i].tries > 0 && waiting[i].bytes[SEQUENCE_AT] == sequence;
+  }
+  return is_taken;
+}
+
 /* A free slot for a frame, or NULL. */
 static struct waiting *
 free_waiting(void)
@@ -143,17 +162,30 @@ free_waiting(void)
   return NULL;
 }
 
+/* Whether this many frames to one mote may wait, beside those that do. */
+bool
+has_slots(size_t frames)
+{
+  size_t unused = 0;
+  for(unsigned i = 0; i < mote_ipv6_settings.frames; i++) {
+    unused += waiting[i].tries == 0;
+  }
+  return frames <= unused;
+}
+
+/* True if the frame is sent, or waits to be sent again. */
 bool
 transmit(const uint8_t *bytes, size_t length, const linkaddr_t *to)
 {
   uint8_t frame[MOST_FRAME];
   struct waiting *one = to == NULL ? NULL : free_waiting();
   size_t header;
-  bool is_sent;
   if(to != NULL && one == NULL) {
     return false;
   }
-  header = mote_radio_write_header(frame, to);
+  do {
+    header = mote_radio_write_header(frame, to);
+  } while(is_number_taken(frame[SEQUENCE_AT]));
   memcpy(frame + header, bytes, length);
   if(to == NULL) {
     return send_frame(frame, header + length);
@@ -161,9 +193,9 @@ transmit(const uint8_t *bytes, size_t length, const linkaddr_t *to)
   one->to = *to;
   one->length = (uint8_t)(header + length);
   memcpy(one->bytes, frame, header + length);
-  is_sent = try_once(one);
+  try_once(one);
   arm_soon();
-  return is_sent;
+  return true;
 }
 
 /* An acknowledgement (section 7.3.3). Addresses have the low byte first. */
@@ -186,8 +218,11 @@ take_ack(const uint8_t *frame)
     }
   }
   for(unsigned i = 0; i < FRAMES; i++) {
-    if(waiting[i].tries > 0 && waiting[i].bytes[SEQUENCE_AT] == frame[SEQUENCE_AT]) {
+    /* The number, and the PAN after it. */
+    if(waiting[i].tries > 0 && memcmp(waiting[i].bytes + SEQUENCE_AT, frame + SEQUENCE_AT, 3) == 0) {
+      unsigned tries = waiting[i].tries;
       waiting[i].tries = 0;
+      note_tries(&waiting[i].to, tries, true);
     }
   }
   arm_soon();
@@ -220,9 +255,9 @@ hear_frame(const uint8_t *frame, size_t length, size_t header)
     take_ack(frame);
     return;
   }
-  if(header == 0 || linkaddr_cmp(&from, &linkaddr_null)) {
+  if(header == 0 || linkaddr_cmp(&from, &linkaddr_null) || linkaddr_cmp(&from, &linkaddr_node_addr)) {
     uip_stat.mac.drop++;
-    LOG_INFO("a frame of %zu bytes is dropped: it has no header of 2015\n", length);
+    LOG_INFO("a frame of %zu bytes is dropped: it has no header of 2015 from another mote\n", length);
     return;
   }
   uip_stat.mac.recv++;

@@ -40,11 +40,11 @@ start_root(void)
     .least_interval = mote_ipv6_settings.dio_interval,
     .redundancy = mote_ipv6_settings.dio_redundancy,
     .hop_rank_increase = mote_ipv6_settings.hop_rank_increase,
-    .objective = OF0,
+    .objective = mote_ipv6_settings.objective,
     .default_lifetime = mote_ipv6_settings.lifetime,
     .lifetime_unit = mote_ipv6_settings.lifetime_unit,
   };
-  if(rpl.is_root) {
+  if(rpl.is_root && !is_leaving()) {
     return 0;
   }
   dio.dag_id = with_prefix(&prefix, has_root_iid ? root_iid.u8 + IID_AT : own.u8 + IID_AT);

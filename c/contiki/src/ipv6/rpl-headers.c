@@ -3,7 +3,7 @@
 
 #include "rpl.h"
 
-enum { OPTION = 0x63, OPTION_SIZE = 8, DOWN = 0x80, RANK_ERROR = 0x40, SRH = 3, SRH_SIZE = 8 };
+enum { PADN = 1, OPTION = 0x63, OPTION_SIZE = 8, DOWN = 0x80, RANK_ERROR = 0x40, SRH = 3, SRH_SIZE = 8 };
 
 /* Makes room in a packet, or takes it away. */
 static bool
@@ -35,36 +35,43 @@ find_option(struct packet *packet)
   return at + 6 <= length && header[at + 1] >= 4 ? header + at : NULL;
 }
 
-/* Adds the option to a packet that goes up, if it has none. */
+/* Adds the option to a packet that goes up, if it has none: in a header of its own, or with padding in the one that there is. */
 bool
 add_option(struct packet *packet)
 {
-  uint8_t *header = packet->bytes + UIP_IPH_LEN, protocol = packet->bytes[6];
+  uint8_t *header = packet->bytes + UIP_IPH_LEN, *option = header + 2, protocol = packet->bytes[6];
   if(find_option(packet) != NULL) {
     return true;
   }
-  if(!insert_bytes(packet, UIP_IPH_LEN, OPTION_SIZE)) {
+  if(!insert_bytes(packet, protocol == UIP_PROTO_HBHO ? UIP_IPH_LEN + 2 : UIP_IPH_LEN, OPTION_SIZE)) {
     return false;
   }
-  packet->bytes[6] = UIP_PROTO_HBHO;
-  header[0] = protocol;
-  header[2] = OPTION;
-  header[3] = 4;
-  header[5] = RPL_INSTANCE;
-  put16(header + 6, own_rank());
+  if(protocol == UIP_PROTO_HBHO) {
+    header[1]++;
+    option[6] = PADN;
+  } else {
+    packet->bytes[6] = UIP_PROTO_HBHO;
+    header[0] = protocol;
+  }
+  option[0] = OPTION;
+  option[1] = 4;
+  option[3] = RPL_INSTANCE;
+  put16(option + 4, own_rank());
   return true;
 }
 
-/* Removes a hop-by-hop header that has only the option. */
+/* For a packet that goes down: removes a hop-by-hop header that has only the option. Where there are others, the option says so. */
 void
 remove_option(struct packet *packet)
 {
-  uint8_t *header = packet->bytes + UIP_IPH_LEN;
-  if(find_option(packet) == header + 2 && header[1] == 0) {
+  uint8_t *header = packet->bytes + UIP_IPH_LEN, *option = find_option(packet);
+  if(option == header + 2 && header[1] == 0) {
     packet->bytes[6] = header[0];
     memmove(header, header + OPTION_SIZE, (size_t)packet->length - UIP_IPH_LEN - OPTION_SIZE);
     packet->length -= OPTION_SIZE;
     put16(packet->bytes + 4, (size_t)packet->length - UIP_IPH_LEN);
+  } else if(option != NULL) {
+    option[2] |= DOWN;
   }
 }
 
@@ -73,13 +80,15 @@ bool
 update_option(struct packet *packet)
 {
   uint8_t *option = find_option(packet);
+  uint16_t rank;
   if(option == NULL) {
     return true;
   }
   if(!has_dag() || option[3] != RPL_INSTANCE) {
     return false;
   }
-  if((option[2] & DOWN) == 0 && get16(option + 4) <= own_rank()) {
+  rank = get16(option + 4);
+  if((option[2] & DOWN) != 0 ? rank >= own_rank() : rank <= own_rank()) {
     report_rank_error();
     if((option[2] & RANK_ERROR) != 0) {
       return false;
@@ -147,27 +156,92 @@ add_source_route(struct packet *packet)
   return true;
 }
 
-/* The packet's next hop, which swaps places with its destination (RFC 6554, section 4.2). */
-enum hop
-follow_source_route(struct packet *packet, size_t at)
+/* A source routing header: the lengths of its addresses, and their number. */
+struct route {
+  const uint8_t *addresses;
+  size_t inner, last, hops;
+};
+
+/* False if the header isn't long enough for one address. */
+static bool
+read_route(const uint8_t *header, struct route *route)
 {
-  uint8_t *header = packet->bytes + at, *address = packet->bytes + DST_AT, kept[ADDRESS_SIZE];
-  size_t inner = ADDRESS_SIZE - (size_t)(header[4] >> 4), last = ADDRESS_SIZE - (size_t)(header[4] & 15), padding = header[5] >> 4;
-  size_t content = 8 * (size_t)header[1], hops, hop, size;
+  size_t content = 8 * (size_t)header[1], padding = header[5] >> 4;
+  route->addresses = header + SRH_SIZE;
+  route->inner = ADDRESS_SIZE - (size_t)(header[4] >> 4);
+  route->last = ADDRESS_SIZE - (size_t)(header[4] & 15);
+  if(content < padding + route->last) {
+    return false;
+  }
+  route->hops = (content - padding - route->last) / route->inner + 1;
+  return true;
+}
+
+static size_t
+hop_size(const struct route *route, size_t hop)
+{
+  return hop == route->hops - 1 ? route->last : route->inner;
+}
+
+/* An address of the route: what it leaves out are the first bytes of the packet's destination. */
+static uip_ipaddr_t
+hop_address(const struct route *route, size_t hop, const uip_ipaddr_t *destination)
+{
+  uip_ipaddr_t address = *destination;
+  size_t size = hop_size(route, hop);
+  memcpy(address.u8 + ADDRESS_SIZE - size, route->addresses + hop * route->inner, size);
+  return address;
+}
+
+/* Whether the route returns to this mote from another one. */
+static bool
+is_loop(const struct route *route, const uip_ipaddr_t *destination)
+{
+  bool was_here = false, has_left = false;
+  for(size_t hop = 0; hop < route->hops; hop++) {
+    uip_ipaddr_t address = hop_address(route, hop, destination);
+    bool is_here = uip_ds6_is_my_addr(&address);
+    if(is_here && has_left) {
+      return true;
+    }
+    was_here |= is_here;
+    has_left = was_here && !is_here;
+  }
+  return false;
+}
+
+/* Whether a packet may go from hop to hop: not one of a group, or of a link. */
+static bool
+may_be_routed(const struct packet *packet, const uip_ipaddr_t *next)
+{
+  uip_ipaddr_t source = get_address(packet->bytes + SRC_AT);
+  return packet->bytes[DST_AT] != 0xff && !uip_is_addr_mcast(next) && !uip_is_addr_linklocal(next) && !uip_is_addr_linklocal(&source);
+}
+
+/* The packet's next hop, which swaps places with its destination (RFC 6554, section 4.2). Where the packet is dropped, `fault` is the
+ * position of what is wrong, of which its sender learns, or 0. */
+enum hop
+follow_source_route(struct packet *packet, size_t at, size_t *fault)
+{
+  uint8_t *header = packet->bytes + at;
+  uip_ipaddr_t destination = get_address(packet->bytes + DST_AT), next;
+  struct route route;
+  size_t hop;
+  *fault = header[2] != SRH ? at + 2 : at + 3;
   if(header[3] == 0) {
     return HOP_HERE;
   }
-  if(header[2] != SRH || content < padding + last) {
+  if(header[2] != SRH || !read_route(header, &route) || header[3] > route.hops) {
     return HOP_DROP;
   }
-  hops = (content - padding - last) / inner + 1;
-  if(header[3] > hops) {
+  hop = route.hops - header[3];
+  next = hop_address(&route, hop, &destination);
+  *fault = is_loop(&route, &destination) ? at + SRH_SIZE : 0;
+  if(!may_be_routed(packet, &next) || *fault != 0) {
     return HOP_DROP;
   }
-  hop = hops - header[3]--;
-  size = hop == hops - 1 ? last : inner;
-  memcpy(kept, address + ADDRESS_SIZE - size, size);
-  memcpy(address + ADDRESS_SIZE - size, header + SRH_SIZE + hop * inner, size);
-  memcpy(header + SRH_SIZE + hop * inner, kept, size);
-  return address[0] == 0xff ? HOP_DROP : HOP_ON;
+  header[3]--;
+  memcpy(packet->bytes + DST_AT, &next, ADDRESS_SIZE);
+  memcpy(header + SRH_SIZE + hop * route.inner, destination.u8 + ADDRESS_SIZE - hop_size(&route, hop), hop_size(&route, hop));
+  return HOP_ON;
 }

@@ -85,20 +85,13 @@ note_neighbor(const linkaddr_t *link, const struct rpl_dio *dio)
   return one;
 }
 
-/* Whether a neighbour may be the parent: not if the mote's rank would rise. */
-static bool
-may_be_parent(const struct rpl_neighbor *one)
-{
-  return one->rank < INFINITE_RANK - rpl.dio.hop_rank_increase && one->rank + rpl.dio.hop_rank_increase <= own_rank();
-}
-
-/* The one with the least rank that may be the parent, or NULL: the present parent, if it is one of these (RFC 6552, section 4.2). */
+/* The best one that may be the parent, or NULL: the present parent, if none is better (RFC 6552, section 4.2). */
 struct rpl_neighbor *
 best_neighbor(void)
 {
   struct rpl_neighbor *best = rpl.parent != NULL && may_be_parent(rpl.parent) ? rpl.parent : NULL;
   for(struct rpl_neighbor *one = list_head(neighbors); one != NULL; one = one->next) {
-    if(may_be_parent(one) && (best == NULL || one->rank < best->rank)) {
+    if(may_be_parent(one) && (best == NULL || is_better(one, best))) {
       best = one;
     }
   }

@@ -13,6 +13,9 @@
 /* In seconds, and how often the parent is asked. */
 enum { PROBE_TIMEOUT = 2, PROBE_TRIES = 5 };
 
+/* In ticks: timers of the mote are a bit longer. */
+enum { LONGEST_TIMER = INT32_MAX };
+
 static struct trickle_timer dio_timer;
 static struct ctimer dis_timer, dao_timer;
 static uint8_t dao_sequence, dao_tries, probes;
@@ -103,7 +106,8 @@ stop_daos(void)
 void
 take_dao_ack(uint8_t instance, uint8_t sequence, uint8_t status)
 {
-  clock_time_t lifetime = (clock_time_t)rpl.dio.default_lifetime * rpl.dio.lifetime_unit * contiki_clock_second;
+  clock_time_t longest = (clock_time_t)rpl.dio.default_lifetime * rpl.dio.lifetime_unit * contiki_clock_second;
+  clock_time_t lifetime = MIN(longest, (clock_time_t)LONGEST_TIMER);
   if(!has_joined() || rpl.is_root || instance != rpl.dio.instance || sequence != dao_sequence || status >= 128) {
     return;
   }

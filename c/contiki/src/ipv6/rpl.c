@@ -1,9 +1,9 @@
 /*
  * RPL (RFC 6550), mode 1: one DODAG, whose root alone knows routes. Motes join by DIOs of their neighbours, tell the root their parent by a
- * DAO, and are reachable when it answers. The rank rises by the same step at each hop (RFC 6552, section 4.1, with the least step).
+ * DAO, and are reachable when it answers. The rank is that of an objective function (rpl-objective.c).
  *
- * A mote's rank never rises within a version: one that loses its parent, and hears no neighbour with a rank that is low enough, detaches,
- * tells that its rank is infinite, and joins again. So it needs no limit to how far a rank may rise (DAGMaxRankIncrease 0).
+ * A mote that loses its parent, and hears no neighbour with a rank that is low enough, detaches, tells that its rank is infinite, and joins
+ * again. So it needs no limit to how far a rank may rise (DAGMaxRankIncrease 0).
  */
 #include "rpl.h"
 
@@ -14,7 +14,7 @@
 #define LOG_LEVEL mote_ipv6_settings.log_rpl
 
 /* In seconds: a mote without a network asks at first after one more than a random part of this. */
-enum { FIRST_DIS = 5 };
+enum { FIRST_DIS = 5, PATIENCE = 60 };
 
 /* Of section 7.2: a counter is circular up to here, and begins above. */
 enum { CIRCLE = 128, WINDOW = 16 };
@@ -22,7 +22,10 @@ enum { CIRCLE = 128, WINDOW = 16 };
 struct rpl rpl;
 
 /* What is left to do for this process, since another one asked for it. */
-static bool must_start, must_leave, must_repair, must_reset;
+static bool must_start, must_leave, must_forget, must_repair, must_reset;
+
+/* When the root asked all motes for their DAOs, and the seconds that it waits until it asks again. */
+static unsigned long asked_at, patience;
 
 /* What is known. */
 
@@ -56,13 +59,15 @@ has_joined(void)
   return own_rank() != INFINITE_RANK;
 }
 
+/* Counters that are more than a window apart can't be compared: neither is newer. */
 bool
 is_newer(uint8_t a, uint8_t b)
 {
+  int ahead = a < CIRCLE ? (a - b) & (CIRCLE - 1) : a - b;
   if((a < CIRCLE) != (b < CIRCLE)) {
     return a < CIRCLE ? 2 * CIRCLE + a - b <= WINDOW : 2 * CIRCLE + b - a > WINDOW;
   }
-  return a < CIRCLE ? ((a - b) & (CIRCLE - 1)) != 0 && ((a - b) & (CIRCLE - 1)) < CIRCLE / 2 : a > b;
+  return ahead > 0 && ahead <= WINDOW;
 }
 
 uint8_t
@@ -89,6 +94,21 @@ detach(void)
   ask_after(contiki_clock_second + random_below(FIRST_DIS * contiki_clock_second));
 }
 
+/* The mote's rank by its parent. */
+static void
+take_rank(uint16_t rank)
+{
+  if(rpl.dio.rank == rank) {
+    return;
+  }
+  rpl.dio.rank = rank;
+  rpl.lowest_rank = MIN(rpl.lowest_rank, rank);
+  if(is_another_rank(rank)) {
+    rpl.told_rank = rank;
+    reset_trickle();
+  }
+}
+
 static void
 choose_parent(void)
 {
@@ -104,9 +124,15 @@ choose_parent(void)
     rpl.parent = best;
     schedule_dao();
   }
-  if(rpl.dio.rank != best->rank + rpl.dio.hop_rank_increase) {
-    rpl.dio.rank = (uint16_t)(best->rank + rpl.dio.hop_rank_increase);
-    reset_trickle();
+  take_rank(rank_by(best));
+}
+
+/* The cost of a link has changed. */
+void
+review_parent(void)
+{
+  if(has_joined() && !rpl.is_root) {
+    choose_parent();
   }
 }
 
@@ -142,7 +168,7 @@ join(const struct rpl_dio *dio, const linkaddr_t *from)
   free_neighbors();
   stop_dios();
   rpl.dio = *dio;
-  rpl.dio.rank = INFINITE_RANK;
+  rpl.dio.rank = rpl.lowest_rank = rpl.told_rank = INFINITE_RANK;
   rpl.has_dag = true;
   rpl.is_reachable = false;
   own = with_prefix(&dio->prefix, own.u8 + IID_AT);
@@ -170,14 +196,20 @@ take_consistent(const struct rpl_dio *dio, const linkaddr_t *from)
     /* It looks for a parent. */
     reset_trickle();
   }
+  if(rpl.is_root && is_newer(dio->dtsn, rpl.dio.dtsn)) {
+    /* From before the root was started again. */
+    rpl.dio.dtsn = dio->dtsn;
+  }
   if(rpl.is_root || (known == NULL && is_lost)) {
     return;
   }
   note_neighbor(from, dio);
   choose_parent();
   if(is_reset && rpl.parent == known) {
+    /* The motes below learn it soon (section 9.6). */
     rpl.dio.dtsn = next_count(rpl.dio.dtsn);
     schedule_dao();
+    reset_trickle();
   }
 }
 
@@ -185,15 +217,16 @@ take_consistent(const struct rpl_dio *dio, const linkaddr_t *from)
 static bool
 can_join(const struct rpl_dio *dio)
 {
-  return dio->has_configuration && dio->has_prefix && dio->hop_rank_increase > 0 && dio->rank < INFINITE_RANK - dio->hop_rank_increase &&
-         dio->lifetime_unit > 0 && dio->default_lifetime > 0 && dio->least_interval <= 20 &&
-         TRICKLE_TIMER_IPAIR_IS_VALID((contiki_clock_second << dio->least_interval) / 1000, dio->doublings);
+  return dio->has_configuration && dio->has_prefix && !uip_is_addr_mcast(&dio->dag_id) && dio->hop_rank_increase > 0 &&
+         dio->rank < INFINITE_RANK - dio->hop_rank_increase && dio->lifetime_unit > 0 && dio->default_lifetime > 0 &&
+         dio->least_interval <= 20 && TRICKLE_TIMER_IPAIR_IS_VALID((contiki_clock_second << dio->least_interval) / 1000, dio->doublings);
 }
 
 void
 take_dio(const struct rpl_dio *dio, const linkaddr_t *from)
 {
-  if(dio->instance != RPL_INSTANCE || dio->mode != NON_STORING || (dio->has_configuration && dio->objective != OF0)) {
+  if(dio->instance != RPL_INSTANCE || dio->mode != NON_STORING ||
+     (dio->has_configuration && dio->objective != OF0 && dio->objective != MRHOF)) {
     return;
   }
   if(!has_joined()) {
@@ -210,7 +243,7 @@ take_dio(const struct rpl_dio *dio, const linkaddr_t *from)
     /* From before the root was started again. */
     rpl.dio.version = next_count(dio->version);
     reset_trickle();
-  } else if(can_join(dio)) {
+  } else if(is_newer(dio->version, rpl.dio.version) && can_join(dio)) {
     join(dio, from);
   }
 }
@@ -218,6 +251,24 @@ take_dio(const struct rpl_dio *dio, const linkaddr_t *from)
 void
 report_rank_error(void)
 {
+  must_reset = true;
+  process_poll(&tcpip_process);
+}
+
+/*
+ * The root has no route to a mote of its network: perhaps it has begun anew, and forgotten all routes, of which motes tell it only before
+ * their lifetime ends. So it asks for them (section 9.6), at once, and later each time after twice as long.
+ */
+void
+report_missing_route(const uip_ipaddr_t *destination)
+{
+  unsigned long longest = (unsigned long)rpl.dio.default_lifetime * rpl.dio.lifetime_unit;
+  if(memcmp(destination, &rpl.dio.prefix, IID_AT) != 0 || (patience > 0 && seconds() - asked_at < patience)) {
+    return;
+  }
+  asked_at = seconds();
+  patience = patience == 0 ? PATIENCE : MIN(2 * patience, MAX(longest, (unsigned long)PATIENCE));
+  rpl.dio.dtsn = next_count(rpl.dio.dtsn);
   must_reset = true;
   process_poll(&tcpip_process);
 }
@@ -233,16 +284,29 @@ report_link_failure(const linkaddr_t *link)
 
 /* What programs ask for (routing.c): at once, but for what needs this process's timers and blocks. */
 
+/* A network that the mote was the root of before, or took part in, begins a new version. */
 void
 become_root(const struct rpl_dio *dio, const uip_ipaddr_t *own)
 {
+  bool is_again = uip_ipaddr_cmp(&rpl.dio.dag_id, &dio->dag_id);
+  uint8_t version = next_count(rpl.dio.version), dtsn = next_count(rpl.dio.dtsn);
   rpl.parent = NULL;
   rpl.dio = *dio;
+  rpl.dio.version = is_again ? version : dio->version;
+  rpl.dio.dtsn = is_again ? dtsn : dio->dtsn;
   rpl.has_dag = rpl.is_root = rpl.is_reachable = true;
   take_address(own);
   set_root_node(own);
+  must_forget |= must_leave;
+  must_leave = false;
   must_start = true;
   process_poll(&tcpip_process);
+}
+
+bool
+is_leaving(void)
+{
+  return must_leave;
 }
 
 void
@@ -290,6 +354,11 @@ leave_now(void)
 static void
 start_now(void)
 {
+  if(must_forget) {
+    must_forget = false;
+    free_nodes();
+    set_root_node(&rpl.dio.dag_id);
+  }
   free_neighbors();
   stop_asking();
   stop_daos();

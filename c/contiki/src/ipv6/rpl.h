@@ -6,7 +6,7 @@
 
 #pragma GCC visibility push(hidden)
 
-enum { RPL_INSTANCE = 0, NON_STORING = 1, OF0 = 0, INFINITE_RANK = 0xffff, FOR_EVER = 0xff, MOST_HOPS = 64 };
+enum { RPL_INSTANCE = 0, NON_STORING = 1, OF0 = 0, MRHOF = 1, INFINITE_RANK = 0xffff, FOR_EVER = 0xff, MOST_HOPS = 64 };
 
 struct rpl_neighbor {
   struct rpl_neighbor *next;
@@ -37,6 +37,8 @@ struct rpl_dao {
 struct rpl {
   struct rpl_dio dio; /* what its DIOs say */
   bool has_dag, is_root, is_reachable;
+  uint16_t lowest_rank; /* of this version */
+  uint16_t told_rank;   /* which its neighbours know, or hear soon */
   struct rpl_neighbor *parent;
 };
 
@@ -52,11 +54,14 @@ uint16_t own_rank(void);
 const struct rpl_neighbor *preferred_parent(void);
 void become_root(const struct rpl_dio *dio, const uip_ipaddr_t *own);
 void ask_to_leave(void);
+bool is_leaving(void);
 void ask_to_repair(void);
 void ask_for_new_version(void);
 void report_rank_error(void);
+void report_missing_route(const uip_ipaddr_t *destination);
 void report_link_failure(const linkaddr_t *link);
 void lose_parent(void);
+void review_parent(void);
 void take_dio(const struct rpl_dio *dio, const linkaddr_t *from);
 
 /* The counters of RFC 6550, section 7.2. */
@@ -69,6 +74,13 @@ void free_neighbor(struct rpl_neighbor *one);
 struct rpl_neighbor *find_neighbor(const linkaddr_t *link);
 struct rpl_neighbor *note_neighbor(const linkaddr_t *link, const struct rpl_dio *dio);
 struct rpl_neighbor *best_neighbor(void);
+
+/* rpl-objective.c */
+void note_tries(const linkaddr_t *link, unsigned tries, bool is_acknowledged);
+uint16_t rank_by(const struct rpl_neighbor *one);
+bool may_be_parent(const struct rpl_neighbor *one);
+bool is_better(const struct rpl_neighbor *one, const struct rpl_neighbor *other);
+bool is_another_rank(uint16_t rank);
 
 /* rpl-timers.c */
 void reset_trickle(void);
@@ -86,7 +98,7 @@ void take_dao_ack(uint8_t instance, uint8_t sequence, uint8_t status);
 
 /* rpl-messages.c */
 enum { RPL_DIS = 0, RPL_DIO = 1, RPL_DAO = 2, RPL_DAO_ACK = 3 };
-void input_rpl(const struct packet *packet, size_t at, const linkaddr_t *from);
+bool input_rpl(const struct packet *packet, size_t at, const linkaddr_t *from);
 void send_dis(const linkaddr_t *to);
 void send_dio(const struct rpl_dio *dio, const linkaddr_t *to);
 void send_dao(const struct rpl_dao *dao);

@@ -12,6 +12,21 @@ enum { IPV6 = 0x41, FRAG_FIRST = 0xc0, FRAG_NEXT = 0xe0, FRAG_MASK = 0xf8, FRAG_
 
 /* Sending. */
 
+/* The bytes of a packet in a fragment that isn't the first one. */
+static size_t
+fragment_size(size_t room)
+{
+  return (room - FRAG_NEXT_SIZE) / 8 * 8;
+}
+
+/* Whether all fragments of a packet, the first of which ends at a position, find a slot: otherwise none is sent. */
+static bool
+have_slots(const struct packet *packet, size_t end, size_t room, const linkaddr_t *next)
+{
+  size_t size = fragment_size(room);
+  return next == NULL || has_slots(1 + (packet->length - end + size - 1) / size);
+}
+
 /* Sends the rest of a packet from a position on, in fragments. */
 static bool
 send_rest(const struct packet *packet, size_t at, uint16_t tag, size_t room, const linkaddr_t *next)
@@ -19,7 +34,7 @@ send_rest(const struct packet *packet, size_t at, uint16_t tag, size_t room, con
   uint8_t frame[MOST_FRAME];
   bool is_sent = true;
   while(is_sent && at < packet->length) {
-    size_t most = (room - FRAG_NEXT_SIZE) / 8 * 8, rest = packet->length - at, length = MIN(most, rest);
+    size_t rest = packet->length - at, length = MIN(fragment_size(room), rest);
     put16(frame, (size_t)FRAG_NEXT << 8 | packet->length);
     put16(frame + 2, tag);
     frame[4] = (uint8_t)(at / 8);
@@ -50,7 +65,7 @@ send_compressed(const struct packet *packet, const linkaddr_t *next, bool takes_
   /* A fragment ends at a multiple of 8 bytes of the packet; the first one has all compressed headers (RFC 6282, section 2). */
   end = written > room ? 0 : (headers + room - written) / 8 * 8;
   *has_room = end >= headers && end > 0;
-  if(!*has_room) {
+  if(!*has_room || !have_slots(packet, end, room, next)) {
     return false;
   }
   put16(frame, (size_t)FRAG_FIRST << 8 | packet->length);
@@ -69,19 +84,32 @@ send_packet(const struct packet *packet, const linkaddr_t *next)
 
 /* Receiving. */
 
-enum { ASSEMBLIES = 2, MOST_AGE = 8 };
+enum { ASSEMBLIES = 2, MOST_AGE = 8, UNIT = 8, UNITS = MOST_PACKET / UNIT };
 
 /* A packet whose fragments arrive, in any order. */
 struct assembly {
   linkaddr_t source;
+  bool is_for_all;
   uint16_t tag, length; /* of the whole packet; 0 if there is none */
   uint16_t missing;     /* bytes */
   unsigned long begun;
-  uint8_t come[MOST_PACKET / 64 + 1]; /* a bit for each 8 bytes */
+  uint8_t units[UNITS]; /* what has come, of each 8 bytes */
   struct packet packet;
 };
 
-static struct assembly assemblies[ASSEMBLIES];
+enum { MISSING, BEGIN, REST };
+
+/* A fragment. What its bytes in the packet begin with are headers, if it is the first one. */
+struct fragment {
+  const linkaddr_t *source;
+  bool is_for_all;
+  uint16_t tag, length; /* of the whole packet */
+  size_t begin, headers, end;
+  const uint8_t *first, *rest;
+};
+
+/* NULL before the first fragment. */
+static struct assembly *assemblies;
 
 static void
 drop(const char *why)
@@ -101,6 +129,20 @@ set_lengths(struct packet *packet, size_t length, size_t udp_at)
   }
 }
 
+/* Reads the headers, and sets their length, which is 0 if they aren't compressed. False if they can't be expanded. */
+static bool
+get_headers(struct bytes *in, struct packet *packet, const linkaddr_t *source, const linkaddr_t *destination, size_t *length,
+            size_t *udp_at)
+{
+  *length = *udp_at = 0;
+  if(in->at < in->end && in->at[0] == IPV6) {
+    in->at++;
+    return true;
+  }
+  *length = expand(in, packet, source, destination, udp_at);
+  return *length > 0;
+}
+
 /* Notes that the fragments of a packet didn't all arrive in time. */
 static void
 forget_old(struct assembly *one)
@@ -111,15 +153,31 @@ forget_old(struct assembly *one)
   }
 }
 
+/* No fragment has come yet. */
+static void
+begin_assembly(struct assembly *one, const struct fragment *fragment)
+{
+  memset(one->units, MISSING, sizeof one->units);
+  one->source = *fragment->source;
+  one->is_for_all = fragment->is_for_all;
+  one->tag = fragment->tag;
+  one->length = one->missing = fragment->length;
+  one->begun = seconds();
+}
+
 /* The packet that a fragment belongs to, or NULL if too many are underway. */
 static struct assembly *
-assembly_for(const linkaddr_t *source, uint16_t tag, uint16_t length)
+assembly_for(const struct fragment *fragment)
 {
   struct assembly *unused = NULL;
+  if(assemblies == NULL) {
+    assemblies = take_room(ASSEMBLIES, sizeof *assemblies);
+  }
   for(unsigned i = 0; i < ASSEMBLIES; i++) {
     struct assembly *one = &assemblies[i];
     forget_old(one);
-    if(one->length == length && one->tag == tag && linkaddr_cmp(&one->source, source)) {
+    if(one->length == fragment->length && one->tag == fragment->tag && one->is_for_all == fragment->is_for_all &&
+       linkaddr_cmp(&one->source, fragment->source)) {
       return one;
     }
     if(one->length == 0) {
@@ -130,45 +188,67 @@ assembly_for(const linkaddr_t *source, uint16_t tag, uint16_t length)
     drop("two packets are joined already");
     return NULL;
   }
-  memset(unused->come, 0, sizeof unused->come);
-  unused->source = *source;
-  unused->tag = tag;
-  unused->length = unused->missing = length;
-  unused->begun = seconds();
+  begin_assembly(unused, fragment);
   return unused;
 }
 
-/* Notes that bytes have arrived; none twice. */
-static void
-note_bytes(struct assembly *one, size_t at, size_t length)
+/* Whether a fragment has come before, with the same first and last byte. */
+static bool
+is_repeated(const struct assembly *one, const struct fragment *fragment)
 {
-  for(size_t i = at; i < at + length; i += 8) {
-    uint8_t bit = (uint8_t)(1 << (i / 8 % 8));
-    if((one->come[i / 64] & bit) == 0) {
-      one->come[i / 64] |= bit;
-      one->missing = (uint16_t)(one->missing - MIN((size_t)8, one->length - i));
-    }
+  size_t first = fragment->begin / UNIT, after = (fragment->end + UNIT - 1) / UNIT;
+  bool is_same = one->units[first] == BEGIN && (fragment->end == one->length || one->units[after] != REST);
+  for(size_t i = first + 1; i < after; i++) {
+    is_same &= one->units[i] == REST;
   }
+  return is_same;
 }
 
-/* Puts the bytes of a fragment into its packet, which goes on when it is whole. The bytes before `at` are headers. */
-static void
-join_fragment(struct assembly *one, struct bytes *in, size_t begin, size_t at)
+/* Whether nothing of a fragment has come before. */
+static bool
+is_new(const struct assembly *one, const struct fragment *fragment)
 {
-  size_t rest = (size_t)(in->end - in->at), end = at + rest;
-  if(end > one->length || (end % 8 != 0 && end < one->length)) {
-    drop("the length of a fragment is wrong");
+  bool is_missing = true;
+  for(size_t i = fragment->begin / UNIT; i * UNIT < fragment->end; i++) {
+    is_missing &= one->units[i] == MISSING;
+  }
+  return is_missing;
+}
+
+/* Puts a fragment into its packet, which goes on when it is whole. One that overlaps others is the first of a new packet (RFC 4944,
+ * section 5.3). */
+static void
+join_fragment(struct assembly *one, const struct fragment *fragment)
+{
+  size_t at = fragment->begin + fragment->headers;
+  if(is_repeated(one, fragment)) {
     return;
   }
-  memcpy(one->packet.bytes + at, in->at, rest);
-  note_bytes(one, begin, end - begin);
+  if(!is_new(one, fragment)) {
+    drop("a fragment overlaps others");
+    begin_assembly(one, fragment);
+  }
+  memcpy(one->packet.bytes + fragment->begin, fragment->first, fragment->headers);
+  memcpy(one->packet.bytes + at, fragment->rest, fragment->end - at);
+  memset(one->units + fragment->begin / UNIT, REST, (fragment->end - fragment->begin + UNIT - 1) / UNIT);
+  one->units[fragment->begin / UNIT] = BEGIN;
+  one->missing = (uint16_t)(one->missing - (fragment->end - fragment->begin));
   if(one->missing == 0) {
-    struct packet whole = one->packet;
+    struct packet whole;
     linkaddr_t source = one->source;
-    whole.length = one->length;
+    one->packet.length = one->length;
+    copy_packet(&whole, &one->packet);
     one->length = 0;
     input_packet(&whole, &source);
   }
+}
+
+/* Whether a fragment ends in its packet, at a multiple of 8 bytes or at the packet's end. Only the first one begins where that does. */
+static bool
+has_right_length(const struct fragment *fragment, bool is_first)
+{
+  return is_first == (fragment->begin == 0) && fragment->end > fragment->begin && fragment->end <= fragment->length &&
+         (fragment->end % UNIT == 0 || fragment->end == fragment->length);
 }
 
 static void
@@ -176,31 +256,35 @@ take_fragment(struct bytes *in, const linkaddr_t *source, const linkaddr_t *dest
 {
   uint8_t head[FRAG_FIRST_SIZE];
   bool is_first = (in->at[0] & FRAG_MASK) == FRAG_FIRST;
-  size_t at, length, udp_at = 0;
+  size_t udp_at = 0;
+  struct packet first;
   struct assembly *one;
+  struct fragment fragment = {.source = source, .is_for_all = linkaddr_cmp(destination, &linkaddr_null), .first = first.bytes};
   get(in, head, sizeof head);
-  at = is_first ? 0 : 8 * (size_t)get_byte(in);
-  length = get16(head) & 0x7ff;
-  if(in->failed || length > mote_ipv6_settings.buffer_size || length < UIP_IPH_LEN) {
+  fragment.begin = is_first ? 0 : UNIT * (size_t)get_byte(in);
+  fragment.length = get16(head) & 0x7ff;
+  fragment.tag = get16(head + 2);
+  if(in->failed || fragment.length > mote_ipv6_settings.buffer_size || fragment.length < UIP_IPH_LEN) {
     drop("its packet is too long or too short");
     return;
   }
-  one = assembly_for(source, get16(head + 2), (uint16_t)length);
-  if(one == NULL) {
-    return;
-  }
-  if(!is_first) {
-    join_fragment(one, in, at, at);
-    return;
-  }
-  at = expand(in, &one->packet, source, destination, &udp_at);
-  if(at == 0 || at > length) {
-    one->length = 0;
+  if(is_first && !get_headers(in, &first, source, destination, &fragment.headers, &udp_at)) {
     drop("its headers can't be expanded");
     return;
   }
-  set_lengths(&one->packet, length, udp_at);
-  join_fragment(one, in, 0, at);
+  fragment.rest = in->at;
+  fragment.end = fragment.begin + fragment.headers + (size_t)(in->end - in->at);
+  if(!has_right_length(&fragment, is_first)) {
+    drop("the length of a fragment is wrong");
+    return;
+  }
+  if(fragment.headers > 0) {
+    set_lengths(&first, fragment.length, udp_at);
+  }
+  one = assembly_for(&fragment);
+  if(one != NULL) {
+    join_fragment(one, &fragment);
+  }
 }
 
 /* A whole packet in a frame. */
@@ -208,21 +292,15 @@ static void
 take_whole(struct bytes *in, const linkaddr_t *source, const linkaddr_t *destination)
 {
   struct packet packet;
-  bool is_plain = in->at[0] == IPV6;
-  size_t headers, rest, udp_at = 0;
-  if(is_plain) {
-    in->at++;
-    headers = 0;
-  } else {
-    headers = expand(in, &packet, source, destination, &udp_at);
-  }
+  size_t headers, rest, udp_at;
+  bool is_right = get_headers(in, &packet, source, destination, &headers, &udp_at);
   rest = (size_t)(in->end - in->at);
-  if((headers == 0 && !is_plain) || headers + rest > mote_ipv6_settings.buffer_size || headers + rest < UIP_IPH_LEN) {
+  if(!is_right || headers + rest > mote_ipv6_settings.buffer_size || headers + rest < UIP_IPH_LEN) {
     drop("its headers can't be expanded");
     return;
   }
   memcpy(packet.bytes + headers, in->at, rest);
-  if(is_plain) {
+  if(headers == 0) {
     packet.length = (uint16_t)rest;
   } else {
     set_lengths(&packet, headers + rest, udp_at);

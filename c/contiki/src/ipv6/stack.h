@@ -6,6 +6,7 @@
  *   udp.c                UDP                   routing.c        what programs ask of RPL
  *   icmpv6.c             echo, errors          rpl.c            the DODAG: joining, versions, parents
  *   ipv6.c               input, output         rpl-neighbors.c  neighbours, of which one is the parent
+ *                                              rpl-objective.c  what a path costs, and the rank
  *   options.c            extension headers     rpl-timers.c     when DIS, DIO and DAO are sent
  *   addresses.c          uip-ds6.h             rpl-messages.c   DIS, DIO, DAO, DAO-ACK as bytes
  *   sicslowpan.c         6LoWPAN, fragments    rpl-headers.c    the RPL option, the source routing header
@@ -16,6 +17,9 @@
 #define STACK_H_
 
 #include "contiki.h"
+
+#include <stdlib.h>
+
 #include "net/ipv6/settings.h"
 #include "net/ipv6/uip.h"
 #include "net/ipv6/uip-ds6.h"
@@ -31,6 +35,25 @@ struct packet {
   uint16_t length;
   uint8_t bytes[MOST_PACKET];
 };
+
+/* Memory of the host, of zeros. A network copies the static data of a mote when another one works, so what is large isn't static. */
+static inline void *
+take_room(size_t count, size_t size)
+{
+  void *room = calloc(count, size);
+  if(room == NULL) {
+    abort();
+  }
+  return room;
+}
+
+/* Copies a packet as far as it has bytes. */
+static inline void
+copy_packet(struct packet *to, const struct packet *from)
+{
+  to->length = from->length;
+  memcpy(to->bytes, from->bytes, from->length);
+}
 
 static inline uint16_t
 get16(const uint8_t *bytes)
@@ -83,7 +106,9 @@ uip_ipaddr_t with_prefix(const uip_ipaddr_t *prefix, const uint8_t *iid);
 
 /* mac.c. A frame has at most 127 bytes with the 2 of its checksum, which those here don't have. NULL means all motes in reach. */
 enum { MOST_FRAME = 125, HEADER_TO_ALL = 15, HEADER_TO_ONE = 21 };
+bool has_slots(size_t frames);
 bool transmit(const uint8_t *bytes, size_t length, const linkaddr_t *to);
+void start_mac(void);
 void hear_frame(const uint8_t *frame, size_t length, size_t header);
 void work_mac(void);
 
@@ -150,7 +175,7 @@ bool add_option(struct packet *packet);
 bool add_source_route(struct packet *packet);
 void remove_option(struct packet *packet);
 bool update_option(struct packet *packet);
-enum hop follow_source_route(struct packet *packet, size_t at);
+enum hop follow_source_route(struct packet *packet, size_t at, size_t *fault);
 
 #pragma GCC visibility pop
 

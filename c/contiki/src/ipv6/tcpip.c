@@ -15,6 +15,7 @@ PROCESS_THREAD(tcpip_process, ev, data)
   PROCESS_POLLHANDLER(work_rpl(); work_mac());
   PROCESS_BEGIN();
   mote_radio_use_2015();
+  start_mac();
   start_addresses();
   start_udp_events();
   mote_radio_set_callback(hear_frame);

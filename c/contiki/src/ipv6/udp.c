@@ -18,7 +18,7 @@ free_port(void)
   return last_port;
 }
 
-/* Sends a packet. One without data isn't sent, as in Contiki-NG. */
+/* Sends a packet. One without data or receiver isn't sent, as in Contiki-NG. */
 void
 output_udp(uint16_t port, const uip_ipaddr_t *to, uint16_t to_port, const void *data, size_t length, uint8_t hop_limit)
 {
@@ -31,7 +31,7 @@ output_udp(uint16_t port, const uip_ipaddr_t *to, uint16_t to_port, const void *
     LOG_WARN("%zu bytes aren't sent: a packet has at most %zu\n", length, most);
     return;
   }
-  if(data == NULL || length == 0) {
+  if(data == NULL || length == 0 || to == NULL) {
     return;
   }
   begin_packet(&packet, UIP_PROTO_UDP, to);

@@ -73,17 +73,39 @@ find_node(const uint8_t *iid)
   return node;
 }
 
+/* The node of an address in the root's network, or NULL. */
+static uip_sr_node_t *
+node_at(const uip_ipaddr_t *address)
+{
+  return memcmp(address, &rpl.dio.prefix, IID_AT) == 0 ? find_node(address->u8 + IID_AT) : NULL;
+}
+
+/* Frees a node without a parent, unless it is needed as the parent of others. */
+static void
+release(uip_sr_node_t *node)
+{
+  uip_sr_node_t *one = uip_sr_node_head();
+  if(node == NULL || node == &root || node->parent != NULL) {
+    return;
+  }
+  while(one != NULL && one->parent != node) {
+    one = uip_sr_node_next(one);
+  }
+  if(one == NULL) {
+    node->lifetime = 0;
+    count--;
+  }
+}
+
 /* A node that is needed as a parent is only cut off from the root. */
 static void
 free_node(uip_sr_node_t *node)
 {
-  bool is_parent = false;
-  for(const uip_sr_node_t *one = uip_sr_node_head(); one != NULL; one = uip_sr_node_next((uip_sr_node_t *)(uintptr_t)one)) {
-    is_parent |= one->parent == node;
-  }
+  uip_sr_node_t *above = node->parent;
   node->parent = NULL;
-  node->lifetime = is_parent ? UIP_SR_INFINITE_LIFETIME : 0;
-  count -= !is_parent;
+  node->lifetime = UIP_SR_INFINITE_LIFETIME;
+  release(node);
+  release(above);
 }
 
 /* Frees those whose time is over. */
@@ -91,7 +113,7 @@ static void
 expire_nodes(void)
 {
   for(uip_sr_node_t *node = uip_sr_node_head(); node != NULL; node = uip_sr_node_next(node)) {
-    if(node->lifetime != UIP_SR_INFINITE_LIFETIME && node->lifetime <= seconds()) {
+    if(node->lifetime != UIP_SR_INFINITE_LIFETIME && node->lifetime < seconds()) {
       free_node(node);
     }
   }
@@ -108,7 +130,7 @@ uip_sr_node_t *
 uip_sr_get_node(const void *graph, const uip_ipaddr_t *addr)
 {
   (void)graph;
-  return find_node(addr->u8 + IID_AT);
+  return node_at(addr);
 }
 
 /* An unused node, in a further block if needed; NULL if the heap has no room, or there are as many as there may be. */
@@ -154,17 +176,27 @@ node_of(const uint8_t *iid)
   return node;
 }
 
+/* False also where one of the addresses isn't in the root's network, or both are the same. */
 bool
 update_node(const uip_ipaddr_t *child, const uip_ipaddr_t *parent, uint32_t lifetime)
 {
-  uip_sr_node_t *above, *node;
+  uip_sr_node_t *above, *node, *old;
+  bool are_here = memcmp(child, &rpl.dio.prefix, IID_AT) == 0 && memcmp(parent, &rpl.dio.prefix, IID_AT) == 0;
   expire_nodes();
+  if(!are_here || uip_ipaddr_cmp(child, parent)) {
+    return false;
+  }
   above = node_of(parent->u8 + IID_AT);
   node = above == NULL ? NULL : node_of(child->u8 + IID_AT);
   if(node == NULL || node == &root) {
+    release(above);
     return false;
   }
+  old = node->parent;
   node->parent = above;
+  if(old != above) {
+    release(old);
+  }
   node->lifetime = lifetime == UIP_SR_INFINITE_LIFETIME ? lifetime : (uint32_t)seconds() + lifetime;
   return true;
 }
@@ -172,7 +204,7 @@ update_node(const uip_ipaddr_t *child, const uip_ipaddr_t *parent, uint32_t life
 void
 expire_node(const uip_ipaddr_t *child)
 {
-  uip_sr_node_t *node = find_node(child->u8 + IID_AT);
+  uip_sr_node_t *node = node_at(child);
   if(node != NULL && node != &root) {
     free_node(node);
   }
@@ -202,7 +234,7 @@ path_to(const uip_ipaddr_t *addr, const uint8_t **path)
   const uip_sr_node_t *node;
   unsigned length = 0;
   expire_nodes();
-  for(node = find_node(addr->u8 + IID_AT); node != NULL && node != &root; node = node->parent) {
+  for(node = node_at(addr); node != NULL && node != &root; node = node->parent) {
     if(length == MOST_HOPS) {
       return 0;
     }

@@ -239,10 +239,13 @@ open_script(const char *name)
   return fileno(file);
 }
 
-/* A replay has sizes and number from the record; otherwise a record may be written. */
+/* A replay has sizes and number from the record. */
 static void
 open_run(struct words *words, int script)
 {
+  if(words->is_replay && words->record != NULL) {
+    give_up(STATUS_BAD_WORDS, "--replay makes no record: leave out --record");
+  }
   if((words->is_replay || words->record != NULL) && &program_facts == NULL) {
     give_up(STATUS_BAD_WORDS, "this program was built without the facts that a record needs");
   }
@@ -252,12 +255,19 @@ open_run(struct words *words, int script)
     words->configuration = head.sizes;
     words->configuration.quiet = quiet;
     words->node = head.node;
-  } else if(words->record != NULL) {
-    struct record_head head = head_of(&words->configuration, words->node);
-    open_record(words->record, &head);
   }
   if(words->node != 0) {
     join_network((uint16_t)words->node, 0);
+  }
+}
+
+/* Once nothing is refused any more: so an older record isn't lost for no new one. */
+static void
+begin_record(const struct words *words)
+{
+  if(words->record != NULL) {
+    struct record_head head = head_of(&words->configuration, words->node);
+    open_record(words->record, &head);
   }
 }
 
@@ -290,6 +300,7 @@ main(int count, char **word)
   watch_for_faults();
   stack_begin = __builtin_frame_address(0);
   open_mote(&words.configuration);
+  begin_record(&words);
   open_console();
   if(words.is_replay) {
     run_replay();

@@ -33,6 +33,7 @@ put_record(const void *bytes, size_t length)
     ssize_t now = __write(record, (const char *)bytes + written, length - written);
     if(now < 0 && errno != EINTR) {
       record = -1;
+      flush_transcript();
       give_up(STATUS_WRITE_FAILED, "the record can't be written");
     }
     written += now < 0 ? 0 : (size_t)now;

@@ -22,16 +22,25 @@ begins(const char *line, const char *words, const char **rest)
   return strncmp(line, words, length) == 0;
 }
 
-/* Reads the next whole line. A line at the end that was cut off isn't part of the run. */
+/* Reads the next whole line. A line at the end that was cut off isn't part of the run. A board may begin anew within a line, as at a loss
+ * of power: that line is the first one of the next run. */
 static bool
 next_line(char *line)
 {
+  const char *anew = line;
   size_t length;
   if(read_line(record, line, &length) != READ_LINE || !is_whole_line()) {
     return false;
   }
   line[length] = '\0';
   line_number++;
+  if(strlen(line) < length) {
+    stop("line %" PRIu64 " of the record has a byte 0", line_number);
+  }
+  for(const char *it = line; (it = strstr(it, "# record ")) != NULL; it++) {
+    anew = it;
+  }
+  memmove(line, anew, strlen(anew) + 1);
   return true;
 }
 
@@ -63,6 +72,7 @@ open_replay(int file)
 {
   char line[LINE_LIMIT + 2];
   record = file;
+  read_without_limit();
   if(!next_line(line) || !read_head(line)) {
     give_up(STATUS_BAD_LINE, "this is no record: it doesn't begin with `# record 1 sources ..`");
   }
@@ -158,6 +168,9 @@ take_value(uint32_t *value)
       value_count++;
       return true;
     }
-  } while(line[0] == '#' && !begins(line, "# check ", &rest) && !begins(line, "# record ", &rest));
+    if(begins(line, "# record ", &rest)) {
+      take_comment(line);
+    }
+  } while(line[0] == '#' && !begins(line, "# check ", &rest));
   stop("line %" PRIu64 " of the record: this run reads a value, which its run didn't%s", line_number, reason());
 }

@@ -9,6 +9,16 @@ enum { SCRIPT_LIMIT = 16777216, PART = 65536 };
 static char part[PART];
 static size_t at, end;
 
+/* How many bytes may be read. */
+static uint64_t limit = SCRIPT_LIMIT;
+
+/* For a record, which may be that of days. */
+void
+read_without_limit(void)
+{
+  limit = UINT64_MAX;
+}
+
 /* Whether the last line had its end. */
 static bool had_end;
 
@@ -42,7 +52,7 @@ has_more(int script)
 enum reading
 read_line(int script, char *line, size_t *length)
 {
-  static size_t taken;
+  static uint64_t taken;
   *length = 0;
   while(has_more(script)) {
     size_t room = LINE_LIMIT + 1 - *length;
@@ -51,7 +61,7 @@ read_line(int script, char *line, size_t *length)
     size_t count = line_end == NULL ? most : (size_t)(line_end - part) - at;
     size_t used = line_end == NULL ? count : count + 1;
     had_end = line_end != NULL;
-    if(used > SCRIPT_LIMIT - taken) {
+    if(used > limit - taken) {
       return READ_TOO_MUCH;
     }
     memcpy(line + *length, part + at, count);

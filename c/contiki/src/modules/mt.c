@@ -2,26 +2,12 @@
 #define _GNU_SOURCE
 #include "sys/mt.h"
 
+#include "../sanitizer.h"
+
 #include <stdbool.h>
 #include <stddef.h>
 #include <stdlib.h>
 #include <ucontext.h>
-
-#if defined(__SANITIZE_ADDRESS__)
-#define HAS_ADDRESS_SANITIZER
-#elif defined(__has_feature)
-#if __has_feature(address_sanitizer)
-#define HAS_ADDRESS_SANITIZER
-#endif
-#endif
-
-/* The sanitizer must know which stack is used. */
-#ifdef HAS_ADDRESS_SANITIZER
-#include <sanitizer/common_interface_defs.h>
-#else
-#define __sanitizer_start_switch_fiber(kept, stack, size) ((void)(kept), (void)(stack), (void)(size))
-#define __sanitizer_finish_switch_fiber(kept, stack, size) ((void)(kept), (void)(stack), (void)(size))
-#endif
 
 enum { STACK_SIZE = 1 << 18 };
 

@@ -1,6 +1,6 @@
 -- Transcripts that no run makes: each breaks one law.
-use Rattle.std.proofs.Common.{◌≡◌, ℕ, false, List, [], ◌∷◌, ◌++◌, ap, refl, arith}
-use Rattle.kernel_core.proofs.Common.{decide, ArrayVec, number_event, plain_event, EXITED, TIMER, Call, Entry, Input, Note, Event, Origin, Payload, Stimulus, Refusal, Reply, IsAtRest, HasCall, up_to_call, is_turn_entry, list_any, BlocksAreOwn, EventsArriveInOrder, TimersAreKept}
+use Rattle.std.proofs.Common.{◌≡◌, ◌∙◌, ℕ, false, List, [], ◌∷◌, ◌++◌, ap, drop, refl, sym, arith, Some}
+use Rattle.kernel_core.proofs.Common.{decide, blocks_of, managed_touch, ArrayVec, number_event, plain_event, EXITED, TIMER, Call, Entry, Input, Note, Event, Origin, Payload, Stimulus, Refusal, Reply, IsAtRest, HasCall, up_to_call, is_turn_entry, list_any, BlocksAreOwn, EventsArriveInOrder, TimersAreKept}
 use Rattle.kernel_core.proofs.run_laws.Examples.{started, told, turn_of}
 use Rattle.kernel_core.specs.Laws.Sent.{IsSent}
 
@@ -152,6 +152,13 @@ heap_made_twice laws = cc (((laws.heap _ (turn_of 4 _) _ (omega arith) (has_answ
 last_made_twice : BlocksAreOwn (answered 19 (Call.MmemAlloc 15 2) (Call.MmemAlloc 15 2) Reply.Done) → ⊥
 last_made_twice laws = cc (((laws.managed _ (turn_of 19 _) _ (omega arith) (has_answered 19)).unused refl).1 refl)
 
+-- the reply denies a name that no block has
+managed_name_denied : BlocksAreOwn (answered 4 (Call.MmemAlloc 0 2) (Call.MmemAlloc 1 2) (Reply.Refused Refusal.InUse)) → ⊥
+managed_name_denied laws = cc (((laws.managed _ (turn_of 4 _) _ (omega arith) (has_answered 4)).unused refl).0 refl)
+
+heap_name_denied : BlocksAreOwn (answered 4 (Call.HeapAlloc 0 2) (Call.HeapAlloc 1 2) (Reply.Refused Refusal.InUse)) → ⊥
+heap_name_denied laws = cc (((laws.heap _ (turn_of 4 _) _ (omega arith) (has_answered 4)).unused refl).0 refl)
+
 -- Frames.
 
 not_empty : (earlier between : List Entry) (entry : Entry) → (earlier ++ entry ∷ []) ++ between ≡ [] → ⊥
@@ -177,3 +184,35 @@ no_sender sender = of sender.earlier sender.between sender.no_turn sender.split 
 
 sent_behind_another : BlocksAreOwn (sent_late ++ Entry.Note (Note.Sent (record { items = 0 ∷ 0 ∷ [] })) ∷ []) → ⊥
 sent_behind_another laws = no_sender (laws.sent sent_late [] (record { items = 0 ∷ 0 ∷ [] }) refl)
+
+-- a frame of other bytes than those of the block that process 4 sends
+abbrev sent_zeros : List Entry
+sent_zeros = started 4 (Call.MmemAlloc 0 2) ∷ told 4 Reply.Done (Call.PacketSend 0) ∷ []
+
+abbrev first_call : List Entry → Call
+first_call (Entry.Turn pid origin stimulus call ∷ later) = call
+first_call entries = Call.Wait
+
+abbrev first_pid : List Entry → ℕ
+first_pid (Entry.Turn pid origin stimulus call ∷ later) = pid.0
+first_pid entries = 0
+
+abbrev handle_of : Call → ℕ
+handle_of (Call.PacketSend handle) = handle
+handle_of call = 0
+
+no_nines : IsSent sent_zeros nines → ⊥
+no_nines sender = of sender.earlier sender.between sender.split where
+  of : (earlier between : List Entry) → up_to_call earlier sender.turn ++ between ≡ sent_zeros → ⊥
+  of [] between same =
+      let made : sender.turn.call ≡ Call.MmemAlloc 0 2 = ap first_call same in
+      let e : Call.PacketSend sender.h ≡ Call.MmemAlloc 0 2 = sym sender.sends ∙ made in absurd (cc)
+  of (first ∷ []) between same =
+      let sent : sender.turn.call ≡ Call.PacketSend 0 = ap (λ (entries : List Entry). first_call (drop 1 entries)) same in
+      let h : sender.h ≡ 0 = ap handle_of (sym sender.sends ∙ sent) in
+      let p : sender.turn.p ≡ 4 = ap (λ (entries : List Entry). first_pid (drop 1 entries)) same in
+      let block : blocks_of managed_touch sent_zeros 4 0 ≡ Some (9 ∷ 9 ∷ []) = rw (p, h) at sender.block in absurd (cc)
+  of (first ∷ second ∷ earlier) between same = not_empty earlier between _ (ap (drop 2) same)
+
+sent_other_bytes : BlocksAreOwn (sent_zeros ++ Entry.Note (Note.Sent nines) ∷ []) → ⊥
+sent_other_bytes laws = no_nines (laws.sent sent_zeros [] nines refl)

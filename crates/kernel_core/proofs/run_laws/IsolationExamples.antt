@@ -1,8 +1,11 @@
 -- Worked examples: replies to calls on managed memory under a quota.
-use Rattle.std.proofs.Common.{◌≡◌, ℕ, true, false, List, [], ◌∷◌, length, get_or, refl, ◌-◌, None, Some, if◌then◌else◌, ◌==◌}
+use Rattle.std.proofs.Common.{◌≡◌, ℕ, true, false, List, [], ◌∷◌, length, get_or, ap, refl, ◌-◌, None, Some, if◌then◌else◌, ◌==◌}
 use Rattle.kernel_core.proofs.Common.{list_all, list_any, Call, Reply, Refusal, Entry, Applications, Config, is_bootable, after_steps, at_start, is_managed_call, managed_calls, managed_replies, IsAnsweredAlone}
 use Rattle.kernel_core.proofs.run_laws.Examples.{started, told}
 use Rattle.kernel_core.specs.Laws.Isolation.{replies_from}
+use Rattle.kernel_core.specs.Laws.RunLaws.{IsAnsweredAlike, ProcessesAreIsolated}
+use Rattle.kernel_core.specs.Run.{Running, Runs}
+use Rattle.mote_types.specs.declared.entry.Input.{Input}
 use Rattle.mmem_core.specs.ManagedStore.{empty_store}
 
 six_calls : list_all is_managed_call
@@ -70,3 +73,24 @@ not_answered_yet = refl
 -- private memory wouldn't reply with what process 4 leaves of the 48 bytes
 told_of_another : IsAnsweredAlone 16 5 (started 5 Call.MmemAvail ∷ told 5 (Reply.Num 32) Call.Wait ∷ []) → ⊥
 told_of_another e = cc
+
+-- process 4 has all of its own 8 bytes, and yet it is refused
+abbrev refused_alone : List Entry
+refused_alone = started 4 (Call.MmemAlloc 0 4) ∷ told 4 (Reply.Refused Refusal.OverQuota) Call.Wait ∷ []
+
+abbrev first_reply : List Reply → Reply
+first_reply [] = Reply.Num 0
+first_reply (reply ∷ later) = reply
+
+not_isolated : ProcessesAreIsolated (Some 8) 1 refused_alone → ⊥
+not_isolated laws =
+    let same : Reply.Refused Refusal.OverQuota ≡ Reply.Done = ap first_reply (laws.alone_so_far 8 4 refused_alone [] refl refl refl) in absurd (cc)
+
+-- and another run accepts the same call
+module _ (other : Config) (tells : Applications) (inputs : List Input) (last : Running) (runs : Runs tells (at_start other) inputs last)
+    (bootable : is_bootable other ≡ true) (quota : other.quota ≡ Some 8) (there : other.apps ≡ 1)
+    (calls : managed_calls 4 last.entries ≡ Call.MmemAlloc 0 4 ∷ []) (replies : managed_replies 4 last.entries ≡ Reply.Done ∷ []) where
+  not_alike : IsAnsweredAlike (Some 8) 1 refused_alone → ⊥
+  not_alike law =
+      let alike = law other tells inputs last 8 4 refl refl runs bootable quota (rw there refl) 1 (rw calls refl) in
+      let same : Reply.Refused Refusal.OverQuota ≡ Reply.Done = ap first_reply (rw replies at alike) in absurd (cc)

@@ -53,6 +53,11 @@ obey(const char *command)
     NETSTACK_ROUTING.leave_network();
   } else if(strcmp(command, "root") == 0) {
     NETSTACK_ROUTING.root_start();
+  } else if(strcmp(command, "again") == 0) {
+    NETSTACK_ROUTING.leave_network();
+    NETSTACK_ROUTING.root_start();
+  } else if(strcmp(command, "nobody") == 0) {
+    simple_udp_sendto(&connection, command, 6, NULL);
   } else if(strcmp(command, "repair") == 0) {
     NETSTACK_ROUTING.global_repair("by command");
   } else if(strcmp(command, "halt") == 0) {

@@ -12,7 +12,7 @@
 struct ipv6_settings {
   uint16_t buffer_size, nodes, lifetime_unit, hop_rank_increase;
   uint8_t connections, hop_limit, neighbors, frames;
-  uint8_t dio_interval, dio_doublings, dio_redundancy, lifetime, dao_tries;
+  uint8_t dio_interval, dio_doublings, dio_redundancy, lifetime, dao_tries, objective;
   uint8_t log_mac, log_6lowpan, log_ipv6, log_udp, log_rpl;
   clock_time_t dis_interval, dao_delay, dao_timeout, probing_interval;
 };
@@ -34,6 +34,7 @@ __attribute__((weak)) const struct ipv6_settings mote_ipv6_settings = {
   .dio_redundancy = RPL_DIO_REDUNDANCY,
   .lifetime = RPL_DEFAULT_LIFETIME,
   .dao_tries = RPL_DAO_MAX_RETRANSMISSIONS,
+  .objective = RPL_OF_OCP,
   .log_mac = LOG_LEVEL_MAC,
   .log_6lowpan = LOG_LEVEL_6LOWPAN,
   .log_ipv6 = LOG_LEVEL_IPV6,

@@ -153,9 +153,14 @@
 #define LOG_LEVEL_RPL LOG_LEVEL_WARN
 #endif
 
-/* The objective functions of RPL_CONF_OF_OCP. */
+/* The objective function of a root. */
 #define RPL_OCP_OF0 0
 #define RPL_OCP_MRHOF 1
+#ifdef RPL_CONF_OF_OCP
+#define RPL_OF_OCP RPL_CONF_OF_OCP
+#else
+#define RPL_OF_OCP RPL_OCP_OF0
+#endif
 
 #ifdef CHECK_SETTINGS
 #include "net/ipv6/check-settings.h"

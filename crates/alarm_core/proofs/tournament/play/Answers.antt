@@ -1,9 +1,8 @@
-use Rattle.std.proofs.Common.{◌≡◌, ◌+◌, ◌-◌, ◌<◌, ◌≤◌, ℕ, ap, ◌∙◌, arith, List}
+use Rattle.std.proofs.Common.{◌-◌, ◌<◌, ◌≤◌, ℕ, ◌∙◌, arith, List}
 use Rattle.std.proofs.lemmas.List.{length-set}
 use Rattle.alarm_core.specs.declared.alarm.Alarm.{Alarm}
-use Rattle.alarm_core.specs.Code.Tournaments.{earlier_of, node_of}
 use Rattle.alarm_core.proofs.Climbing.{players_kept, stepped}
-use Rattle.alarm_core.proofs.Root.{read}
+use Rattle.alarm_core.proofs.Root.{winner_is}
 use Rattle.alarm_core.proofs.tournament.play.Goals as goal
 
 pub loop-at-preserved : goal.loop-at-preserved
@@ -13,10 +12,8 @@ loop-at-preserved c =
     let at : ℕ = c.loop-at.at - 1 in
     let some : 1 ≤ at = omega (arith, c.loop-at-test.true) in
     let inner : at < c.args.count = omega (arith, h.within, c.loop-at-test.true) in
-    let left = read nodes _ (at + at) c.index.result.now c.index.ensures (omega arith) (omega (arith, h.size, inner)) in
-    let right = read nodes _ (at + at + 1) c.index-in-loop-at.result.now c.index-in-loop-at.ensures (omega arith) (omega (arith, h.size, inner)) in
-    let won : c.earlier.result ≡ earlier_of (node_of nodes (at + at)) (node_of nodes (at + at + 1)) =
-    c.earlier.ensures ∙ (ap (λ (a : Alarm). earlier_of a c.index-in-loop-at.result.now) left ∙ ap (earlier_of (node_of nodes (at + at))) right) in
+    let won = winner_is nodes at _ _ c.index.result.now c.index-in-loop-at.result.now c.earlier.result c.index.ensures c.index-in-loop-at.ensures
+    c.earlier.ensures (omega arith) (omega arith) (omega (arith, h.size, inner)) in
     record {
       size = length-set nodes at c.earlier.result ∙ h.size;
       within = omega (arith, inner);

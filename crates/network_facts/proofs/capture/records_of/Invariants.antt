@@ -5,6 +5,6 @@ use Rattle.network_facts.proofs.capture.records_of.Given as goal
 
 abbrev pub invariant-loop-sent : goal.invariant-loop-sent
 invariant-loop-sent l = record {
-  records : l.out.items ≡ global_header ++ flat_map sent_record (take l.sent-index l.sends);
-  in_time : list_any is_sent_late (take l.sent-index l.sends) ≡ false;
+  records : l.out.items ≡ global_header ++ flat_map (sent_record l.clock_second) (take l.sent-index l.sends);
+  in_time : list_any (is_sent_late l.clock_second) (take l.sent-index l.sends) ≡ false;
 }

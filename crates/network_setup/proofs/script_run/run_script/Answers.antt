@@ -2,7 +2,8 @@ use Rattle.std.proofs.Common.{◌≡◌, ◌≤◌, ◌<◌, [], append-nil, ari
 use Rattle.std.proofs.lemmas.Bool.Decides.{nat_tests}
 use Rattle.mote_text.specs.Script.{script_limit}
 use Rattle.network_run.specs.NetworkRunText.{script_lines}
-use Rattle.network_setup.specs.ScriptRuns.{bad_line, is_there, no_mote, runs, too_long}
+use Rattle.network_setup.specs.ScriptRuns.{is_there, no_mote, runs, too_long}
+use Rattle.network_setup.proofs.Ending.{ended_in_setup}
 use Rattle.network_setup.proofs.script_run.run_script.Goals as goal
 
 pub returns-then-script-clause-ran : goal.returns-then-script-clause-ran
@@ -12,13 +13,14 @@ returns-then-script-clause-ran g c = λ named.
     let long : script_limit < length c.args.script.now = grind (arith, nat_tests, c.if-script.true) in
     (ended.0, ended.1, too_long long ended.2)
 
-pub returns-in-Err-default-Malformed-clause-ran : goal.returns-in-Err-default-Malformed-clause-ran
+pub returns-in-Err-clause-ran : goal.returns-in-Err-clause-ran
 unfolding script_limit
-returns-in-Err-default-Malformed-clause-ran g c = λ named.
-    let ended = c.end_at_once-in-Err-default-Malformed.ensures.ended named in
+returns-in-Err-clause-ran g c = λ named.
     let short : length c.args.script.now ≤ script_limit = grind (arith, nat_tests, c.if-script.false) in
-    let bad = rw c.new-setup.ensures at (c.in-Err-default-Malformed.ensures.bad_line c.in-Err-default-Malformed.field-0-1-is) in
-    (ended.0, ended.1, bad_line c.in-Err-default-Malformed.number short bad ended.2)
+    ended_in_setup c.args.quiet c.args.only c.args.script.now _ _ c.in-Err.number c.in-Err.fault c.end_in_setup.result short
+    (λ malformed. rw c.new-setup.ensures at (c.in-Err.ensures.bad_line malformed))
+    (λ malformed. c.end_in_setup.ensures.bad_line named malformed)
+    (λ memory. let none = c.end_in_setup.ensures.no_memory memory in (none.0, none.1 named))
 
 pub returns-then-not-is_there-clause-ran : goal.returns-then-not-is_there-clause-ran
 unfolding script_limit
