@@ -1,5 +1,6 @@
 """Emulated boards: their ports are sockets of this machine."""
 
+import contextlib
 import os
 import selectors
 import shutil
@@ -128,23 +129,26 @@ class Emulated:
                     if not got:
                         selector.unregister(key.fileobj)
 
-    def until(self, port: str, text: bytes, count: int = 1) -> None:
-        """Waits until a port has written a text, or several of it."""
+    def until(self, port: str, text: bytes, count: int = 1, ports: tuple[str, ...] = PORTS) -> None:
+        """Waits until a port has written a text, or several of it. Others than these ports aren't read meanwhile."""
         end = time.monotonic() + PATIENCE
         while self.heard[port].count(text) < count:
             assert time.monotonic() < end, f"{port} has no {text!r}: {self.heard[port][-2000:]!r}"
-            self.pump(0.02)
+            self.pump(0.02, ports)
 
     def send(self, port: str, data: bytes) -> None:
         self.sockets[port].sendall(data)
 
-    def ended(self) -> int:
-        """Waits until the emulator ends, as at a reset."""
+    def ended(self, ports: tuple[str, ...] = PORTS) -> int:
+        """Waits until the emulator ends, as at a reset. It closes its ports before."""
         end = time.monotonic() + PATIENCE
-        while self.process.poll() is None and time.monotonic() < end:
-            self.pump(0.02)
-        self.pump(0.05)
-        return self.process.wait(1)
+        while time.monotonic() < end:
+            self.pump(0.02, ports)
+            with contextlib.suppress(subprocess.TimeoutExpired):
+                status = self.process.wait(0.02)
+                self.pump(0.05, ports)
+                return status
+        raise TimeoutError(f"the emulator didn't end: {self.heard}")
 
     def finish(self) -> None:
         """Ends the emulator, and reads what is left of the ports."""

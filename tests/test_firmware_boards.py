@@ -337,16 +337,10 @@ def test_fault_while_a_port_takes_nothing(build: Builder, boards: list[Emulated]
     """The record has the message of a fault, and the board begins anew, also where nobody reads the console."""
     it = start(boards, build(LARGE, HERE / "twice.c"), LARGE, tmp_path / "board")
     it.until("record", b"# check ")
-    for line in b"fill\n", b"exit\n":
-        it.send("console", line)
-        for _ in range(600):
-            it.pump(0.1, ports=("record",))
-            if b"serial " + line.hex().encode() + b"\n# c" in it.heard["record"] or it.process.poll() is not None:
-                break
-    for _ in range(600):
-        if it.process.poll() is None:
-            it.pump(0.1, ports=("record",))
-    assert it.process.poll() == 0
+    it.send("console", b"fill\n")
+    it.until("record", b"serial 66696c6c0a\n# check ", ports=("record",))
+    it.send("console", b"exit\n")
+    assert it.ended(ports=("record",)) == 0
     assert b"the program called exit\n" in it.heard["record"], it.heard["record"][-300:]
 
 
