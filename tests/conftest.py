@@ -65,8 +65,8 @@ def gathered(place: Path, name: str, *headers: str) -> Path:
 
 @pytest.fixture(scope="session")
 def toarmuts_library(shared: Path) -> Path:
-    """A folder with the library for C of crates/toarmuts: toarmuts.h, toarmuts_memory.c and libtoarmuts.a."""
-    return gathered(shared / "toarmuts", "toarmuts", "toarmuts.h", "toarmuts_memory.c")
+    """A folder with the library for C of crates/toarmuts: its headers, where its memory comes from, and libtoarmuts.a."""
+    return gathered(shared / "toarmuts", "toarmuts", "toarmuts.h", "toarmuts_memory.c", "toarmuts_block.h", "toarmuts_block.c")
 
 
 @pytest.fixture(scope="session")

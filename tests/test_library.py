@@ -6,7 +6,7 @@ from typing import Callable, NamedTuple
 
 import pytest
 
-from tools import ROOT, SANITIZERS, all_hold, current_library, library_for_aarch64, needs, once, run, succeed, told, with_sanitizers
+from tools import EXAMPLES, ROOT, SANITIZERS, all_hold, current_library, library_for_aarch64, needs, once, run, succeed, told, with_sanitizers
 
 WARNINGS = ("-Wall", "-Wextra", "-Werror")
 SOURCES = ROOT / "tests/c"
@@ -24,7 +24,7 @@ class Program(NamedTuple):
 STEPS = Program("steps_test", ["1000000", "1000"], ["10000"], ["toarmuts_memory.c", "-pthread"])
 NETWORK = Program("network_test", ["1000000"], ["10000"], ["toarmuts_memory.c"])
 PROGRAMS = [Program("library_test", ["1000000"], ["10000"], ["toarmuts_memory.c"]), STEPS, Program("steps_memory_test", [], ["0"], []),
-            NETWORK, Program("network_memory_test", [], [], [])]
+            NETWORK, Program("network_memory_test", [], [], []), Program("block_test", [], [], ["toarmuts_block.c"])]
 of_each_program = pytest.mark.parametrize("program", PROGRAMS, ids=[program.name for program in PROGRAMS])
 
 
@@ -90,6 +90,18 @@ def test_examples(c_examples: Path) -> None:
     assert succeed(c_examples / "beat").stdout == (c_examples / "beat.transcript").read_bytes()
     # Without a target, blink is built and run.
     assert b"timer-set" in succeed("make", "-s", "-C", c_examples).stdout
+
+
+@pytest.mark.parametrize("compiler", ["gcc", "clang"])
+def test_example_in_a_block(toarmuts_library: Path, tmp_path: Path, compiler: str) -> None:
+    """An example with its mote in a block, linked with nothing that allocates, writes the same transcript."""
+    source = (EXAMPLES / "c/beat.c").read_text(encoding="utf-8").replace("toarmuts.h", "toarmuts_block.h")
+    source = source.replace("toarmuts_open(", "static char block[1 << 17];\ntoarmuts_open_in(block, sizeof block, ")
+    (tmp_path / "beat.c").write_text(source, encoding="utf-8")
+    succeed(compiler, "-std=c11", "-O2", "-Wall", "-Wextra", "-Werror", f"-I{toarmuts_library}", tmp_path / "beat.c",
+            toarmuts_library / "toarmuts_block.c", toarmuts_library / "libtoarmuts.a", "-Wl,--wrap=malloc,--wrap=calloc,--wrap=realloc",
+            "-o", tmp_path / "beat")
+    assert succeed(tmp_path / "beat").stdout == (EXAMPLES / "c/beat.transcript").read_bytes()
 
 
 @needs("aarch64-linux-gnu-gcc", "qemu-aarch64")
