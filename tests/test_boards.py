@@ -260,7 +260,7 @@ def test_other_processors_are_refused(options: str, tmp_path: Path) -> None:
 
 
 KERNEL_SOURCES: list[str | Path] = [f"-I{KERNEL / 'include'}"]
-MEMORY_CALLS = KERNEL / "include/toarmuts_memory.c"
+MEMORY_CALLS = (KERNEL / "include/toarmuts_memory.c",)
 KERNEL_BOARD = LARGE_M4
 
 
@@ -278,9 +278,9 @@ def kernel_m3(room: Path, toarmuts_library: Path) -> Path:
     return archive(room, "toarmuts", "cortex-m3")
 
 
-def compile_kernel_test(room: Path, kernel: Path, source: Path, has_memory: bool = True, board: Board = KERNEL_BOARD,
+def compile_kernel_test(room: Path, kernel: Path, source: Path, memory: tuple[Path, ...] = MEMORY_CALLS, board: Board = KERNEL_BOARD,
                         core: str = "cortex-m4") -> Path:
-    sources = [*KERNEL_SOURCES, source, *([MEMORY_CALLS] if has_memory else [])]
+    sources = [*KERNEL_SOURCES, source, *memory]
     return once(room / f"kernel-{source.stem}-{core}", lambda program: compile_for(board, core, program, sources, [kernel]))
 
 
@@ -312,13 +312,13 @@ def test_kernel_asks_an_application(room: Path, kernel: Path) -> None:
     assert run_on(KERNEL_BOARD, program) == (EXAMPLES / "c/beat.transcript").read_text(encoding="utf-8")
 
 
-@pytest.mark.parametrize(("name", "words", "has_memory"), [("library_test", ("5000",), True), ("steps_test", ("5000", "100"), True),
-                                                           ("steps_memory_test", (), False)])
-def test_kernel_tests(room: Path, kernel: Path, toarmuts_library: Path, name: str, words: tuple[str, ...], has_memory: bool) -> None:
-    """The library's tests: worked replies, random calls, random runs step by step beside whole ones, refused memory."""
+@pytest.mark.parametrize(("name", "words", "memory"), [
+    ("library_test", ("5000",), MEMORY_CALLS), ("steps_test", ("5000", "100"), MEMORY_CALLS), ("steps_memory_test", (), ()),
+    ("block_test", (), (KERNEL / "include/toarmuts_block.c",))])
+def test_kernel_tests(room: Path, kernel: Path, toarmuts_library: Path, name: str, words: tuple[str, ...], memory: tuple[Path, ...]) -> None:
+    """The library's tests: worked replies, random calls, random runs step by step beside whole ones, refused memory, motes in blocks."""
     source, here = HERE / f"c/{name}.c", room / f"{name}-here"
-    told = run_on(KERNEL_BOARD, compile_kernel_test(room, kernel, source, has_memory), *words)
-    memory = [MEMORY_CALLS] if has_memory else []
+    told = run_on(KERNEL_BOARD, compile_kernel_test(room, kernel, source, memory), *words)
     succeed("gcc", *WARNINGS, "-O1", "-DNO_THREADS", f"-I{HERE / 'boards'}", f"-I{HERE / 'c'}", *KERNEL_SOURCES, source, *memory,
             toarmuts_library / "libtoarmuts.a", "-o", here)
     assert told == succeed(here, *words)

@@ -2,7 +2,7 @@
 #include "steps.h"
 #include "toarmuts_block.h"
 
-enum { ROOM = 1 << 17, MARGIN = 64, APPLICATIONS = 3 };
+enum { ROOM = 1 << 17, MARGIN = 64, APPLICATIONS = 3, PARTS = 100 };
 
 static uint8_t first_bytes[ROOM + 2 * MARGIN] __attribute__((aligned(16))), second_bytes[ROOM + 2 * MARGIN] __attribute__((aligned(16)));
 static const struct toarmuts_configuration sizes = TOARMUTS_DEFAULTS;
@@ -53,8 +53,9 @@ check_sizes(void)
   used = toarmuts_block_used();
   check("the blocks of both memories are in it", used >= sizes.mmem + sizes.heap);
   check("as much is enough", try_room(MARGIN, used, &sizes) == TOARMUTS_DONE && toarmuts_block_used() == used);
-  for(size_t length = 0; length < used; length += length < used - 40 && length > 40 ? 97 : 1) {
-    check("less isn't", try_room(MARGIN, length, &sizes) == TOARMUTS_OUT_OF_MEMORY);
+  for(size_t part = 0; part < PARTS; part++) {
+    check("less isn't", try_room(MARGIN, used * part / PARTS, &sizes) == TOARMUTS_OUT_OF_MEMORY);
+    check("nor is a little less", try_room(MARGIN, used - 1 - part, &sizes) == TOARMUTS_OUT_OF_MEMORY);
   }
   check("a refusal doesn't count", toarmuts_block_used() == used);
   for(size_t gap = 1; gap < 16; gap++) {
