@@ -2,6 +2,7 @@
 use Rattle.std.specs.Prelude.{◌<◌, ◌≤◌, ◌^◌, ⊤, ℕ, List, [], ◌∷◌, length}
 use Rattle.arrayvec.specs.ArrayVec.{ArrayVec}
 use Rattle.hex.specs.Hex.{IsBytes}
+use Rattle.mote_types.specs.Limits.{chunk_limit, line_bytes}
 use Rattle.mote_types.specs.declared.call.Call.{Call}
 use Rattle.mote_types.specs.declared.event.Payload.{Payload}
 
@@ -16,12 +17,12 @@ abbrev pub AreBytes : ℕ → List ℕ → Type 0
 AreBytes most bytes = (length bytes ≤ most) × IsBytes bytes
 
 abbrev pub IsChunk : ArrayVec ℕ → Type 0
-IsChunk chunk = AreBytes 64 chunk.items
+IsChunk chunk = AreBytes chunk_limit chunk.items
 
 abbrev pub IsPayload : Payload → Type 0
 IsPayload Payload.Empty = ⊤
 IsPayload (Payload.Num n) = IsWide n
-IsPayload (Payload.Line line) = AreBytes 127 line.items
+IsPayload (Payload.Line line) = AreBytes line_bytes line.items
 
 -- this call is possible: a word of `call_words` for a block, a timer, a process, an event or a number of bytes to read is a
 -- byte; one for an offset, a size or an interval has 32 bits

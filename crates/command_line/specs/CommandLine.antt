@@ -12,6 +12,7 @@ use Rattle.clap.specs.declared.builder.value_parser.ValueParser.{ValueParser}
 use Rattle.clap.specs.declared.error.Error.{Error}
 use Rattle.clap.specs.declared.error.kind.ErrorKind.{ErrorKind}
 use Rattle.clap.specs.declared.parser.matches.ValueSource.{ValueSource}
+use Rattle.mote_types.specs.Limits.{most_applications}
 use Rattle.node_memory.specs.declared.sizes.Sizes.{Sizes}
 use Rattle.command_line.specs.declared.named.Named.{Named}
 use Rattle.command_line.specs.declared.refusal.Refusal.{Refusal}
@@ -138,7 +139,7 @@ module _ {A : Type 0} (by_name : Text → Option A) where
   -- what these names may be refused with: the first that is unknown, then their number
   abbrev pub RefusesNames : List Text → Refusal → Type 0
   RefusesNames names (Refusal.NoApplication name) = find is_unknown names ≡ Some name.now
-  RefusesNames names Refusal.TooManyApplications = (find is_unknown names ≡ None) × (16 < length names)
+  RefusesNames names Refusal.TooManyApplications = (find is_unknown names ≡ None) × (most_applications < length names)
   RefusesNames names _ = ⊥
 
   -- ---- what the arguments name
@@ -152,11 +153,11 @@ module _ {A : Type 0} (by_name : Text → Option A) where
         quiet = is_quiet (matches_in words);
       }
 
-  -- the parser accepts the arguments, each name is an application's, and they are at most 16
+  -- the parser accepts the arguments, each name is an application's, and there are not too many
   pub record NamesApplications (words : List Text) : Type 0 where
     pub taken : errors_in words ≡ []
     pub known : find is_unknown (names_of (matches_in words)) ≡ None
-    pub few : length (names_of (matches_in words)) ≤ 16
+    pub few : length (names_of (matches_in words)) ≤ most_applications
 
   -- what arguments may be refused with: each refusal under its own condition, of which no two hold at once; and refused memory
   abbrev pub Refuses : List Text → Refusal → Type 0

@@ -1,5 +1,6 @@
 -- Bytes of which none is ignored or lost go into the ring together.
 use Rattle.std.proofs.Common.{◌≡◌, ℕ, ◌-◌, Bool, true, List, [], ◌∷◌, ◌++◌, length, take, refl, ap, ◌∙◌, arith, append_assoc, length-append, min}
+use Rattle.mote_types.specs.Limits.{ring_places}
 use Rattle.device_core.proofs.Common.{after_bytes, takes_all, take_all, append-nil}
 use Rattle.device_core.proofs.Lines.{state}
 
@@ -13,5 +14,5 @@ after_bytes_all_taken ring (byte ∷ bytes) line overflow all =
 
 -- the ring then has room for all bytes
 pub none_left : (ring bytes line : List ℕ) (overflow : Bool) (count : ℕ) → takes_all (state ring overflow line) bytes ≡ true
-    → count ≡ min (length bytes) (127 - length ring) → take count bytes ≡ bytes
+    → count ≡ min (length bytes) (ring_places - length ring) → take count bytes ≡ bytes
 none_left ring bytes line overflow count all is_count = grind (arith, take_all)

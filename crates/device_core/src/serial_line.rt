@@ -34,13 +34,14 @@ pub struct SerialLine {
 
 impl Model for SerialLine {
     ghost use Rattle.std.specs.Prelude.{◌≡◌, ◌≤◌, length};
+    ghost use Rattle.mote_types.specs.Limits.{ring_places, line_bytes};
     ghost use Rattle.device_core.specs.SerialLine.{SerialLine as SerialState};
 
     ghost Value = { SerialState };
 
     ghost view = { λ s. record { ring = s.ring.items; overflow = s.overflow; line = s.line.items } };
 
-    ghost invariant = { λ s. (s.ring.capacity ≡ 127) × (length s.line.items ≤ 127) };
+    ghost invariant = { λ s. (s.ring.capacity ≡ ring_places) × (length s.line.items ≤ line_bytes) };
 }
 
 impl SerialLine {

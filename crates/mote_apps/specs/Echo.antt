@@ -6,17 +6,18 @@ use Rattle.mote_types.specs.declared.call.Call.{Call}
 use Rattle.mote_types.specs.declared.event.Payload.{Payload}
 use Rattle.mote_types.specs.declared.event.Stimulus.{Stimulus}
 use Rattle.mote_types.specs.EventNumbers.{SERIAL_LINE}
+use Rattle.mote_types.specs.Limits.{chunk_limit}
 use Rattle.mote_apps.specs.declared.echo.Echo.{Echo}
 
--- the first 64 bytes of a line are printed at once
+-- as many bytes of a line as one call prints are printed at once
 abbrev pub line_answer : ℕ → Payload → Call
 line_answer code (Payload.Line line) =
-    if code == SERIAL_LINE then Call.Print (record { items = take 64 line.items }) else Call.Wait
+    if code == SERIAL_LINE then Call.Print (record { items = take chunk_limit line.items }) else Call.Wait
 line_answer code _ = Call.Wait
 
 abbrev pub line_next : ℕ → Payload → Echo → Echo
 line_next code (Payload.Line line) echo =
-    if code == SERIAL_LINE then record { rest = record { items = drop 64 line.items } } else echo
+    if code == SERIAL_LINE then record { rest = record { items = drop chunk_limit line.items } } else echo
 line_next code _ echo = echo
 
 -- It prints the front of a line, and after that the rest, where there is one

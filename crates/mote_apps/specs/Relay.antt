@@ -6,6 +6,7 @@ use Rattle.mote_types.specs.declared.call.Call.{Call}
 use Rattle.mote_types.specs.declared.event.Payload.{Payload}
 use Rattle.mote_types.specs.declared.event.Stimulus.{Stimulus}
 use Rattle.mote_types.specs.EventNumbers.{INIT, PACKET}
+use Rattle.mote_types.specs.Limits.{chunk_limit, frame_limit}
 use Rattle.mote_types.specs.declared.reply.Reply.{Reply}
 use Rattle.mote_apps.specs.declared.relay.Relay.{Relay}
 use Rattle.mote_apps.specs.declared.relay.Stage.{Stage}
@@ -17,14 +18,14 @@ Step = Stage × Call
 -- what comes after an answer, for a frame of n bytes
 abbrev pub step_at : Stage → ℕ → Reply → Step
 step_at Stage.Idle n reply = (Stage.Idle, Call.Wait)
-step_at Stage.Allocating n Reply.Done = (Stage.ReadingFront, Call.PacketRead 0 (min n 64))
+step_at Stage.Allocating n Reply.Done = (Stage.ReadingFront, Call.PacketRead 0 (min n chunk_limit))
 step_at Stage.Allocating n reply = (Stage.Finishing, Call.PacketDone)
 step_at Stage.ReadingFront n (Reply.Bytes bytes) = (Stage.WritingFront, Call.MmemWrite 0 0 bytes)
 step_at Stage.ReadingFront n reply = (Stage.Freeing, Call.MmemFree 0)
 step_at Stage.WritingFront n Reply.Done =
-    if nat_lt 64 n then (Stage.ReadingRest, Call.PacketRead 64 (n - 64)) else (Stage.Sending, Call.PacketSend 0)
+    if nat_lt chunk_limit n then (Stage.ReadingRest, Call.PacketRead chunk_limit (n - chunk_limit)) else (Stage.Sending, Call.PacketSend 0)
 step_at Stage.WritingFront n reply = (Stage.Freeing, Call.MmemFree 0)
-step_at Stage.ReadingRest n (Reply.Bytes bytes) = (Stage.WritingRest, Call.MmemWrite 0 64 bytes)
+step_at Stage.ReadingRest n (Reply.Bytes bytes) = (Stage.WritingRest, Call.MmemWrite 0 chunk_limit bytes)
 step_at Stage.ReadingRest n reply = (Stage.Freeing, Call.MmemFree 0)
 step_at Stage.WritingRest n Reply.Done = (Stage.Sending, Call.PacketSend 0)
 step_at Stage.WritingRest n reply = (Stage.Freeing, Call.MmemFree 0)
@@ -33,7 +34,7 @@ step_at Stage.Freeing n reply = (Stage.Finishing, Call.PacketDone)
 step_at Stage.Finishing n reply = (Stage.Idle, Call.Wait)
 
 abbrev pub is_frame : ℕ → ℕ → Bool
-is_frame code n = code == PACKET && nat_le 1 n && nat_le n 127
+is_frame code n = code == PACKET && nat_le 1 n && nat_le n frame_limit
 
 -- a frame of n bytes has arrived
 abbrev pub frame_answer : ℕ → Payload → Call

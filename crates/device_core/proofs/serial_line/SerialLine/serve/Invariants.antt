@@ -1,4 +1,5 @@
 use Rattle.std.proofs.Common.{◌≡◌, ◌≤◌, length}
+use Rattle.mote_types.specs.Limits.{ring_places, line_bytes}
 use Rattle.device_core.proofs.Lines.{ServesAlike, state}
 use Rattle.device_core.proofs.serial_line.SerialLine.serve.Given as goal
 
@@ -6,9 +7,9 @@ use Rattle.device_core.proofs.serial_line.SerialLine.serve.Given as goal
 abbrev pub invariant-loop-byte : goal.invariant-loop-byte
 invariant-loop-byte l = record {
   alike : ServesAlike (state l.self-inside.ring.items l.self-inside.overflow l.self-inside.line.items) l.fn.self;
-  room : l.self-inside.ring.capacity ≡ 127;
+  room : l.self-inside.ring.capacity ≡ ring_places;
   shrinks : length l.self-inside.ring.items ≤ length l.fn.self.ring;
-  fits : length l.self-inside.line.items ≤ 127;
+  fits : length l.self-inside.line.items ≤ line_bytes;
 }
 
 abbrev pub decreases-loop-byte : goal.decreases-loop-byte
