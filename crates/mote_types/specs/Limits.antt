@@ -69,7 +69,7 @@ line_bytes = 127
 abbrev pub serial_limit : ℕ
 serial_limit = 256
 
--- the most bytes that one call reads, writes or prints
+-- the most bytes that one call reads
 abbrev pub chunk_limit : ℕ
 chunk_limit = 64
 
