@@ -148,7 +148,8 @@ index_of(const struct process *p)
 {
   unsigned i = place_among(p);
   if(i == process_count) {
-    stop("a process that PROCESS didn't declare");
+    /* Before the mote boots, as in a constructor of the program, there is none. */
+    stop(process_count == 0 ? "a call of the mote is made outside of any process" : "a process that PROCESS didn't declare");
   }
   return i;
 }
