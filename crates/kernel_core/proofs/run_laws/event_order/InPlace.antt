@@ -95,7 +95,9 @@ module _ (p : ℕ) where
 
 pub carried-ordered : (item : Item) (s : Scheduler Bool) → is_ordered (item ∷ s.agenda) ≡ true
     → is_ordered (after_item item s).agenda ≡ true
-carried-ordered = grind (decide, append-nil, ordered-walk, all-delivered, ordered-append, all-mapped)
+carried-ordered Item.Polls s h = grind (decide, ordered-append, all-mapped)
+carried-ordered Item.Deliver s h = grind (decide, append-nil, ordered-walk, all-delivered)
+carried-ordered item s h = grind decide
 
 abbrev pub is_silent : Item → Bool
 is_silent (Item.Turn q origin stimulus) = false

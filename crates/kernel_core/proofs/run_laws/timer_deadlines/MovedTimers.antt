@@ -79,6 +79,15 @@ module _ (timer : Timer) where
     stopped-other [] n = refl
     stopped-other (x ∷ xs) n = grind (decide, stopped-other xs n)
 
+no_first : (a b c d : Bool) → (a && (b && (c || d))) ≡ false → (a && (b && c)) ≡ false
+no_first = grind decide
+
+no_second : (a b c d : Bool) → (a && (b && (c || d))) ≡ false → (a && (b && d)) ≡ false
+no_second = grind decide
+
+never : {A : Type 0} (b : Bool) → b ≡ false → b ≡ true → A
+never b n e = absurd (cc)
+
 abbrev pub is_timer_call : Call → Bool
 is_timer_call (Call.TimerSet u interval) = true
 is_timer_call (Call.TimerStop u) = true
@@ -127,7 +136,16 @@ module _ (o : OwnTimer) where
           → is_armed (own_timer o) new ≡ is_armed (own_timer o) old
           → (nat_le o.t 7 ≡ true → cell_of (own_timer o) new ≡ cell_of (own_timer o) old)
           → Moves old new
-      still_moves = grind decide
+      still_moves old new still armed cell =
+          let unarmed = no_first (q == o.p) (is_done k) (arms o.t (deed call)) (stops o.t (deed call)) still in
+          let unstopped = no_second (q == o.p) (is_done k) (arms o.t (deed call)) (stops o.t (deed call)) still in
+          record {
+            kept = λ n. armed;
+            cell = λ low. rw unarmed (cell low);
+            set = never _ unarmed;
+            named = never _ unarmed;
+            unset = never _ unstopped;
+          }
 
     stopped_moves : (u clock : ℕ) (k : Option Reply) (old : Timers) → ((q == o.p) ≡ true → k ≡ Some Reply.Done)
         → Moves clock (Call.TimerStop u) k old (stop_timer (event_timer q u) old)
