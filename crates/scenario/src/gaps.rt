@@ -6,7 +6,12 @@ pub(crate) const GAP: &str = "...";
 /// The first position of these lines in a text, if they are there.
 fn place_of(lines: &[&str], text: &[&str]) -> Option<usize> {
     let last = text.len().checked_sub(lines.len())?;
-    (0..=last).find(|place| text[*place..].starts_with(lines))
+    for place in 0..=last {
+        if text[place..].starts_with(lines) {
+            return Some(place);
+        }
+    }
+    None
 }
 
 /// What follows these lines where they are first in a text, if they are there.
