@@ -6,12 +6,7 @@ pub(crate) const GAP: &str = "...";
 /// The first position of these lines in a text, if they are there.
 fn place_of(lines: &[&str], text: &[&str]) -> Option<usize> {
     let last = text.len().checked_sub(lines.len())?;
-    for place in 0..=last {
-        if text[place..].starts_with(lines) {
-            return Some(place);
-        }
-    }
-    None
+    (0..=last).find(|place| text[*place..].starts_with(lines))
 }
 
 /// What follows these lines where they are first in a text, if they are there.
