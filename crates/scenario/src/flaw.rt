@@ -11,22 +11,30 @@ fn flaw_of_spaces(line: &str) -> Option<&'static str> {
     }
 }
 
+/// Whether a line has a list of calls.
+fn has_calls(line: &str) -> bool {
+    line.starts_with("calls ") || line.starts_with("on ") || line.starts_with("mote ")
+}
+
+/// Whether no space follows some comma.
+fn lacks_space(line: &str) -> bool {
+    for behind in line.split(',').skip(1) {
+        if !behind.starts_with(' ') {
+            return true;
+        }
+    }
+    false
+}
+
 /// What is wrong with the commas of a list of calls.
 fn flaw_of_commas(line: &str) -> Option<&'static str> {
-    if !["calls ", "on ", "mote "]
-        .iter()
-        .any(|word| line.starts_with(*word))
-    {
+    if !has_calls(line) {
         None
     } else if line.trim_end().ends_with(',') {
         Some("there is no call after the last comma")
     } else if line.contains(" ,") {
         Some("there is a space before a comma")
-    } else if line
-        .split(',')
-        .skip(1)
-        .any(|behind| !behind.starts_with(' '))
-    {
+    } else if lacks_space(line) {
         Some("there is no space after a comma")
     } else {
         None

@@ -10,6 +10,7 @@ mod files;
 mod flaw;
 mod gaps;
 mod inputs;
+mod letters;
 mod network;
 mod network_script;
 mod parts;

@@ -1,6 +1,7 @@
 //! The lines of a run of a network.
 
 use crate::fault::{Fault, Rule, WordFault};
+use crate::letters::{begins_with_digit, begins_with_letter};
 use call_lists::Application;
 use mote_text::script::LINE_LIMIT;
 use network_setup::fault::LineFault;
@@ -23,7 +24,7 @@ pub(crate) fn is_of_transcript(line: &str) -> bool {
     matches!(
         word,
         "=" | "lost" | "full" | "missed" | "halt" | "bad" | "too"
-    ) || line.starts_with(|c: char| c.is_ascii_digit()) && !matches!(second, "serial" | "frame")
+    ) || begins_with_digit(line) && !matches!(second, "serial" | "frame")
 }
 
 /// What a line that begins with this word sets up.
@@ -61,7 +62,7 @@ fn form_with_rule(form: &'static str, word: &str, line: &str) -> &'static str {
 fn fault_of_mote(text: &str) -> Option<Fault<'_>> {
     let (words, calls) = text.split_once(" calls ").unwrap_or((text, ""));
     for word in words.split(' ') {
-        if word.starts_with(|c: char| c.is_ascii_alphabetic()) {
+        if begins_with_letter(word) {
             if let Err(fault) = Application::named(word) {
                 return Some(Fault::Call(fault));
             }
@@ -136,7 +137,7 @@ impl NetworkLines {
                 self.has_input = true;
                 Ok(())
             }
-            None if word == "tick" || word.starts_with(|c: char| c.is_ascii_digit()) => {
+            None if word == "tick" || begins_with_digit(word) => {
                 Err(Fault::Word(WordFault::NoScriptLine, line))
             }
             None => Err(Fault::Word(WordFault::Unknown, word)),

@@ -74,7 +74,11 @@ fn parted(text: &str) -> Option<(&str, &str)> {
 
 /// The number of line ends in a text.
 fn line_ends_in(text: &str) -> usize {
-    text.bytes().filter(|byte| *byte == b'\n').count()
+    let mut count = 0usize;
+    for byte in text.bytes() {
+        count = count.saturating_add(usize::from(byte == b'\n'));
+    }
+    count
 }
 
 /// Above the first run a file has only comments and empty lines.
@@ -90,12 +94,22 @@ fn look_above(text: &str) -> Result<(), Misread<'_>> {
     Ok(())
 }
 
+/// Whether one of these parts has the name.
+fn has_name(parts: &[Part<'_>], name: Option<&str>) -> bool {
+    for part in parts {
+        if part.name == name {
+            return true;
+        }
+    }
+    false
+}
+
 /// A run has a name that none of those above has.
 fn look_at_name<'a>(above: &[Part<'a>], part: Part<'a>) -> Result<(), Misread<'a>> {
     let name = part.name.unwrap_or("");
     let fault = if name.trim().is_empty() {
         Fault::Rule(Rule::Name)
-    } else if above.iter().any(|other| other.name == part.name) {
+    } else if has_name(above, part.name) {
         Fault::Word(WordFault::SameName, name)
     } else {
         return Ok(());

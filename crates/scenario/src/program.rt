@@ -1,7 +1,7 @@
 //! The applications of a run.
 
 use crate::fault::{Fault, Rule, WordFault};
-use call_lists::{Application, Row, row_of};
+use call_lists::{Application, Row, Trigger, row_of};
 use std::alloc::Global;
 
 /// What an application does.
@@ -21,6 +21,16 @@ pub(crate) struct Program<'a> {
     /// Its lines.
     pub(crate) text: Vec<&'a str>,
     pub(crate) acts: Acts,
+}
+
+/// Whether one of these rows is for a stimulus.
+fn has_row(rows: &[Row], trigger: Trigger) -> bool {
+    for row in rows {
+        if row.trigger() == trigger {
+            return true;
+        }
+    }
+    false
 }
 
 impl<'a> Program<'a> {
@@ -59,7 +69,7 @@ impl<'a> Program<'a> {
         };
         let row = row_of(alloc, text)?;
         let trigger = row.trigger();
-        if rows.iter().any(|above| above.trigger() == trigger) {
+        if has_row(rows.as_slice(), trigger) {
             return Err(Fault::Rule(Rule::OneRow));
         }
         rows.push(row)?;

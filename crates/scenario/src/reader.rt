@@ -2,6 +2,7 @@
 
 use crate::fault::{Fault, Rule, WordFault};
 use crate::gaps::GAP;
+use crate::letters::begins_with_digit;
 use crate::network;
 use crate::network::NetworkLines;
 use crate::parts::Part;
@@ -188,6 +189,5 @@ impl<'a> Reader<'a> {
 /// Whether a line begins as those of transcripts do.
 fn is_of_transcript(line: &str) -> bool {
     let (word, _) = line.split_once(' ').unwrap_or((line, ""));
-    matches!(word, ">" | "note" | "halt" | "bad" | "too")
-        || line.starts_with(|c: char| c.is_ascii_digit())
+    matches!(word, ">" | "note" | "halt" | "bad" | "too") || begins_with_digit(line)
 }

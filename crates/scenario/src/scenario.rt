@@ -83,8 +83,11 @@ impl<'a> Scenario<'a> {
             return None;
         }
         if !are_few(self.programs.len()) {
-            let line = self.programs.get(16).map(|program| program.line);
-            return Some((line.unwrap_or(0), Fault::Rule(Rule::MostApplications)));
+            let line = match self.programs.get(16) {
+                Some(program) => program.line,
+                None => 0,
+            };
+            return Some((line, Fault::Rule(Rule::MostApplications)));
         }
         self.sizes.fault(self.programs.len())
     }

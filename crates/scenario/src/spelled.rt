@@ -1,5 +1,6 @@
 //! What a person may write instead of numbers and bytes: names of events, and texts in quotes.
 
+use crate::letters::begins_with_digit;
 use mote_types::event;
 use std::alloc::{AllocError, Global};
 
@@ -29,7 +30,7 @@ fn may_have(line: &str) -> bool {
     matches!(
         word,
         "calls" | "on" | "mote" | "serial" | "frame" | ">" | "note"
-    ) || line.starts_with(|c: char| c.is_ascii_digit())
+    ) || begins_with_digit(line)
 }
 
 /// The count of a line that is repeated, where it is, and that line.

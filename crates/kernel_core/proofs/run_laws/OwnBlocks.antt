@@ -1,5 +1,5 @@
 -- What each call preserves of a kind of memory, and so what a transcript shows.
-use Rattle.std.proofs.Common.{◌≡◌, ℕ, ◌+◌, ◌≤◌, Bool, true, false, List, [], ◌∷◌, refl, Option, Some, None, ◌==◌, if◌then◌else◌, fold, length, zero, suc, ◌<◌, arith, ◌≢◌, sum_by, ◌&&◌, ◌∙◌, sym, subst, append-nil, nat_le, drop, slice_get, get_or, replicate}
+use Rattle.std.proofs.Common.{◌≡◌, ℕ, ◌+◌, ◌≤◌, Bool, true, false, List, [], ◌∷◌, refl, Option, Some, None, ◌==◌, if◌then◌else◌, fold, length, zero, suc, ◌<◌, arith, ◌≢◌, sum_by, ◌&&◌, ◌∙◌, ap, sym, subst, append-nil, nat_le, drop, slice_get, get_or, replicate}
 use Rattle.mmem_core.specs.ManagedStore.{with_block}
 use Rattle.node_memory.specs.Answered.{Asked, done, unless_refused}
 use Rattle.node_memory.specs.MemoryCalls.{on_heap, on_managed}
@@ -138,7 +138,22 @@ module _ (call : Call) where
         → (o ≡ None → (h : ℕ) → (if h == k then block else own_blocks q m h)
         ≡ (use_of (managed_touch (deed call))).changes (own_blocks q m) h)
         → IsManagedChange q m (on_managed (λ store. unless_refused o store (done (with_block q k block store))) m)
-    is_change o low made = grind (decide, length-set, put_total, put_own, put_other)
+    is_change None low made =
+        record {
+          shape = record { size = length-set m.managed.blocks (number_of q k) block; capacity = refl; quota = refl };
+          total = λ few ours size. put_total q k block m few ours size (low refl);
+          blocks =
+              record {
+                own = λ few ours size. same_blocks _ _ (λ h. put_own q k h block m few ours size (low refl) ∙ made refl h);
+                others = λ p n ours. same_blocks _ _ (λ h. put_other q k p h block m n ours (low refl));
+              };
+        }
+    is_change (Some refusal) low made =
+        record {
+          shape = record { size = refl; capacity = refl; quota = refl };
+          total = λ few ours size. refl;
+          blocks = record { own = λ few ours size. refl; others = λ p n ours. refl };
+        }
 
 pub managed-change : (call : Call) (q : ℕ) (m : Memory) → alters (managed_touch (deed call)) ≡ true
     → IsManagedChange call q m (ask call q m)
@@ -156,8 +171,15 @@ own_heap p m b = if is_name b then heap_block_of p b m.heap else None
 abbrev pub heap_store : Store
 heap_store = record { touch = heap_touch; blocks = own_heap }
 
+same_shape : (old new : Memory) → new.managed ≡ old.managed → HasShape old new
+same_shape = grind decide
+
 pub ask-shape : (call : Call) (q : ℕ) (m : Memory) → HasShape m (ask call q m).0
-ask-shape = grind (decide, managed-change)
+ask-shape call q m = shaped (alters (managed_touch (deed call))) refl
+  where
+    shaped : (b : Bool) → alters (managed_touch (deed call)) ≡ b → HasShape m (ask call q m).0
+    shaped true e = (managed-change call q m e).shape
+    shaped false e = same_shape m (ask call q m).0 (ask-rest call q m e)
 
 module _ (call : Call) (q k : ℕ) (bytes : Option (List ℕ)) (m : Memory) where
   module _ (new : HeapStore) where
@@ -174,7 +196,14 @@ module _ (call : Call) (q k : ℕ) (bytes : Option (List ℕ)) (m : Memory) wher
       → (o ≡ None → Results q k bytes m.heap result)
       → (o ≡ None → (h : ℕ) → (if h == k then bytes else own_heap q m h) ≡ (use_of (heap_touch (deed call))).changes (own_heap q m) h)
       → IsChange heap_store call q m (on_heap (λ heap. unless_refused o heap (done_or_no_room result heap)) m)
-  is_heap_change = grind (decide, becomes_own, becomes_other)
+  is_heap_change None (Some new) low results made =
+      let becomes = (results refl).each new refl in
+      record {
+        own = λ few ours size. same_blocks _ _ (λ h. becomes_own new becomes (low refl) h ∙ made refl h);
+        others = λ p n ours. same_blocks _ _ (λ h. becomes_other new becomes (low refl) p n ours h);
+      }
+  is_heap_change None None low results made = record { own = λ few ours size. refl; others = λ p n ours. refl }
+  is_heap_change (Some refusal) result low results made = record { own = λ few ours size. refl; others = λ p n ours. refl }
 
 heap-change : (call : Call) (q : ℕ) (m : Memory) → alters (heap_touch (deed call)) ≡ true → IsChange heap_store call q m (ask call q m)
 heap-change (Call.HeapAlloc k n) q m c =
@@ -321,7 +350,7 @@ managed-keeps = record {
   law = λ call p m reply. managed-law p m reply call;
   asked = grind decide;
   change = λ call q m e. (managed-change call q m e).blocks;
-  rest = λ call q p m e. grind decide;
+  rest = λ call q p m e. ap (λ managed. own_blocks p (with_managed managed m)) (ask-rest call q m e);
   framed = λ slot p bytes m low k. same_blocks _ _ (λ h. put_other 3 slot p h bytes m (grind decide) k low);
   boot = λ p c. empty-own p (booted c).memory refl;
 }
@@ -351,4 +380,11 @@ module _ (p : ℕ) (m : Machine) (reply : Reply) where
   heap-law call d = grind arith
 
 pub heap-keeps : Keeps heap_store
-heap-keeps = grind (decide, heap-law, heap-change, heap-rest)
+heap-keeps = record {
+  law = λ call p m reply. heap-law p m reply call;
+  asked = grind decide;
+  change = heap-change;
+  rest = λ call q p m e. ap (λ heap. own_heap p (with_heap heap m)) (heap-rest call q m e);
+  framed = λ slot p bytes m low k. refl;
+  boot = λ p c. same_blocks _ _ (λ b. grind decide);
+}

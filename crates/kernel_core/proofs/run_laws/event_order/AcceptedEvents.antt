@@ -20,9 +20,15 @@ accepted_with known p [] = []
 accepted_with known p (entry ∷ later) = cons_option (accepted_or known p entry later) (accepted_with known p later)
 
 module _ (known : Known) (p : ℕ) where
+  -- the next reply to a process, apart from what its calls do
+  reply_or-more : (q : ℕ) (X : List Entry) (e : Entry)
+      → reply_or (known q) (heard q (X ++ e ∷ [])) ≡ reply_or (told e known q) (heard q X)
+  reply_or-more = grind (decide, filter_map-append)
+
   accepted_or-more : (entry : Entry) (X : List Entry) (e : Entry)
       → accepted_or known p entry (X ++ e ∷ []) ≡ accepted_or (told e known) p entry X
-  accepted_or-more = grind (decide, filter_map-append)
+  accepted_or-more (Entry.Turn pid origin stimulus call) X e = rw (reply_or-more pid.0 X e) refl
+  accepted_or-more entry X e = refl
 
   -- what a turn adds
   abbrev pub own_event : ℕ → Call → List Event
@@ -36,11 +42,25 @@ module _ (known : Known) (p : ℕ) where
 abbrev given_turn : OwnTurn → Option Event
 given_turn turn = posted_event turn.origin turn.stimulus
 
-abbrev ends_turn : OwnTurn → Bool
-ends_turn turn = is_exit (deed turn.call) || is_event_of_code EXIT turn.stimulus
+abbrev is_end : Stimulus → Call → Bool
+is_end stimulus call = is_exit (deed call) || is_event_of_code EXIT stimulus
 
 or-assoc : (a b c : Bool) → (a || (b || c)) ≡ ((a || b) || c)
 or-assoc = grind decide
+
+-- whether a turn of p passes a test: of any test, so that no proof looks into the calls
+module _ (test : Stimulus → Call → Bool) (p : ℕ) where
+  abbrev passes_in : Entry → Bool
+  passes_in (Entry.Turn pid origin stimulus call) = if pid.0 == p then test stimulus call else false
+  passes_in _ = false
+
+  abbrev passes : OwnTurn → Bool
+  passes turn = test turn.stimulus turn.call
+
+  passed-from : (k : ℕ) (X : List Entry) (e : Entry)
+      → list_any passes (own_from p k (X ++ e ∷ [])) ≡ (list_any passes (own_from p k X) || passes_in e)
+  passed-from k [] e = grind decide
+  passed-from k (entry ∷ X) e = grind (decide, or-assoc, passed-from (k + ticks_in entry) X e)
 
 module _ (p : ℕ) where
   pub accepted_with-none : (X : List Entry) → accepted_with nothing_known p X ≡ accepted_events p X
@@ -53,22 +73,16 @@ module _ (p : ℕ) where
   given_in _ = []
 
   abbrev pub ends_in : Entry → Bool
-  ends_in (Entry.Turn pid origin stimulus call) = if pid.0 == p then is_exit (deed call) || is_event_of_code EXIT stimulus else false
-  ends_in _ = false
+  ends_in = passes_in is_end p
 
   given-from : (k : ℕ) (X : List Entry) (e : Entry)
       → filter_map given_turn (own_from p k (X ++ e ∷ [])) ≡ filter_map given_turn (own_from p k X) ++ given_in e
   given-from k [] e = grind decide
   given-from k (entry ∷ X) e = grind (decide, given-from (k + ticks_in entry) X e)
 
-  ended-from : (k : ℕ) (X : List Entry) (e : Entry)
-      → list_any ends_turn (own_from p k (X ++ e ∷ [])) ≡ (list_any ends_turn (own_from p k X) || ends_in e)
-  ended-from k [] e = grind decide
-  ended-from k (entry ∷ X) e = grind (decide, or-assoc, ended-from (k + ticks_in entry) X e)
-
   module _ (X : List Entry) (e : Entry) where
     pub given-more : given_events (X ++ e ∷ []) p ≡ given_events X p ++ given_in e
     given-more = grind (decide, given-from)
 
     pub ended-more : has_ended p (X ++ e ∷ []) ≡ (has_ended p X || ends_in e)
-    ended-more = grind (decide, ended-from)
+    ended-more = passed-from is_end p 0 X e

@@ -2,7 +2,7 @@
 use Rattle.kernel_core.proofs.run_laws.Changes.{is_from_queue, farewells-same, all-delivered, all-mapped, is_note, behind, seats, state_of-seats, seats-with_state, seats-with_mark, seats-without}
 use Rattle.std.proofs.Common.{◌≡◌, ℕ, Bool, true, false, ◌||◌, List, [], ◌∷◌, ◌++◌, refl, arith, append-nil, if◌then◌else◌, ◌==◌, not, ◌&&◌, map}
 use Rattle.kernel_core.specs.Laws.EventLaws.{is_event_of_code}
-use Rattle.kernel_core.proofs.Common.{list_any, decide, Call, Stimulus, Origin, Entry, EXIT, list_all, State, Item, Scheduler, after_item, Machine, is_running, state_in, farewells, after_call}
+use Rattle.kernel_core.proofs.Common.{list_any, list_any-append, decide, Call, Stimulus, Origin, Entry, EXIT, list_all, State, Item, Scheduler, after_item, Machine, is_running, state_in, farewells, after_call}
 use Rattle.kernel_core.proofs.run_laws.event_order.AcceptedEvents.{ends_in}
 
 -- what may be below a Give of origin event
@@ -39,6 +39,16 @@ ordered-append (x ∷ xs) ys h o = grind (arith, ordered-append xs ys)
 ordered-walk : (xs : List Item) → list_all is_walk xs ≡ true → is_ordered xs ≡ true
 ordered-walk [] h = refl
 ordered-walk (x ∷ xs) h = grind (arith, ordered-walk xs)
+
+any-behind : (test : Item → Bool) (xs items : List Item) → list_any test items ≡ true → list_any test (xs ++ items) ≡ true
+any-behind = grind (decide, list_any-append)
+
+second_true : (a b : Bool) → (a && b) ≡ true → b ≡ true
+second_true = grind decide
+
+front_covered : (remove give turn all rest : Bool) → (not remove && all) ≡ true → rest ≡ true
+    → (if remove then false else give || (turn || rest)) ≡ true
+front_covered = grind decide
 
 module _ (p : ℕ) where
   -- the agenda's items for p until it ends
@@ -85,17 +95,26 @@ module _ (p : ℕ) where
   stands s = is_placed (seats p s.processes) s.agenda && is_covered s.agenda
 
   placed-append : (l : List State) (xs items : List Item) → is_placed l items ≡ true → is_placed l (xs ++ items) ≡ true
-  placed-append l [] items h = h
-  placed-append l (x ∷ xs) items h = grind (decide, placed-append l xs items h)
+  placed-append [] xs items h = any-behind is_start xs items h
+  placed-append (State.Absent ∷ []) xs items h = h
+  placed-append (State.Running ∷ []) xs items h = refl
+  placed-append (State.Called ∷ []) xs items h = any-behind is_turn_of xs items h
+  placed-append (State.Leaving ∷ []) xs items h = any-behind is_give_exit xs items h
+  placed-append (State.Ending ∷ []) xs items h = any-behind is_exit_turn xs items h
+  placed-append (state ∷ other ∷ rest) xs items h = h
 
   covered-append : (xs items : List Item) → list_all (λ item. not (is_remove item)) xs ≡ true → is_covered items ≡ true
       → is_covered (xs ++ items) ≡ true
   covered-append [] items n h = h
-  covered-append (x ∷ xs) items n h = grind (arith, covered-append xs items)
+  covered-append (x ∷ xs) items n h =
+      front_covered (is_remove x) (is_give_exit x) (is_exit_turn x) _ (is_covered (xs ++ items)) n
+      (covered-append xs items (second_true (not (is_remove x)) _ n) h)
 
 pub carried-ordered : (item : Item) (s : Scheduler Bool) → is_ordered (item ∷ s.agenda) ≡ true
     → is_ordered (after_item item s).agenda ≡ true
-carried-ordered = grind (decide, append-nil, ordered-walk, all-delivered, ordered-append, all-mapped)
+carried-ordered Item.Polls s h = grind (decide, ordered-append, all-mapped)
+carried-ordered Item.Deliver s h = grind (decide, append-nil, ordered-walk, all-delivered)
+carried-ordered item s h = grind decide
 
 abbrev pub is_silent : Item → Bool
 is_silent (Item.Turn q origin stimulus) = false

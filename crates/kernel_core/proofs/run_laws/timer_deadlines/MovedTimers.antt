@@ -16,10 +16,18 @@ pub record OwnTimer : Type 0 where
 abbrev pub cell_names : List NamedCell → List Timer
 cell_names cells = map (λ named. named.timer) cells
 
+never : {A : Type 0} (b : Bool) → b ≡ false → b ≡ true → A
+never b n e = absurd (cc)
+
 module _ (timer : Timer) (cell : Cell) where
+  named_front : (b : Bool) (named : NamedCell) (new old : List Timer) → new ≡ old
+      → (if b then record named { cell = cell } else named).timer ∷ new ≡ named.timer ∷ old
+  named_front true named new old e = rw e refl
+  named_front false named new old e = rw e refl
+
   with_cell-names : (cells : List NamedCell) → cell_names (with_cell timer cell cells) ≡ cell_names cells
   with_cell-names [] = refl
-  with_cell-names (named ∷ cells) = grind (decide, with_cell-names cells)
+  with_cell-names (named ∷ cells) = named_front (is_timer timer named.timer) named _ _ (with_cell-names cells)
 
   pub armed-names : (timers : Timers) → cell_names (armed_with timer cell timers).cells ≡ cell_names timers.cells
   armed-names timers = with_cell-names timers.cells
@@ -33,16 +41,35 @@ module _ (timer : Timer) where
   zero-cells [] = refl
   zero-cells (other ∷ others) = grind (decide, zero-cells others)
 
+  own_front : (cell : Cell) (named : NamedCell) (cells : List NamedCell) (b : Bool) → is_timer timer named.timer ≡ b
+      → (list_any (is_timer timer) (cell_names cells) ≡ true → cell_under timer (with_cell timer cell cells) ≡ cell)
+      → (b || list_any (is_timer timer) (cell_names cells)) ≡ true
+      → cell_under timer ((if b then record named { cell = cell } else named) ∷ with_cell timer cell cells) ≡ cell
+  own_front cell named cells true e below n = rw e refl
+  own_front cell named cells false e below n = rw e (below n)
+
   under-own : (cell : Cell) (cells : List NamedCell) → list_any (is_timer timer) (cell_names cells) ≡ true
       → cell_under timer (with_cell timer cell cells) ≡ cell
   under-own cell [] n = absurd (cc)
-  under-own cell (named ∷ cells) n = grind (decide, under-own cell cells)
+  under-own cell (named ∷ cells) n = own_front cell named cells (is_timer timer named.timer) refl (under-own cell cells) n
 
   module _ (other : Timer) (cell : Cell) where
+    differs : (named : Timer) → is_timer timer other ≡ false → is_timer other named ≡ true → is_timer timer named ≡ false
+    differs = grind decide
+
+    other_front : (named : NamedCell) (new old : List NamedCell) (b c : Bool) → is_timer timer named.timer ≡ c → (b ≡ true → c ≡ false)
+        → cell_under timer new ≡ cell_under timer old
+        → cell_under timer ((if b then record named { cell = cell } else named) ∷ new) ≡ cell_under timer (named ∷ old)
+    other_front named new old true true e d below = never true (d refl) refl
+    other_front named new old false true e d below = rw e refl
+    other_front named new old true false e d below = rw e below
+    other_front named new old false false e d below = rw e below
+
     under-other : (cells : List NamedCell) → is_timer timer other ≡ false
         → cell_under timer (with_cell other cell cells) ≡ cell_under timer cells
     under-other [] n = refl
-    under-other (named ∷ cells) n = grind (decide, under-other cells n)
+    under-other (named ∷ cells) n =
+        other_front named _ _ (is_timer other named.timer) (is_timer timer named.timer) refl (differs named.timer n) (under-other cells n)
 
     cell-armed_other : (timers : Timers) → is_timer timer other ≡ false
         → cell_of timer (armed_with other cell timers) ≡ cell_of timer timers
@@ -78,6 +105,12 @@ module _ (timer : Timer) where
         → list_any (is_timer timer) (filter (λ x. not (is_timer other x)) armed) ≡ list_any (is_timer timer) armed
     stopped-other [] n = refl
     stopped-other (x ∷ xs) n = grind (decide, stopped-other xs n)
+
+no_first : (a b c d : Bool) → (a && (b && (c || d))) ≡ false → (a && (b && c)) ≡ false
+no_first = grind decide
+
+no_second : (a b c d : Bool) → (a && (b && (c || d))) ≡ false → (a && (b && d)) ≡ false
+no_second = grind decide
 
 abbrev pub is_timer_call : Call → Bool
 is_timer_call (Call.TimerSet u interval) = true
@@ -127,7 +160,16 @@ module _ (o : OwnTimer) where
           → is_armed (own_timer o) new ≡ is_armed (own_timer o) old
           → (nat_le o.t 7 ≡ true → cell_of (own_timer o) new ≡ cell_of (own_timer o) old)
           → Moves old new
-      still_moves = grind decide
+      still_moves old new still armed cell =
+          let unarmed = no_first (q == o.p) (is_done k) (arms o.t (deed call)) (stops o.t (deed call)) still in
+          let unstopped = no_second (q == o.p) (is_done k) (arms o.t (deed call)) (stops o.t (deed call)) still in
+          record {
+            kept = λ n. armed;
+            cell = λ low. rw unarmed (cell low);
+            set = never _ unarmed;
+            named = never _ unarmed;
+            unset = never _ unstopped;
+          }
 
     stopped_moves : (u clock : ℕ) (k : Option Reply) (old : Timers) → ((q == o.p) ≡ true → k ≡ Some Reply.Done)
         → Moves clock (Call.TimerStop u) k old (stop_timer (event_timer q u) old)
