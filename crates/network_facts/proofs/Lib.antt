@@ -1,2 +1,3 @@
 mod Examples
 mod InFlightExamples
+pub mod Walked

@@ -151,7 +151,7 @@ fn sent_in<'a>(clock: u64, line: &NetworkLine<'a>) -> Option<Sent<'a>>
 }
 
 /// The clock after a line.
-pub(crate) fn clock_after(clock: u64, line: &NetworkLine<'_>) -> u64
+fn clock_after(clock: u64, line: &NetworkLine<'_>) -> u64
     ensures { result ≡ spec.clock_after clock line.now }
 {
     match *line {

@@ -1,5 +1,5 @@
 -- Examples: what ends in the row where it begins, a clock outside, blocks with room enough, events for all, and changes that go back.
-use Rattle.std.proofs.Common.{◌≡◌, ◌∙◌, ◌<◌, ◌≤◌, ℕ, List, [], ◌∷◌, ◌++◌, codes, length, Some, None, Option, ap, sym, arith}
+use Rattle.std.proofs.Common.{◌≡◌, ◌∙◌, ◌<◌, ◌≤◌, ℕ, List, [], ◌∷◌, ◌++◌, codes, drop, length, Some, None, Option, ap, refl, sym, arith}
 use Rattle.picture_facts.specs.Clocks.{LieBetween}
 use Rattle.picture_facts.specs.Dump.{AreChanges, IsDump, time_line, value_line}
 use Rattle.picture_facts.specs.Posts.{Posts}
@@ -78,7 +78,21 @@ first_byte (byte ∷ bytes) = byte
 -- an event for one process isn't one for all
 not_to_all : (call event : List ℕ) (to : Option ℕ) → Posts call to event → call ≡ codes "post 4 140 -" → to ≡ None → ⊥
 not_to_all call event to (Posts.to_all text) is none = absurd (omega (arith, ap first_byte is))
-not_to_all call event to (Posts.to_one word text) is none = absurd (cc)
+not_to_all call event to (Posts.to_one word text first) is none = absurd (cc)
+
+-- what follows is the event
+all_receive : (call event : List ℕ) (to : Option ℕ) → Posts call to event → call ≡ codes "broadcast 140 -" → event ≡ codes "140 -"
+all_receive call event to (Posts.to_all text) is = ap (drop 10) is
+all_receive call event to (Posts.to_one word text first) is = absurd (omega (arith, ap first_byte is))
+
+one_receives : (call event : List ℕ) (to : Option ℕ) → Posts call to event → call ≡ codes "post 4 140 -"
+    → (to ≡ Some 4) × (event ≡ codes "140 -")
+one_receives call event to (Posts.to_all text) is = absurd (omega (arith, ap first_byte is))
+one_receives call event to (Posts.to_one word text first) is =
+    let rest : word ++ codes " " ++ text ≡ codes "4 140 -" = ap (drop 5) is in
+    let four : word ≡ codes "4" = rw rest at first in
+    let others : codes "4 " ++ text ≡ codes "4 140 -" = rw four at rest in
+    (rw four refl, ap (drop 2) others)
 
 -- the signals of changes, and where they begin
 abbrev signals : {time : ℕ} {text : List ℕ} → AreChanges time text → List ℕ

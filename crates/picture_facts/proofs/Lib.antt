@@ -1,6 +1,8 @@
 pub mod Again
 pub mod Appended
 pub mod Ascending
+mod CallExamples
+mod ChainExamples
 pub mod Chained
 pub mod Clocks
 pub mod Covers

@@ -31,6 +31,13 @@ given_though_refused : EventsArriveInOrder 2 (refused_post ++ given 4 (plain_eve
 given_though_refused laws =
     cc (laws.in_order 4 refl (refused_post ++ given 4 (plain_event 140) ∷ []) [] refl refl).1
 
+-- an event is posted after it was delivered: so far, nobody posted it
+abbrev posted_later : List Entry
+posted_later = started 5 (Call.Post 4 140 Payload.Empty) ∷ told 5 Reply.Done Call.Wait ∷ []
+
+given_before_posted : EventsArriveInOrder 2 (given 4 (plain_event 140) ∷ posted_later) → ⊥
+given_before_posted laws = cc (laws.in_order 4 refl (given 4 (plain_event 140) ∷ []) posted_later refl refl).1
+
 -- an EXITED event as if it were posted: nobody posted it
 told_of_an_exit : EventsArriveInOrder 2 (started 4 Call.Wait ∷ given 4 (number_event EXITED 5) ∷ []) → ⊥
 told_of_an_exit laws = cc (laws.in_order 4 refl (started 4 Call.Wait ∷ given 4 (number_event EXITED 5) ∷ []) [] refl refl).1
@@ -70,6 +77,13 @@ stopped =
 
 told_though_stopped : TimersAreKept 1 stopped → ⊥
 told_though_stopped laws = omega (arith, laws.not_early 4 refl stopped [] 2 refl)
+
+-- the event of a timer is delivered before its deadline, which then comes
+abbrev told_early : List Entry
+told_early = started 4 (Call.TimerSet 2 5) ∷ told 4 Reply.Done Call.Wait ∷ given 4 (number_event TIMER 2) ∷ []
+
+told_before_its_deadline : TimersAreKept 1 (told_early ++ Entry.Input (Input.Tick 9) ∷ []) → ⊥
+told_before_its_deadline laws = omega (arith, laws.not_early 4 refl told_early (Entry.Input (Input.Tick 9) ∷ []) 2 refl)
 
 -- two events of one arming are delivered
 abbrev armed_once : List Entry
@@ -167,6 +181,9 @@ not_empty (first ∷ earlier) between entry same = cc
 
 sent_by_nobody : BlocksAreOwn (Entry.Note (Note.Sent nines) ∷ []) → ⊥
 sent_by_nobody laws = not_empty _ _ _ (laws.sent [] [] nines refl).split
+
+sent_by_nobody_so_far : BlocksAreOwn (Entry.Note (Note.Sent nines) ∷ Entry.Halt ∷ []) → ⊥
+sent_by_nobody_so_far laws = not_empty _ _ _ (laws.sent [] (Entry.Halt ∷ []) nines refl).split
 
 -- process 4 sends its block, and process 5 takes a turn before the note
 abbrev sent_late : List Entry

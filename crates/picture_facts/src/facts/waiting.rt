@@ -2,9 +2,11 @@
 //! before they are received.
 
 ghost use Rattle.std.specs.Prelude.{◌≡◌, [], ◌++◌, codes, map, IfOk, IfSome};
+ghost use Rattle.std.specs.List.{before_first};
 ghost use Rattle.std.specs.Str.Parse.{digits_value, without_leading_plus};
 ghost use Rattle.picture_facts.specs.Ascending.{MayAppend};
 ghost use Rattle.picture_facts.specs.Posts.{Posts};
+ghost use Rattle.picture_facts.specs.Words.{is_space};
 
 use crate::facts::accepted::Accepted;
 use crate::numbers::bit_of;
@@ -60,7 +62,8 @@ impl<'a> Model for Queue<'a> {
 
 /// What is in a text before its first space, and what after it.
 fn parted(text: &str) -> Option<(&str, &str)>
-    ensures { IfSome result (λ parts. text.now ≡ parts.0.now ++ codes " " ++ parts.1.now) }
+    ensures whole { IfSome result (λ parts. text.now ≡ parts.0.now ++ codes " " ++ parts.1.now) }
+    ensures word { IfSome result (λ parts. parts.0.now ≡ before_first is_space text.now) }
 {
     text.split_once(' ')
 }
