@@ -75,9 +75,27 @@ take_turns(long count)
   }
 }
 
+/* A size that is bad is reported where no memory is granted, also of the last mote. */
+static void
+refuse_sizes_first(void)
+{
+  struct toarmuts_network_mote motes[MOTES] = {{TOARMUTS_DEFAULTS, 1}, {TOARMUTS_DEFAULTS, 2}, {TOARMUTS_DEFAULTS, 17}};
+  asked = granted = 0;
+  check("too many applications come first", toarmuts_network_open(&sizes, motes, MOTES, &network) == TOARMUTS_BAD_SIZES && asked == 0);
+  motes[MOTES - 1].applications = UINT32_MAX;
+  check("the most applications", toarmuts_network_open(&sizes, motes, MOTES, &network) == TOARMUTS_BAD_SIZES && asked == 0);
+  motes[MOTES - 1].applications = 16;
+  motes[0].configuration.heap = 16;
+  check("a bad heap comes first", toarmuts_network_open(&sizes, motes, MOTES, &network) == TOARMUTS_BAD_SIZES && asked == 0);
+  motes[0].configuration.heap = 20;
+  check("memory, where all sizes are good",
+        toarmuts_network_open(&sizes, motes, MOTES, &network) == TOARMUTS_OUT_OF_MEMORY && asked > 0 && !network.is_open);
+}
+
 int
 main(void)
 {
+  refuse_sizes_first();
   open_at_last();
   link_at_last();
   asked = granted = 0;

@@ -10,6 +10,7 @@ use Rattle.mote_types.specs.declared.call.Call.{Call}
 use Rattle.mote_text.specs.declared.script.End.{End}
 use Rattle.kernel_core.specs.Machine.{is_bootable}
 use Rattle.call_lists.specs.declared.applications.Application.{Application}
+use Rattle.call_lists.specs.declared.fault.CallFault.{CallFault}
 use Rattle.mote_run.specs.RunText.{IsRunText}
 use Rattle.library_core.specs.declared.refusal.LineReason.{LineReason}
 use Rattle.library_core.specs.declared.refusal.Refusal.{Refusal}
@@ -20,10 +21,11 @@ use Rattle.mote_types.specs.Applications.{says_of}
 use Rattle.node_memory.specs.declared.sizes.Sizes.{Sizes}
 use Rattle.library_core.specs.Outcomes.{AreRefused, HasBadSizes, HasNoReason, IsRefusalOf, IsRefusedLine, IsRunOf, IsTooLongFor, refusal_application, refusal_call, refusal_line, refusal_reason, refusal_status, AreOfLines, HasRun, IsOfLine, Refuses}
 use Rattle.library_core.specs.Configurations.{is_quiet, sizes_of}
-use Rattle.library_core.specs.Reasons.{HasCallsAlone, HasNoCallAt, IsBehindPart, IsCallPart, IsNoApplication, IsNoCallPart, IsOnePart, size_reason, with_commas, HasCalls, HasNoCalls, IsLineReason}
+use Rattle.library_core.specs.Reasons.{HasCallsAlone, HasNoCallAt, IsBehindPart, IsCallPart, IsNoApplication, IsNoCallPart, IsOnePart, call_reason_of, size_reason, with_commas, HasCalls, HasNoCalls, IsLineReason}
 use Rattle.library_core.specs.declared.configuration.Configuration.{Configuration}
 use Rattle.library_core.specs.declared.refusal.CallReason.{CallReason}
 use Rattle.library_core.specs.declared.refusal.SizeReason.{SizeReason}
+use denote.Ref.{Bor}
 
 -- The numbers of a configuration.
 
@@ -252,6 +254,14 @@ of_refusals = (refl, refl, refl, refl)
 
 no_reason : HasNoReason (record { status = 0; line = 0; length = 5; reason = 0; application = 0; call = 0 })
 no_reason = (refl, refl, refl)
+
+-- too many words are not reported as too few
+module _ (words : Bor (List ℕ)) (least most : ℕ) where
+  of_faults : (call_reason_of (CallFault.TooFewWords words) ≡ CallReason.TooFewWords)
+      × (call_reason_of (CallFault.TooManyWords words) ≡ CallReason.TooManyWords)
+      × (call_reason_of (CallFault.NoNumber words least most) ≡ CallReason.NoNumber)
+      × (call_reason_of (CallFault.NoHex words most) ≡ CallReason.NoHex) × (call_reason_of (CallFault.NoCall words) ≡ CallReason.NoName)
+  of_faults = (refl, refl, refl, refl, refl)
 
 told_a_reason : HasNoReason (record { status = 19; line = 0; length = 0; reason = 2; application = 0; call = 0 }) → ⊥
 told_a_reason none = cc none.0

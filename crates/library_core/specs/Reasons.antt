@@ -4,6 +4,7 @@ use Rattle.std.specs.List.{All}
 use Rattle.call_lists.specs.Applications.{IsListed}
 use Rattle.call_lists.specs.Faults.{IsNoList, IsNoName}
 use Rattle.call_lists.specs.declared.applications.Application.{Application}
+use Rattle.call_lists.specs.declared.fault.CallFault.{CallFault}
 use Rattle.node_memory.specs.Sizes.{is_header, is_region_size}
 use Rattle.node_memory.specs.declared.sizes.Sizes.{Sizes}
 use Rattle.library_core.specs.declared.refusal.CallReason.{CallReason}
@@ -75,6 +76,14 @@ pub record HasCallsAlone (text : List ℕ) : Type 0 where
   pub is_text : text ≡ with_commas before ++ last
   pub are_calls : All IsCallPart before
   pub is_call : IsCallPart last
+
+-- why a part of a list is no call: that of its fault. The other faults than of words, numbers and hex are of its name
+abbrev pub call_reason_of : CallFault → CallReason
+call_reason_of (CallFault.TooFewWords name) = CallReason.TooFewWords
+call_reason_of (CallFault.TooManyWords words) = CallReason.TooManyWords
+call_reason_of (CallFault.NoNumber word least most) = CallReason.NoNumber
+call_reason_of (CallFault.NoHex word most) = CallReason.NoHex
+call_reason_of fault = CallReason.NoName
 
 -- no application has this name, and no list of calls has this text
 abbrev pub IsNoApplication : List ℕ → Type 0

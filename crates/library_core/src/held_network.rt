@@ -78,15 +78,17 @@ impl HeldNetwork {
         }
     }
 
-    /// Opens it. What it held before is dropped.
+    /// Opens it, where it is closed: so nothing that it held is lost.
     // Each call of the library puts the network back: inlined, that takes some 8 instructions less.
     #[inline(always)]
     pub fn put(&mut self, alloc: Global, open_network: Box<OpenNetwork>)
-        ensures { self.new.open_network ≡ Some open_network.value }
+        requires closed { self.old.open_network ≡ None }
+        ensures opened { self.new.open_network ≡ Some open_network.value }
     {
         let before = mem::replace(self, HeldNetwork::of(Unboxed::of(open_network)));
-        if let Some(parts) = before.into_parts(alloc) {
-            drop(parts.into_box());
+        match before.into_parts(alloc) {
+            None => {}
+            Some(_) => unreachable!(),
         }
     }
 }

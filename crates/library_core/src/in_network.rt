@@ -1,6 +1,6 @@
 //! What the calls do in an open network, and the status that they return.
 
-ghost use Rattle.std.specs.Prelude.{◌≡◌, ◌≢◌, ◌≤◌, ◌+◌, None, Some, length as size_of, take, drop, true, false, IfNone, IfOk, IfSome, IsErrOf};
+ghost use Rattle.std.specs.Prelude.{◌≡◌, ◌≢◌, ◌≤◌, ◌+◌, ◌↔◌, None, Some, length as size_of, take, drop, true, false, IfNone, IfOk, IfSome, IsErrOf};
 ghost use Rattle.std.specs.List.{list_any};
 ghost use Rattle.kernel_core.specs.Machine.{is_bootable};
 ghost use Rattle.mote_types.specs.declared.fault.BootFault.{BootFault};
@@ -8,7 +8,8 @@ ghost use Rattle.network_steps.specs.Lines.{came_line};
 ghost use Rattle.network_steps.specs.Refusals.{awaited_turn, link_refusal};
 ghost use Rattle.network_steps.specs.Works.{TakesFeed, TakesLink, TakesTicks};
 ghost use Rattle.library_core.specs.Code.Opening.{IsMoteAdded};
-ghost use Rattle.library_core.specs.NetworkCalls.{AreOpened, IsNetworkOpened, NetworkGoesNext, NetworkTakesCall, awaits, config_of_mote, fault_status_if, is_unbootable, mote_due, network_due_status, network_feed_status, network_line_status, network_submit_status, network_tick_status};
+ghost use Rattle.library_core.specs.NetworkCalls.{AreOpened, IsNetworkOpened, NetworkGoesNext, NetworkTakesCall, awaits, config_of_mote, fault_status_if, mote_due, network_due_status, network_feed_status, network_line_status, network_submit_status, network_tick_status};
+ghost use Rattle.library_core.specs.NetworkCalls as network;
 ghost use Rattle.library_core.specs.Networks.{place_of};
 ghost use Rattle.library_core.specs.Steps.{IsOpened, TellsTurn};
 
@@ -23,8 +24,26 @@ use mote_session::session::Session;
 use mote_session::{BootFault, Config};
 use mote_text::output_buffer::OutputBuffer;
 use mote_types::entry::Input;
+use mote_types::event::MOST_APPLICATIONS;
 use network_steps::steps::NetworkSteps;
 use std::alloc::Global;
+
+/// Whether no mote boots so.
+fn is_unbootable(mote: &NetworkMote) -> bool
+    ensures { result ≡ network.is_unbootable mote.now }
+{
+    match u8::try_from(mote.applications) {
+        Ok(apps) => apps > MOST_APPLICATIONS || !mote.configuration.sizes().are_allowed(apps),
+        Err(_) => true,
+    }
+}
+
+/// Whether one of the motes can't boot.
+fn has_unbootable(motes: &[NetworkMote]) -> bool
+    ensures { result ≡ list_any network.is_unbootable motes.now }
+{
+    motes.iter().any(|mote| is_unbootable(mote))
+}
 
 /// The configuration of a mote. None, if it has too many applications.
 fn config_of(mote: &NetworkMote) -> Option<Config>
@@ -73,7 +92,7 @@ fn boot_mote(alloc: Global, sessions: &mut Vec<Session>, config: Config) -> Resu
 /// Boots these motes.
 fn boot_motes(alloc: Global, motes: &[NetworkMote]) -> Result<Vec<Session>, BootFault>
     ensures opened { IfOk result (λ sessions. AreOpened motes.now sessions.items) }
-    ensures bad_sizes { IsErrOf result BootFault.BadSizes → list_any is_unbootable motes.now ≡ true }
+    ensures bad_sizes { IsErrOf result BootFault.BadSizes → list_any network.is_unbootable motes.now ≡ true }
 {
     let Ok(mut sessions) = Vec::with_capacity(alloc, motes.len()) else {
         return Err(BootFault::Memory);
@@ -91,14 +110,22 @@ fn boot_motes(alloc: Global, motes: &[NetworkMote]) -> Result<Vec<Session>, Boot
 }
 
 /// A network of these motes, which have just booted.
+///
+/// # Errors
+///
+/// `BadSizes` exactly if one of the motes can't boot, otherwise `Memory`.
 pub fn boot_network(
     alloc: Global,
     sizes: &NetworkSizes,
     motes: &[NetworkMote],
 ) -> Result<Box<OpenNetwork>, BootFault>
     ensures opened { IfOk result (λ network. IsNetworkOpened sizes.now motes.now network.value.steps) }
-    ensures bad_sizes { IsErrOf result BootFault.BadSizes → list_any is_unbootable motes.now ≡ true }
+    ensures bad_sizes { IsErrOf result BootFault.BadSizes ↔ (list_any network.is_unbootable motes.now ≡ true) }
 {
+    // First, so that it doesn't depend on the memory that the motes before take.
+    if has_unbootable(motes) {
+        return Err(BootFault::BadSizes);
+    }
     let sessions = match boot_motes(alloc, motes) {
         Ok(sessions) => sessions,
         Err(fault) => return Err(fault),

@@ -1,14 +1,17 @@
 //! Why a list of calls is none: its first part that is no call, or that it has too many.
 
-ghost use Rattle.std.specs.Prelude.{◌≡◌, ◌<◌, ◌++◌, length, IfNone, IfSome};
+ghost use Rattle.std.specs.Prelude.{◌≡◌, ◌<◌, ◌++◌, [], Some, length, IfNone, IfSome};
 ghost use Rattle.call_lists.specs.Code.Lists.{behind_comma};
 ghost use Rattle.library_core.specs.Code.Parts.{IsListReason};
-ghost use Rattle.library_core.specs.Reasons.{IsCallPart, IsNoCallPart, IsOnePart};
+ghost use Rattle.library_core.specs.Reasons.{IsCallPart, IsNoCallPart, IsOnePart, call_reason_of};
 
 use crate::refusal::{CallReason, LineReason};
 use call_lists::{Application, CallFault};
 
-fn call_reason(fault: CallFault<'_>) -> CallReason {
+/// Why a part of a list is no call, which has this fault.
+fn call_reason(fault: CallFault<'_>) -> CallReason
+    ensures { result ≡ call_reason_of fault.entry }
+{
     match fault {
         CallFault::TooFewWords(_) => CallReason::TooFewWords,
         CallFault::TooManyWords(_) => CallReason::TooManyWords,
@@ -37,6 +40,7 @@ fn part_reason(part: &str) -> Option<CallReason>
     requires { IsOnePart part.now }
     ensures call { IfNone result (IsCallPart part.now) }
     ensures none { IfSome result (λ _. IsNoCallPart part.now) }
+    ensures empty { part.now ≡ [] → result ≡ Some CallReason.NoName }
 {
     if part.is_empty() {
         return Some(CallReason::NoName);

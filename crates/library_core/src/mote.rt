@@ -78,15 +78,17 @@ impl Mote {
         }
     }
 
-    /// Opens it. What it held before is dropped.
+    /// Opens it, where it is closed: so nothing that it held is lost.
     // Each call of the library puts the mote back: inlined, that takes some 8 instructions less.
     #[inline(always)]
     pub fn put(&mut self, alloc: Global, open_mote: Box<OpenMote>)
-        ensures { self.new.open_mote ≡ Some open_mote.value }
+        requires closed { self.old.open_mote ≡ None }
+        ensures opened { self.new.open_mote ≡ Some open_mote.value }
     {
         let before = mem::replace(self, Mote::of(Unboxed::of(open_mote)));
-        if let Some(parts) = before.into_parts(alloc) {
-            drop(parts.into_box());
+        match before.into_parts(alloc) {
+            None => {}
+            Some(_) => unreachable!(),
         }
     }
 }

@@ -37,7 +37,7 @@ pub extern "C" fn toarmuts_network_open(
     ensures opened { result ≡ 0 → ((steps_in network.old) ≡ None) × IsSomeAnd (steps_in network.new) (IsNetworkOpened sizes.now motes.now) }
     ensures unchanged { result ≢ 0 → (steps_in network.new) ≡ (steps_in network.old) }
     ensures is_open { (result ≡ 23) ↔ (is_some (steps_in network.old) ≡ true) }
-    ensures bad_sizes { result ≡ 19 → list_any is_unbootable motes.now ≡ true }
+    ensures bad_sizes { (steps_in network.old) ≡ None → (result ≡ 19) ↔ (list_any is_unbootable motes.now ≡ true) }
     ensures else_memory { result ≢ 0 → result ≢ 19 → result ≢ 23 → result ≡ 21 }
 {
     if let Some(open_network) = network.take(alloc) {
