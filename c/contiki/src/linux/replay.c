@@ -72,6 +72,7 @@ open_replay(int file)
 {
   char line[LINE_LIMIT + 2];
   record = file;
+  begin_sum();
   read_without_limit();
   if(!next_line(line) || !read_head(line)) {
     give_up(STATUS_BAD_LINE, "this is no record: it doesn't begin with `# record 1 sources ..`");
