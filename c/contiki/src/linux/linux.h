@@ -37,6 +37,7 @@ CC_NORETURN void run_replay(void);
 void begin_transcript(bool is_quiet, bool is_text);
 void show_only(unsigned mote);
 void speak_for(unsigned mote);
+bool show_entry_of(unsigned mote);
 void show_network_line(void);
 void show_text(const char *text);
 void show_halt(void);
