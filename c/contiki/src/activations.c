@@ -66,6 +66,9 @@ static bool
 leaves(const struct process *p, bool ends)
 {
   check_callbacks(p, __builtin_frame_address(0));
+  if(ends) {
+    keep_receiver(p);
+  }
   if(ends && (stays_for_frames(p) || stays_for_callbacks(p))) {
     stop_event_timers(p);
     return false;
