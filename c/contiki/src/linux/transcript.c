@@ -4,6 +4,7 @@
 #include <errno.h>
 #include <poll.h>
 #include <signal.h>
+#include <stdatomic.h>
 #include <unistd.h>
 
 enum { ROOM = 1 << 16, LINE_ROOM = 680, SPEAKER_ROOM = 12, PIECE = 4096, PATIENCE = 1000 };
@@ -19,7 +20,8 @@ static unsigned only_mote;      /* the only mote of a network whose lines are sh
 static unsigned speaker;
 static bool is_left_out;
 
-static char room[ROOM];
+/* What isn't written yet, and behind it room for a line. */
+static char room[ROOM + LINE_ROOM];
 static size_t used;
 
 /* Whether the buffer is being changed or written, and the signal that arrived meanwhile and must end the run, or 0. */
@@ -121,7 +123,7 @@ static void
 put_bytes(const void *bytes, size_t length)
 {
   is_busy = 1;
-  if(length > ROOM - used) {
+  if(used + length > ROOM) {
     write_room();
   }
   memcpy(room + used, bytes, length);
@@ -135,11 +137,7 @@ static size_t
 take_line(void)
 {
   size_t length;
-  uint32_t status;
-  if(ROOM - used < LINE_ROOM) {
-    flush_transcript();
-  }
-  status = last_line((uint8_t *)room + used, LINE_ROOM - 1, &length);
+  uint32_t status = last_line((uint8_t *)room + used, LINE_ROOM - 1, &length);
   if(status != 0) {
     stop("the mote returns no line: status %u", status);
   }
@@ -154,16 +152,32 @@ number_length(void)
   return speaker == 0 ? 0 : (size_t)(strchr(room + used, ' ') + 1 - (room + used));
 }
 
-/* Adds that line to the transcript: without the number, if it is that of one mote of a network. */
+/* Adds that line where it can't stay in its place: without the number, if the transcript is that of one mote of a network. */
+static void
+move_line(size_t length)
+{
+  size_t front = only_mote == 0 ? 0 : number_length();
+  const char *line = room + used + front;
+  length -= front;
+  is_busy = 1;
+  if(used + length > ROOM) {
+    write_room();
+  }
+  memmove(room + used, line, length);
+  used += length;
+  end_busy();
+}
+
+/* Adds that line to the transcript. A handler of signals finds it there whole, or not at all. */
 static void
 keep_line(size_t length)
 {
-  if(only_mote != 0) {
-    size_t front = number_length();
-    length -= front;
-    memmove(room + used, room + used + front, length);
+  if(only_mote != 0 || used + length > ROOM) {
+    move_line(length);
+  } else {
+    atomic_signal_fence(memory_order_release);
+    used += length;
   }
-  used += length;
 }
 
 /* The number of the mote that prints, with a space. */
