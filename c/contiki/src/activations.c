@@ -66,6 +66,9 @@ static bool
 leaves(const struct process *p, bool ends)
 {
   check_callbacks(p, __builtin_frame_address(0));
+  if(ends) {
+    keep_receiver(p);
+  }
   if(ends && (stays_for_frames(p) || stays_for_callbacks(p))) {
     stop_event_timers(p);
     return false;
@@ -78,6 +81,7 @@ leaves(const struct process *p, bool ends)
 static void
 end_activation(const struct activation *present, bool ends)
 {
+  static const struct toarmuts_call waits = {.kind = TOARMUTS_CALL_WAIT}, exits = {.kind = TOARMUTS_CALL_EXIT};
   struct process *p = present->process;
   bool is_last = ends || present->turn.event == PROCESS_EVENT_EXIT, stays;
   if(!ends) {
@@ -86,7 +90,7 @@ end_activation(const struct activation *present, bool ends)
   }
   flush_console();
   stays = is_last && !leaves(p, ends);
-  hand_in(&(struct toarmuts_call){.kind = ends && !stays ? TOARMUTS_CALL_EXIT : TOARMUTS_CALL_WAIT});
+  hand_in(ends && !stays ? &exits : &waits);
   if(stays) {
     note_staying(p);
   } else if(is_last) {
@@ -101,8 +105,13 @@ void
 run_activation(const struct toarmuts_turn *turn)
 {
   struct process *caller = process_current;
-  struct activation present = {.process = process_of(turn->process), .turn = *turn, .line = shown_lines() + 1, .outer = activation};
+  struct activation present;
   bool ends;
+  present.process = process_of(turn->process);
+  present.turn = *turn;
+  present.line = shown_lines() + 1;
+  present.is_ending = false;
+  present.outer = activation;
   if(turn->origin == TOARMUTS_FROM_EVENT || turn->origin == TOARMUTS_FROM_CALLBACK) {
     rounds_begun++;
   }
@@ -170,10 +179,11 @@ call_and_wait(const struct toarmuts_call *call, struct toarmuts_turn *answer)
   stop("the mote rests where a reply must follow");
 }
 
-/* The process has its reply: it makes the calls that were left for it. */
+/* The process has its reply, which stays: it makes the calls that were left for it. */
 static void
-make_late_calls(const struct process *p)
+make_late_calls(const struct process *p, struct toarmuts_turn *reply)
 {
+  struct toarmuts_turn kept = *reply;
   struct toarmuts_call call;
   while(take_late_call(p, &call)) {
     struct toarmuts_turn answer;
@@ -182,21 +192,22 @@ make_late_calls(const struct process *p)
       note_settled(p, call.numbers[0], answer.number != 0);
     }
   }
+  *reply = kept;
 }
 
 const struct toarmuts_turn *
 mote_call(const struct toarmuts_call *call)
 {
   static struct toarmuts_turn answer;
-  struct toarmuts_turn reply;
   if(activation == NULL) {
     stop("a call of the mote is made outside of any process");
   }
   note_frame(__builtin_frame_address(0));
   flush_console();
-  call_and_wait(call, &reply);
-  make_late_calls(activation->process);
-  answer = reply;
+  call_and_wait(call, &answer);
+  if(late_count > 0) {
+    make_late_calls(activation->process, &answer);
+  }
   return &answer;
 }
 

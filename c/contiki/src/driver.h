@@ -135,6 +135,7 @@ void forget_receiver(const struct process *p);
 bool receive_again(void);
 void follow_receiver(void);
 bool takes_frames(void);
+void keep_receiver(const struct process *p);
 bool stays_for_frames(const struct process *p);
 void take_frame(size_t length);
 

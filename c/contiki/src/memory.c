@@ -181,6 +181,9 @@ static struct mmem *(*handles)[HANDLES];
 /* All blocks, in the order in which they were allocated. */
 static struct mmem *managed_blocks;
 
+/* Whether a struct mmem on the stack ever had a block: few programs have that. */
+static bool has_any_on_stack;
+
 /* The lowest handle of the active process that has no block. */
 unsigned
 free_handle(void)
@@ -204,7 +207,7 @@ void
 check_blocks(const struct process *p, const void *frame)
 {
   const struct mmem *const *own = (const struct mmem *const *)handles[index_of(p)];
-  for(unsigned handle = 0; handle < HANDLES; handle++) {
+  for(unsigned handle = 0; has_any_on_stack && handle < HANDLES; handle++) {
     if(own[handle] != NULL && is_lost(own[handle], frame)) {
       stop("a struct mmem on the stack has a block, which is lost at this wait: make the struct static");
     }
@@ -226,6 +229,7 @@ mmem_alloc(struct mmem *m, unsigned int size)
     return 0;
   }
   handles[index_of(activation->process)][handle] = m;
+  has_any_on_stack |= is_on_stack(m);
   m->size = size;
   m->ptr = take_bytes(size);
   m->next = NULL;

@@ -82,18 +82,27 @@ takes_frames(void)
   return had_receiver;
 }
 
-/*
- * The last process that ends stays in the mote if frames are for a callback, which needs its activations. It becomes the receiver, if
- * there is none.
- */
+/* Whether a process is the last one, and frames are for a callback, which needs activations. */
+static bool
+is_needed(const struct process *p)
+{
+  return had_receiver && frame_callback != NULL && runs_alone(p);
+}
+
+/* Before the active process ends: if frames need it, it becomes the receiver where there is none. */
+void
+keep_receiver(const struct process *p)
+{
+  if(is_needed(p)) {
+    open_packets();
+  }
+}
+
+/* Whether a process that ends stays in the mote, since it receives frames that need it. */
 bool
 stays_for_frames(const struct process *p)
 {
-  if(!had_receiver || frame_callback == NULL || !runs_alone(p)) {
-    return false;
-  }
-  open_packets();
-  return receiver == p;
+  return receiver == p && is_needed(p);
 }
 
 /* Reads the first frame; false if there is none of this length. */

@@ -11,6 +11,15 @@ enum { LINE_ROOM = 640 };
 
 static uint32_t sum = SUM_BEGIN;
 
+/* Whether a record is written or replayed: otherwise nobody reads the sum. */
+static bool is_summing;
+
+void
+begin_sum(void)
+{
+  is_summing = true;
+}
+
 static void
 sum_byte(uint32_t byte)
 {
@@ -75,6 +84,14 @@ add_hex(struct line *line, uint64_t number, unsigned digits)
   }
 }
 
+/* Only the bytes that are added are written: most runs have no record. */
+static void
+begin_line(struct line *line, const char *words)
+{
+  line->length = 0;
+  add_words(line, words);
+}
+
 static void
 put_line(struct line *line)
 {
@@ -99,8 +116,9 @@ add_fact(struct line *line, const char *name, uint32_t number)
 void
 record_head(const struct record_head *head)
 {
-  struct line line = {.length = 0};
-  add_words(&line, "# record 1 sources ");
+  struct line line;
+  begin_sum();
+  begin_line(&line, "# record 1 sources ");
   add_hex(&line, head->facts.sources, 16);
   add_fact(&line, " second ", head->facts.ticks_a_second);
   add_fact(&line, " mmem ", head->sizes.mmem);
@@ -124,11 +142,11 @@ record_line(const char *text, size_t length)
 void
 record_input(uint32_t kind, uint32_t ticks, const uint8_t *bytes, size_t length)
 {
-  struct line line = {.length = 0};
+  struct line line;
   if(!is_recording()) {
     return;
   }
-  add_words(&line, kind == TOARMUTS_TICK ? "tick " : kind == TOARMUTS_SERIAL ? "serial " : "frame ");
+  begin_line(&line, kind == TOARMUTS_TICK ? "tick " : kind == TOARMUTS_SERIAL ? "serial " : "frame ");
   if(kind == TOARMUTS_TICK) {
     add_decimal(&line, ticks);
   }
@@ -142,9 +160,9 @@ record_input(uint32_t kind, uint32_t ticks, const uint8_t *bytes, size_t length)
 void
 record_note(const char *before, uint64_t number, const char *after)
 {
-  struct line line = {.length = 0};
+  struct line line;
   if(is_recording()) {
-    add_words(&line, "# ");
+    begin_line(&line, "# ");
     add_words(&line, before);
     add_decimal(&line, number);
     add_words(&line, after);
@@ -155,9 +173,9 @@ record_note(const char *before, uint64_t number, const char *after)
 void
 record_check(void)
 {
-  struct line line = {.length = 0};
+  struct line line;
   if(is_recording()) {
-    add_words(&line, "# check ");
+    begin_line(&line, "# check ");
     add_decimal(&line, shown_lines());
     add_byte(&line, ' ');
     add_hex(&line, sum, 8);
@@ -169,6 +187,9 @@ record_check(void)
 void
 sum_call(const struct toarmuts_call *call)
 {
+  if(!is_summing) {
+    return;
+  }
   sum_byte(call->kind);
   for(unsigned i = 0; i < sizeof call->numbers / sizeof call->numbers[0]; i++) {
     sum_number(call->numbers[i]);

@@ -32,7 +32,8 @@ void record_note(const char *before, uint64_t number, const char *after);
 /* At rest: how many lines the transcript has, and the sum. */
 void record_check(void);
 
-/* The sum of all inputs, as lines, of all calls and of all values so far. */
+/* The sum of all inputs, as lines, of all calls and of all values so far. It begins with a record's first line, written or replayed. */
+void begin_sum(void);
 void sum_line(const char *line, size_t length);
 uint32_t sum_so_far(void);
 

@@ -22,7 +22,7 @@ void renew_console(void);
 /* script.c */
 enum { LINE_LIMIT = 1024 };
 enum reading { READ_LINE, READ_END, READ_TOO_MUCH };
-enum reading read_line(int script, char *line, size_t *length);
+enum reading read_line(int script, const char **line, size_t *length);
 bool is_whole_line(void);
 void read_without_limit(void);
 CC_NORETURN void end_at_bad_line(uint64_t number, const char *line, size_t length, const char *inputs);
@@ -37,6 +37,7 @@ CC_NORETURN void run_replay(void);
 void begin_transcript(bool is_quiet, bool is_text);
 void show_only(unsigned mote);
 void speak_for(unsigned mote);
+bool show_entry_of(unsigned mote);
 void show_network_line(void);
 void show_text(const char *text);
 void show_halt(void);

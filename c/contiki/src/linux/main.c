@@ -183,12 +183,12 @@ note_rest(const char *line, size_t length)
 static void
 run_script(int script)
 {
-  char line[LINE_LIMIT + 1];
+  const char *line;
   size_t length;
   enum reading reading;
   run_to_rest();
   record_check();
-  for(uint64_t number = 1; (reading = read_line(script, line, &length)) == READ_LINE; number++) {
+  for(uint64_t number = 1; (reading = read_line(script, &line, &length)) == READ_LINE; number++) {
     note_line(line, length);
     switch(feed_line(line, length)) {
     case 0:

@@ -27,11 +27,12 @@ begins(const char *line, const char *words, const char **rest)
 static bool
 next_line(char *line)
 {
-  const char *anew = line;
+  const char *text, *anew = line;
   size_t length;
-  if(read_line(record, line, &length) != READ_LINE || !is_whole_line()) {
+  if(read_line(record, &text, &length) != READ_LINE || !is_whole_line()) {
     return false;
   }
+  memcpy(line, text, length);
   line[length] = '\0';
   line_number++;
   if(strlen(line) < length) {
@@ -72,6 +73,7 @@ open_replay(int file)
 {
   char line[LINE_LIMIT + 2];
   record = file;
+  begin_sum();
   read_without_limit();
   if(!next_line(line) || !read_head(line)) {
     give_up(STATUS_BAD_LINE, "this is no record: it doesn't begin with `# record 1 sources ..`");

@@ -9,14 +9,14 @@ enum { SCRIPT_LIMIT = 16777216, PART = 65536 };
 static char part[PART];
 static size_t at, end;
 
-/* How many bytes may be read. */
-static uint64_t limit = SCRIPT_LIMIT;
+/* How many bytes may be taken yet. */
+static uint64_t allowance = SCRIPT_LIMIT;
 
 /* For a record, which may be that of days. */
 void
 read_without_limit(void)
 {
-  limit = UINT64_MAX;
+  allowance = UINT64_MAX;
 }
 
 /* Whether the last line had its end. */
@@ -28,51 +28,50 @@ is_whole_line(void)
   return had_end;
 }
 
-/* Whether a byte of the script is left. The transcript so far is written before it waits for more of the script. */
+/* Reads more of the script, behind what is left of it; false at its end. The transcript so far is written before it waits for that. */
 static bool
-has_more(int script)
+read_more(int script)
 {
   static bool has_ended;
-  if(at == end && !has_ended) {
-    ssize_t count;
-    flush_transcript();
-    while((count = __read(script, part, sizeof part)) < 0 && errno == EINTR) {
-    }
-    if(count < 0) {
-      give_up(STATUS_READ_FAILED, "read failed");
-    }
-    at = 0;
-    end = (size_t)count;
-    has_ended = count == 0;
+  ssize_t count = 0;
+  memmove(part, part + at, end - at);
+  end -= at;
+  at = 0;
+  if(has_ended) {
+    return false;
   }
-  return at < end;
+  flush_transcript();
+  while((count = __read(script, part + end, sizeof part - end)) < 0 && errno == EINTR) {
+  }
+  if(count < 0) {
+    give_up(STATUS_READ_FAILED, "read failed");
+  }
+  end += (size_t)count;
+  has_ended = count == 0;
+  return !has_ended;
 }
 
-/* Reads the next line, without its end. Of a line that is too long it reads one byte too many, so that the mote refuses it. */
+/* Reads the next line, without its end, which is in place until the next one is read. Of a line that is too long it reads one byte too
+ * many, so that the mote refuses it. */
 enum reading
-read_line(int script, char *line, size_t *length)
+read_line(int script, const char **line, size_t *length)
 {
-  static uint64_t taken;
-  *length = 0;
-  while(has_more(script)) {
-    size_t room = LINE_LIMIT + 1 - *length;
-    size_t most = end - at < room ? end - at : room;
-    const char *line_end = memchr(part + at, '\n', most);
-    size_t count = line_end == NULL ? most : (size_t)(line_end - part) - at;
-    size_t used = line_end == NULL ? count : count + 1;
-    had_end = line_end != NULL;
-    if(used > limit - taken) {
-      return READ_TOO_MUCH;
-    }
-    memcpy(line + *length, part + at, count);
-    *length += count;
-    at += used;
-    taken += used;
-    if(line_end != NULL || *length > LINE_LIMIT) {
-      return READ_LINE;
-    }
+  const char *line_end;
+  size_t used;
+  do {
+    used = MIN(end - at, LINE_LIMIT + 1);
+    line_end = memchr(part + at, '\n', used);
+  } while(line_end == NULL && used <= LINE_LIMIT && used <= allowance && read_more(script));
+  *line = part + at;
+  *length = line_end == NULL ? used : (size_t)(line_end - *line);
+  had_end = line_end != NULL;
+  used = *length + had_end;
+  if(used > allowance) {
+    return READ_TOO_MUCH;
   }
-  return *length > 0 ? READ_LINE : READ_END;
+  at += used;
+  allowance -= used;
+  return used > 0 ? READ_LINE : READ_END;
 }
 
 /* The run ends at a malformed line. */

@@ -4,6 +4,7 @@
 #include <errno.h>
 #include <poll.h>
 #include <signal.h>
+#include <stdatomic.h>
 #include <unistd.h>
 
 enum { ROOM = 1 << 16, LINE_ROOM = 680, SPEAKER_ROOM = 12, PIECE = 4096, PATIENCE = 1000 };
@@ -15,13 +16,12 @@ static bool shows_prints_alone; /* the turns that print or send, and what was se
 static bool shows_text;         /* only what was printed */
 static unsigned only_mote;      /* the only mote of a network whose lines are shown, or 0 */
 
-/* In a network: the mote whose lines follow, the prefix of each line, and whether they are left out. */
+/* In a network: the mote whose lines follow, and whether they are left out. */
 static unsigned speaker;
-static char speaker_text[SPEAKER_ROOM];
-static size_t speaker_length;
 static bool is_left_out;
 
-static char room[ROOM];
+/* What isn't written yet, and behind it room for a line. */
+static char room[ROOM + LINE_ROOM];
 static size_t used;
 
 /* Whether the buffer is being changed or written, and the signal that arrived meanwhile and must end the run, or 0. */
@@ -48,11 +48,8 @@ show_only(unsigned mote)
 void
 speak_for(unsigned mote)
 {
-  if(mote != speaker) {
-    speaker = mote;
-    is_left_out = only_mote != 0 && mote != only_mote;
-    speaker_length = only_mote != 0 ? 0 : (size_t)snprintf(speaker_text, sizeof speaker_text, "%u ", mote);
-  }
+  speaker = mote;
+  is_left_out = only_mote != 0 && mote != only_mote;
 }
 
 uint64_t
@@ -126,7 +123,7 @@ static void
 put_bytes(const void *bytes, size_t length)
 {
   is_busy = 1;
-  if(length > ROOM - used) {
+  if(used + length > ROOM) {
     write_room();
   }
   memcpy(room + used, bytes, length);
@@ -134,42 +131,95 @@ put_bytes(const void *bytes, size_t length)
   end_busy();
 }
 
-/* The line of the last entry, with a prefix of n bytes, the number of its mote. */
-static void
-put_line(size_t front)
+/* Has the library write the line of the last entry behind the transcript so far. It is no part of that until it is kept. Returns its length
+ * with its end. */
+static size_t
+take_line(void)
 {
-  uint8_t line[LINE_ROOM + SPEAKER_ROOM];
   size_t length;
-  uint32_t status = last_line(line + front, LINE_ROOM - 1, &length);
+  uint32_t status = last_line((uint8_t *)room + used, LINE_ROOM - 1, &length);
   if(status != 0) {
     stop("the mote returns no line: status %u", status);
   }
-  memcpy(line, speaker_text, front);
-  line[front + length] = '\n';
-  put_bytes(line, front + length + 1);
+  room[used + length] = '\n';
+  return length + 1;
 }
 
-/* What a mote prints. In a network each line begins with its number, and an unfinished line ends when another mote prints. */
+/* The bytes of the mote's number in front of that line. */
+static size_t
+number_length(void)
+{
+  return speaker == 0 ? 0 : (size_t)(strchr(room + used, ' ') + 1 - (room + used));
+}
+
+/* Adds that line where it can't stay in its place: without the number, if the transcript is that of one mote of a network. */
 static void
+move_line(size_t length)
+{
+  size_t front = only_mote == 0 ? 0 : number_length();
+  const char *line = room + used + front;
+  length -= front;
+  is_busy = 1;
+  if(used + length > ROOM) {
+    write_room();
+  }
+  memmove(room + used, line, length);
+  used += length;
+  end_busy();
+}
+
+/* Adds that line to the transcript. A handler of signals finds it there whole, or not at all. */
+static void
+keep_line(size_t length)
+{
+  if(only_mote != 0 || used + length > ROOM) {
+    move_line(length);
+  } else {
+    atomic_signal_fence(memory_order_release);
+    used += length;
+  }
+}
+
+/* The number of the mote that prints, with a space. */
+static void
+put_speaker(void)
+{
+  static unsigned named;
+  static char text[SPEAKER_ROOM];
+  static size_t length;
+  if(named != speaker) {
+    named = speaker;
+    length = (size_t)snprintf(text, sizeof text, "%u ", speaker);
+  }
+  put_bytes(text, length);
+}
+
+/* What a mote prints. In a network each line begins with its number, and an unfinished line ends when another mote prints. It isn't inlined:
+ * otherwise each turn of a whole transcript would save the registers that this needs. */
+static __attribute__((noinline)) void
 put_text(const uint8_t *bytes, size_t length)
 {
   static unsigned owner;
   static bool is_begun;
+  if(speaker == 0 || only_mote != 0) {
+    put_bytes(bytes, length);
+    return;
+  }
   if(is_begun && owner != speaker) {
     put_bytes("\n", 1);
     is_begun = false;
   }
-  if(speaker_length == 0) {
-    put_bytes(bytes, length);
-    return;
-  }
   owner = speaker;
-  for(size_t i = 0; i < length; i++) {
+  while(length > 0) {
+    const uint8_t *line_end = memchr(bytes, '\n', length);
+    size_t part = line_end == NULL ? length : (size_t)(line_end - bytes) + 1;
     if(!is_begun) {
-      put_bytes(speaker_text, speaker_length);
+      put_speaker();
     }
-    put_bytes(bytes + i, 1);
-    is_begun = bytes[i] != '\n';
+    put_bytes(bytes, part);
+    is_begun = line_end == NULL;
+    bytes += part;
+    length -= part;
   }
 }
 
@@ -187,18 +237,23 @@ show_turn(const struct toarmuts_call *call)
       put_text(call->bytes, call->length);
     }
   } else if(!shows_prints_alone || prints || call->kind == TOARMUTS_CALL_PACKET_SEND) {
-    put_line(speaker_length);
+    keep_line(take_line());
   }
 }
 
-/* Whether an entry that is no turn is in a quiet transcript. */
+/* Whether the line that was taken, of no turn, is the halt: those of inputs and notes end with a digit. */
 static bool
-is_kept(void)
+is_halt(size_t length)
 {
-  char line[LINE_ROOM];
-  size_t length;
-  return last_line((uint8_t *)line, sizeof line, &length) == 0 &&
-         ((length >= 10 && memcmp(line, "note sent ", 10) == 0) || (length == 4 && memcmp(line, "halt", 4) == 0));
+  return room[used + length - 2] == 't';
+}
+
+/* Whether that line is in a quiet transcript. */
+static bool
+is_in_quiet(size_t length)
+{
+  static const char sent[] = "note sent ";
+  return is_halt(length) || strncmp(room + used + number_length(), sent, sizeof sent - 1) == 0;
 }
 
 /* An input, a note or the halt. */
@@ -206,9 +261,26 @@ void
 show_entry(void)
 {
   line_count++;
-  if(!is_left_out && !shows_text && (!shows_prints_alone || is_kept())) {
-    put_line(speaker_length);
+  if(!shows_text) {
+    size_t length = take_line();
+    if(!shows_prints_alone || is_in_quiet(length)) {
+      keep_line(length);
+    }
   }
+}
+
+/* The same of a mote of a network. Returns whether it is the mote's halt: the library tells that by the line alone. */
+bool
+show_entry_of(unsigned mote)
+{
+  size_t length = take_line();
+  bool halts = is_halt(length);
+  speak_for(mote);
+  line_count++;
+  if(!is_left_out && !shows_text && (!shows_prints_alone || is_in_quiet(length))) {
+    keep_line(length);
+  }
+  return halts;
 }
 
 /* A line that is no mote's. */
@@ -217,7 +289,7 @@ show_network_line(void)
 {
   line_count++;
   if(!shows_text && !shows_prints_alone && only_mote == 0) {
-    put_line(0);
+    keep_line(take_line());
   }
 }
 

@@ -220,14 +220,15 @@ take_input(char *line, size_t motes)
 static void
 run_script(int script, size_t motes)
 {
-  char line[LINE_LIMIT + 2], copy[LINE_LIMIT + 2];
+  const char *line;
+  char copy[LINE_LIMIT + 2];
   size_t length;
   enum reading reading;
   run_network();
-  for(uint64_t number = 1; (reading = read_line(script, line, &length)) == READ_LINE; number++) {
-    line[length] = '\0';
-    memcpy(copy, line, length + 1);
-    if(length > LINE_LIMIT || (strlen(line) != length && *line != '#') || !take_input(copy, motes)) {
+  for(uint64_t number = 1; (reading = read_line(script, &line, &length)) == READ_LINE; number++) {
+    memcpy(copy, line, length);
+    copy[length] = '\0';
+    if(length > LINE_LIMIT || (strlen(copy) != length && *copy != '#') || !take_input(copy, motes)) {
       end_at_bad_line(number, line, length, "tick N, N serial HEX and N frame HEX, where N is a mote");
     }
     run_network();

@@ -11,8 +11,6 @@
 #include <signal.h>
 #include <stdlib.h>
 
-enum { LINE_ROOM = 680 };
-
 /* A program, by the names of its sources. */
 struct program {
   const char *sources, *file;
@@ -42,11 +40,6 @@ static struct mote *present;
 static unsigned present_number;
 
 const struct process *last_process;
-
-/* The line of the last entry, if it was fetched, and where it begins. */
-static uint8_t line_text[LINE_ROOM];
-static size_t line_length, line_begin;
-static bool has_line;
 
 /* Whether a call of the library runs, or its result is being shown. */
 static volatile sig_atomic_t is_at_work;
@@ -210,35 +203,13 @@ clock_now(void)
   return happening.clock;
 }
 
-/* Fetches the line of the last entry. The number before a mote's line is removed, since the transcript writes it. */
-static uint32_t
-fetch_line(void)
-{
-  bool is_of_mote = happening.step == TOARMUTS_NETWORK_TURN || happening.step == TOARMUTS_NETWORK_ENTRY;
-  const uint8_t *space;
-  uint32_t status = toarmuts_network_line(&network, line_text, sizeof line_text, &line_length);
-  if(status != 0) {
-    return status;
-  }
-  has_line = true;
-  space = is_of_mote ? memchr(line_text, ' ', line_length) : NULL;
-  line_begin = space == NULL ? 0 : (size_t)(space + 1 - line_text);
-  return 0;
-}
-
 uint32_t
 last_line(uint8_t *line, size_t room, size_t *length)
 {
-  uint32_t status = has_line ? 0 : fetch_line();
-  if(status != 0) {
-    return status;
-  }
-  *length = line_length - line_begin;
-  if(*length > room) {
-    return TOARMUTS_NO_ROOM;
-  }
-  memcpy(line, line_text + line_begin, *length);
-  return 0;
+  uint64_t line_length = 0;
+  uint32_t status = toarmuts_network_line(&network, line, room, &line_length);
+  *length = (size_t)line_length;
+  return status;
 }
 
 uint32_t
@@ -246,7 +217,6 @@ answer_turn(const struct toarmuts_call *call)
 {
   uint32_t status;
   is_at_work = 1;
-  has_line = false;
   status = toarmuts_network_submit(&network, call);
   if(status == 0) {
     last_process = present_activation()->process;
@@ -264,22 +234,11 @@ make_last_call(const struct toarmuts_call *call)
   }
 }
 
-/* Whether the entry that was made last says that the mote is halted. */
-static bool
-is_halt(void)
-{
-  uint8_t line[8];
-  size_t length;
-  return last_line(line, sizeof line, &length) == 0 && length == 4 && memcmp(line, "halt", 4) == 0;
-}
-
 /* An entry that is no turn. A mote that halts is reported, and its activation, if it is in one, is left. */
 static void
 take_entry(void)
 {
-  speak_for(happening.mote);
-  show_entry();
-  if(is_halt()) {
+  if(show_entry_of(happening.mote)) {
     switch_to(happening.mote);
     flush_transcript();
     tell_halt();
@@ -308,7 +267,6 @@ next_happening(struct toarmuts_turn *turn)
   for(;;) {
     uint32_t status;
     is_at_work = 1;
-    has_line = false;
     status = toarmuts_network_next(&network, &happening, turn);
     is_at_work = 0;
     if(status != 0) {
