@@ -42,6 +42,74 @@ check_words(void)
   }
 }
 
+static uint8_t
+digit_of(char letter)
+{
+  return (uint8_t)(letter <= '9' ? letter - '0' : letter - 'a' + 10);
+}
+
+/* Whether toarmuts_sent has the bytes that the line of the last entry says, where that is a frame that was sent; and whether it leaves the
+ * buffer as it is beyond them. */
+static bool
+has_sent(struct toarmuts_mote *mote, uint64_t room)
+{
+  static const char sent[] = "note sent ";
+  enum { FRONT = sizeof sent - 1 };
+  char line[641] = "";
+  uint64_t length = 0, count = 9999, wanted = 0;
+  uint8_t *bytes = malloc(room + 1);
+  uint32_t of_line = toarmuts_line(mote, (uint8_t *)line, 640, &length), status;
+  bool is_frame = of_line == TOARMUTS_DONE && strncmp(line, sent, FRONT) == 0, holds;
+  memset(bytes, 0xaa, room + 1);
+  status = toarmuts_sent(mote, bytes, room, &count);
+  if(is_frame) {
+    wanted = (length - FRONT) / 2;
+    holds = count == wanted && status == (wanted <= room ? TOARMUTS_DONE : TOARMUTS_NO_ROOM);
+  } else {
+    holds = count == 9999 && status == (of_line == TOARMUTS_CLOSED ? TOARMUTS_CLOSED : TOARMUTS_NO_FRAME);
+  }
+  for(uint64_t i = 0; holds && i <= room; i++) {
+    const char *digits = line + FRONT + 2 * i;
+    bool is_written = status == TOARMUTS_DONE && i < wanted;
+    holds = bytes[i] == (is_written ? digit_of(digits[0]) << 4 | digit_of(digits[1]) : 0xaa);
+  }
+  free(bytes);
+  return holds;
+}
+
+/* A frame that is sent, with each room for it. */
+static void
+check_sent(void)
+{
+  static const struct toarmuts_call calls[] = {{TOARMUTS_CALL_MMEM_ALLOC, {0, 3}, 0, 0, 0, {0}},
+                                               {TOARMUTS_CALL_MMEM_WRITE, {0, 0}, 0, 0, 3, {0x0a, 0xff, 0x90}},
+                                               {TOARMUTS_CALL_PACKET_SEND, {0}, 0, 0, 0, {0}}};
+  struct toarmuts_mote mote = closed_mote;
+  struct toarmuts_turn turn;
+  uint8_t bytes[4] = {1, 1, 1, 1};
+  uint32_t step;
+  uint64_t length = 9;
+  check("closed, no frame", toarmuts_sent(&mote, bytes, 4, &length) == TOARMUTS_CLOSED && length == 9);
+  toarmuts_open(&defaults, 1, &mote);
+  check("no entry, no frame", toarmuts_sent(&mote, bytes, 4, &length) == TOARMUTS_NO_FRAME && length == 9);
+  for(unsigned i = 0; i < 3; i++) {
+    toarmuts_next(&mote, &step, &turn);
+    toarmuts_submit(&mote, &calls[i]);
+    check("a turn is no frame", toarmuts_sent(&mote, bytes, 4, &length) == TOARMUTS_NO_FRAME && length == 9);
+  }
+  check("the note", toarmuts_next(&mote, &step, &turn) == TOARMUTS_DONE && step == TOARMUTS_ENTRY && line_is(&mote, "note sent 0aff90"));
+  for(uint64_t room = 0; room < 3; room++) {
+    length = 9;
+    check("too short a room", toarmuts_sent(&mote, bytes, room, &length) == TOARMUTS_NO_ROOM && length == 3 && bytes[0] == 1);
+  }
+  length = 9;
+  check("the bytes", toarmuts_sent(&mote, bytes, 4, &length) == TOARMUTS_DONE && length == 3 && bytes[0] == 0x0a && bytes[1] == 0xff &&
+                       bytes[2] == 0x90 && bytes[3] == 1);
+  toarmuts_next(&mote, &step, &turn);
+  check("the next turn is no frame", toarmuts_sent(&mote, bytes, 4, &length) == TOARMUTS_NO_FRAME);
+  toarmuts_close(&mote);
+}
+
 /* Each wrong order, and what is told at each place. */
 static void
 check_order(void)
@@ -365,7 +433,7 @@ tells(struct known *known)
     holds = line[i] == 0xaa;
   }
   free(line);
-  return holds;
+  return holds && has_sent(&known->mote, random_below(130));
 }
 
 static bool
@@ -508,7 +576,7 @@ put_entries(char *text, struct toarmuts_mote *mote, const struct scenario *scena
     if(step == TOARMUTS_TURN) {
       *holds = *holds && make_turn(mote, scenario, progress, turn.process - 4) == TOARMUTS_DONE;
     }
-    *holds = *holds && toarmuts_line(mote, (uint8_t *)text, 640, &length) == TOARMUTS_DONE;
+    *holds = *holds && toarmuts_line(mote, (uint8_t *)text, 640, &length) == TOARMUTS_DONE && has_sent(mote, 127);
     text += length;
     *text++ = '\n';
   }
@@ -612,6 +680,7 @@ main(int count, char **words)
   }
   check_words();
   check_order();
+  check_sent();
   check_halt();
   check_turns();
   check_bundled();

@@ -118,7 +118,7 @@ static bool
 note(unsigned call, uint32_t status)
 {
   WANT(status == TOARMUTS_DONE || status == TOARMUTS_BAD_LINE || status == TOARMUTS_HALTED || status == TOARMUTS_TOO_LONG ||
-       (status >= TOARMUTS_NOT_TEXT && status <= TOARMUTS_IS_STARTED));
+       (status >= TOARMUTS_NOT_TEXT && status <= TOARMUTS_NO_FRAME));
   see(call * 64 + status);
   return status == TOARMUTS_DONE;
 }

@@ -139,6 +139,14 @@ last_line(uint8_t *line, size_t room, size_t *length)
   return status;
 }
 
+/* For a board: the bytes of the frame, where the last entry is one that was sent. Returns their number, or 0. */
+size_t
+last_sent(uint8_t *bytes, size_t room)
+{
+  uint64_t length;
+  return toarmuts_sent(&mote, bytes, room, &length) == 0 ? (size_t)length : 0;
+}
+
 unsigned
 present_mote(void)
 {

@@ -1,5 +1,6 @@
 -- What the calls say of which a mote is asked step by step. A mote in hand is closed, or has a session.
 use Rattle.std.specs.Prelude.{◌≡◌, ◌+◌, ℕ, true, List, [], ◌∷◌, ◌++◌, length, Option, Some, None, is_some, is_none, IsSomeAnd, if◌then◌else◌, nat_lt}
+use Rattle.arrayvec.specs.ArrayVec.{ArrayVec}
 use Rattle.mote_types.specs.declared.call.Call.{Call}
 use Rattle.mote_types.specs.declared.entry.Entry.{Entry}
 use Rattle.mote_types.specs.declared.entry.Input.{Input}
@@ -11,6 +12,7 @@ use Rattle.kernel_core.specs.Machine.{booted, is_bootable}
 use Rattle.mote_run.specs.Code.Runs.{config_of}
 use Rattle.mote_session.specs.History.{History, at_boot, with_call, with_input, with_said}
 use Rattle.mote_session.specs.Refusals.{input_refusal, line_refusal}
+use Rattle.mote_session.specs.Sent.{sent_in}
 use Rattle.mote_session.specs.SessionRuns.{IsHistoryOf, SessionPromise}
 use Rattle.mote_session.specs.SessionView.{AwaitedCall, SessionView}
 use Rattle.mote_session.specs.Steps.{Advances, HasSameInputs, IsSubmitted, IsFed, TakesLine, with_made}
@@ -78,6 +80,14 @@ line_status_of room (Some entry) = if nat_lt (room + 1) (length (entry_line entr
 abbrev pub line_status : ℕ → Held → ℕ
 line_status room held = status_in held (λ session. line_status_of room session.last)
 
+-- 35 where the last entry reports no frame as sent, 20 where it has more bytes than the room
+abbrev pub sent_status_of : ℕ → Option (ArrayVec ℕ) → ℕ
+sent_status_of room None = 35
+sent_status_of room (Some frame) = if nat_lt room (length frame.items) then 20 else 0
+
+abbrev pub sent_status : ℕ → Held → ℕ
+sent_status room held = status_in held (λ session. sent_status_of room (sent_in session.last))
+
 -- 33 where no timer is set
 abbrev pub due_status_of : Option ℕ → ℕ
 due_status_of None = 33
@@ -143,6 +153,10 @@ pub record TakesScriptLine (line : List ℕ) (old new : SessionView) : Type 0 wh
 pub record TakesInput (input : Input) (old new : SessionView) : Type 0 where
   pub fed : IsFed input old new
   pub history : (history : History) → IsHistoryOf history old → IsHistoryOf (with_input input history) new
+
+-- these bytes are the frame that the last entry reports as sent
+abbrev pub HasSent : List ℕ → SessionView → Type 0
+HasSent bytes session = IsSomeAnd (sent_in session.last) (λ frame. frame.items ≡ bytes)
 
 -- these bytes and a line end are the line of the last entry
 abbrev pub IsLastLine : List ℕ → SessionView → Type 0

@@ -2,13 +2,14 @@
 
 ghost use Rattle.std.specs.Prelude.{◌≡◌, ◌≢◌, ◌≤◌, ◌<◌, ◌+◌, length as size_of, take, drop, nat_lt, if◌then◌else◌, IfSome, IsSomeAnd};
 ghost use Rattle.mote_session.specs.Refusals.{input_refusal, line_refusal};
+ghost use Rattle.mote_session.specs.Sent.{sent_in};
 ghost use Rattle.mote_text.specs.EntryText.{entry_line};
 ghost use Rattle.mote_text.specs.Script.{read_line};
-ghost use Rattle.library_core.specs.Steps.{GoesNext, IsLastLine, TakesCall, TakesInput, TakesScriptLine, TellsTurn, due_status_of, submit_status_of, line_status_of, next_status_of, status_if, step_number};
+ghost use Rattle.library_core.specs.Steps.{GoesNext, HasSent, IsLastLine, TakesCall, TakesInput, TakesScriptLine, TellsTurn, due_status_of, submit_status_of, line_status_of, next_status_of, sent_status_of, status_if, step_number};
 
 use crate::call::PlainCall;
 use crate::open_mote::OpenMote;
-use crate::status::{DONE, NO_CALL, NO_ROOM, NO_TIMER, NO_TURN, refusal_status};
+use crate::status::{DONE, NO_CALL, NO_FRAME, NO_ROOM, NO_TIMER, NO_TURN, refusal_status};
 use crate::turn::PlainTurn;
 use mote_session::session::{Next, Session};
 use mote_types::entry::Input;
@@ -123,6 +124,28 @@ pub fn put_line(text: &[u8], line: &mut [u8], length: &mut usize) -> u32
         return NO_ROOM;
     }
     line[..size].copy_from_slice(&text[..size]);
+    DONE
+}
+
+/// Puts the bytes of the frame that the last entry reports as sent to the front of the buffer, and reports their number.
+pub fn put_sent(session: &Session, bytes: &mut [u8], length: &mut usize) -> u32
+    ensures status { result ≡ sent_status_of (size_of bytes.old) (sent_in session.now.last) }
+    ensures frame { result ≡ 0 → HasSent (take length.new bytes.new) session.now }
+    ensures fits { result ≡ 0 → length.new ≤ size_of bytes.new }
+    ensures behind { result ≡ 0 → drop length.new bytes.new ≡ drop length.new bytes.old }
+    ensures length { result ≡ 20 → IsSomeAnd (sent_in session.now.last) (λ frame. length.new ≡ size_of frame.items) }
+    ensures no_bytes { result ≢ 0 → bytes.new ≡ bytes.old }
+    ensures no_length { result ≢ 0 → result ≢ 20 → length.new ≡ length.old }
+{
+    let Some(frame) = session.sent() else {
+        return NO_FRAME;
+    };
+    let size = frame.len();
+    *length = size;
+    if size > bytes.len() {
+        return NO_ROOM;
+    }
+    bytes[..size].copy_from_slice(frame.as_slice());
     DONE
 }
 

@@ -40,6 +40,9 @@ pub const NO_LINE: u32 = 30;
 /// No timer is set.
 pub const NO_TIMER: u32 = 33;
 
+/// The last entry reports no frame as sent.
+pub const NO_FRAME: u32 = 35;
+
 /// The status of a refusal.
 pub fn refusal_status(refusal: SessionRefusal) -> u32
     ensures status { result ≡ refusal_status refusal }

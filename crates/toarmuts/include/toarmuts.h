@@ -40,7 +40,8 @@ enum toarmuts_status {
   TOARMUTS_BAD_LINK = 31,              /* network_link: no such motes, no delay, no such loss, or its number out of range */
   TOARMUTS_NO_MOTE = 32,               /* network_feed, network_due: no mote has this number */
   TOARMUTS_NO_TIMER = 33,              /* due: no timer is set */
-  TOARMUTS_IS_STARTED = 34             /* network_link: the motes were started */
+  TOARMUTS_IS_STARTED = 34,            /* network_link: the motes were started */
+  TOARMUTS_NO_FRAME = 35               /* sent: the last entry is no frame that was sent */
 };
 
 /* The sizes of a mote, in bytes. Any numbers are safe. */
@@ -322,6 +323,9 @@ uint32_t toarmuts_submit_bundled(struct toarmuts_mote *mote, struct toarmuts_app
 /* Writes the transcript's line of the last entry to the front of the buffer, without its line end. A turn is an entry once its call was
  * submitted. 639 bytes are always enough. */
 uint32_t toarmuts_line(struct toarmuts_mote *mote, uint8_t *line, uint64_t room, uint64_t *length);
+
+/* Where the last entry is a frame that was sent: writes its bytes to the front of the buffer. 127 bytes are always enough. */
+uint32_t toarmuts_sent(struct toarmuts_mote *mote, uint8_t *bytes, uint64_t room, uint64_t *length);
 
 /* The ticks since boot. */
 uint32_t toarmuts_clock(struct toarmuts_mote *mote, uint64_t *clock);

@@ -7,16 +7,17 @@ ghost use Rattle.std.specs.Prelude.{◌≡◌, ◌≢◌, ◌≤◌, ◌+◌, �
 ghost use Rattle.kernel_core.specs.Machine.{is_bootable};
 ghost use Rattle.timer_core.specs.Deadlines.{next_deadline};
 ghost use Rattle.library_core.specs.Sessions.{session_in};
+ghost use Rattle.mote_session.specs.Sent.{sent_in};
 ghost use Rattle.mote_text.specs.EntryText.{entry_line};
 ghost use Rattle.library_core.specs.BundledTurns.{TakesTurn, bundled_status};
 ghost use Rattle.library_core.specs.Inputs.{input_said};
-ghost use Rattle.library_core.specs.Steps.{Goes, GoesNext, IsLastLine, IsOpened, TakesCall, TakesInput, TakesScriptLine, submit_status, config_in, due_status, feed_status, input_status, line_status, next_status, open_status};
+ghost use Rattle.library_core.specs.Steps.{Goes, GoesNext, HasSent, IsLastLine, IsOpened, TakesCall, TakesInput, TakesScriptLine, submit_status, config_in, due_status, feed_status, input_status, line_status, next_status, open_status, sent_status};
 
 use library_core::application::PlainApplication;
 use library_core::bundled_turn::take_turn;
 use library_core::call::PlainCall;
 use library_core::configuration::Configuration;
-use library_core::in_session::{feed_input, feed_line, go_on, put_due, put_last_line, take_call};
+use library_core::in_session::{feed_input, feed_line, go_on, put_due, put_last_line, put_sent, take_call};
 use library_core::input::input_of;
 use library_core::mote::Mote;
 use library_core::open_mote::boot;
@@ -178,6 +179,33 @@ pub extern "C" fn toarmuts_line(
         return CLOSED;
     };
     let status = put_last_line(&mut open_mote, line, length);
+    mote.put(alloc, open_mote);
+    status
+}
+
+/// Puts the bytes of the frame that the last entry reports as sent to the front of the buffer, and reports their number, also where
+/// they are more than the buffer has.
+#[unsafe(no_mangle)]
+pub extern "C" fn toarmuts_sent(
+    alloc: Global,
+    mote: &mut Mote,
+    bytes: &mut [u8],
+    length: &mut usize,
+) -> u32
+    ensures status { result ≡ sent_status (size_of bytes.old) (session_in mote.old) }
+    ensures frame { result ≡ 0 → IsSomeAnd (session_in mote.old) (HasSent (take length.new bytes.new)) }
+    ensures fits { result ≡ 0 → length.new ≤ size_of bytes.new }
+    ensures behind { result ≡ 0 → drop length.new bytes.new ≡ drop length.new bytes.old }
+    ensures length { result ≡ 20
+        → IsSomeAnd (session_in mote.old) (λ session. IsSomeAnd (sent_in session.last) (λ frame. length.new ≡ size_of frame.items)) }
+    ensures no_bytes { result ≢ 0 → bytes.new ≡ bytes.old }
+    ensures no_length { result ≢ 0 → result ≢ 20 → length.new ≡ length.old }
+    ensures unchanged { (session_in mote.new) ≡ (session_in mote.old) }
+{
+    let Some(open_mote) = mote.take(alloc) else {
+        return CLOSED;
+    };
+    let status = put_sent(&open_mote.session, bytes, length);
     mote.put(alloc, open_mote);
     status
 }

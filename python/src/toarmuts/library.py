@@ -19,7 +19,7 @@ MAKE = "`./prove toarmuts` in the repository, and then `pip install ./python`, m
 # Statuses of toarmuts.h beside those of a run's end.
 NOT_TEXT, NO_APPLICATION, TOO_MANY_APPLICATIONS, BAD_SIZES, NO_ROOM, OUT_OF_MEMORY = range(16, 22)
 CLOSED, IS_OPEN, AWAITS_CALL, NO_TURN, NOT_AT_REST, NO_CALL, NO_INPUT, TOO_MANY_INPUTS, NO_LINE = range(22, 31)
-BAD_LINK, NO_MOTE, NO_TIMER, IS_STARTED = range(31, 35)
+BAD_LINK, NO_MOTE, NO_TIMER, IS_STARTED, NO_FRAME = range(31, 36)
 
 # Of native/stack.h: nothing was done, since the thread's stack has fewer KiB left than this.
 STACK_TOO_SMALL = 64

@@ -36,7 +36,7 @@ uint32_t output_lost(enum port port);
 /* slip.c */
 size_t take_frame_bytes(uint8_t *bytes);
 uint32_t bad_frames(void);
-void send_frame(const uint8_t *hex, size_t length);
+void send_frame(const uint8_t *bytes, size_t length);
 
 /* clock.c: ticks, and the board's counts, since the start. */
 uint64_t clock_ticks(void);

@@ -86,15 +86,13 @@ show_last_line(void)
   }
 }
 
-/* A frame that was sent is known only by its line. A line that has no room is another one. */
 static __attribute__((noinline)) void
 send_last_frame(void)
 {
-  static const char sent[] = "note sent ";
-  uint8_t line[sizeof sent + 2 * LINE_BYTES];
-  size_t length;
-  if(last_line(line, sizeof line, &length) == 0 && length > sizeof sent - 1 && memcmp(line, sent, sizeof sent - 1) == 0) {
-    send_frame(line + sizeof sent - 1, length - (sizeof sent - 1));
+  uint8_t bytes[LINE_BYTES];
+  size_t length = last_sent(bytes, sizeof bytes);
+  if(length > 0) {
+    send_frame(bytes, length);
   }
 }
 

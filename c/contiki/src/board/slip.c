@@ -65,26 +65,19 @@ take_frame_bytes(uint8_t *bytes)
   return 0;
 }
 
-static uint8_t
-digit(uint8_t letter)
-{
-  return (uint8_t)(letter <= '9' ? letter - '0' : letter - 'a' + 10);
-}
-
-/* Sends a frame, which the library has as text. */
+/* Sends a frame of at most MOST bytes. */
 void
-send_frame(const uint8_t *hex, size_t length)
+send_frame(const uint8_t *bytes, size_t length)
 {
   uint8_t slip[2 * MOST + 2];
   size_t at = 0;
   slip[at++] = END;
-  for(size_t i = 0; i + 1 < length && at + 3 <= sizeof slip; i += 2) {
-    uint8_t byte = (uint8_t)(digit(hex[i]) << 4 | digit(hex[i + 1]));
-    if(byte == END || byte == ESC) {
+  for(size_t i = 0; i < length && i < MOST; i++) {
+    bool is_special = bytes[i] == END || bytes[i] == ESC;
+    if(is_special) {
       slip[at++] = ESC;
-      byte = byte == END ? ESC_END : ESC_ESC;
     }
-    slip[at++] = byte;
+    slip[at++] = !is_special ? bytes[i] : bytes[i] == END ? ESC_END : ESC_ESC;
   }
   slip[at++] = END;
   output_put(RADIO, slip, at);
