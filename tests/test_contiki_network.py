@@ -16,7 +16,7 @@ import pytest
 from contiki_programs import SOURCES, STRICT, Contiki, outcome, program_of
 from random_calls import random_lists
 from test_network_random import APPLICATIONS, drawn_input, drawn_loss
-from tools import EXAMPLES, Completed, Word, run, table, told
+from tools import EXAMPLES, Completed, Word, run, table, told, with_sanitizers
 
 NETWORKS = EXAMPLES / "contiki/networks"
 OWN = SOURCES / "networks"
@@ -83,6 +83,14 @@ def test_a_hundred_motes(runner: Runner) -> None:
     assert all(abs(a // 10 - b // 10) + abs(a % 10 - b % 10) == 1 for a, b in motes)
     distances = [mote // 10 + mote % 10 for mote, _ in motes]
     assert distances == sorted(distances)
+
+
+@with_sanitizers
+def test_message_of_a_high_number(runner: Runner) -> None:
+    """A message's origin is a byte: also the largest one, of mote 255, is known again."""
+    setup = "mote 1..255 flooding.c\nlink 255 1 delay 1\nlink 1 255 delay 1\n"
+    lines = runner.text(setup, [NETWORKS / "flooding.c"], "255 serial 680a\ntick 3\n", "--sanitize")
+    assert lines == ["1 h, of 255 by 255"]
 
 
 # ---- Static data, names and numbers of motes ----

@@ -4,7 +4,7 @@
 #include "net/nullnet/nullnet.h"
 #include "sys/node-id.h"
 
-enum { MOTES = 16, TEXT = 32 };
+enum { ORIGINS = 256, TEXT = 32 };
 
 struct message {
   uint8_t origin;
@@ -16,7 +16,7 @@ PROCESS(flooding, "Flooding");
 AUTOSTART_PROCESSES(&flooding);
 
 /* The last number that came from each origin. */
-static uint8_t known[MOTES];
+static uint8_t known[ORIGINS];
 
 static void
 pass_on(const struct message *message)
@@ -35,7 +35,7 @@ hear(const void *data, uint16_t len, const linkaddr_t *src, const linkaddr_t *de
   struct message message = {0};
   (void)dest;
   memcpy(&message, data, MIN(len, sizeof message - 1));
-  if(message.number <= known[message.origin % MOTES]) {
+  if(message.number <= known[message.origin]) {
     return;
   }
   printf("%s, of %u by %u\n", message.text, message.origin, src->u8[7]);
