@@ -28,7 +28,7 @@ is_whole_line(void)
   return had_end;
 }
 
-/* Reads more of the script, behind what is left of it; false at its end. The transcript so far is written before it waits for that. */
+/* Reads more of the script, after what is left of it; false at its end. The transcript so far is written before it waits for that. */
 static bool
 read_more(int script)
 {

@@ -20,7 +20,7 @@ static unsigned only_mote;      /* the only mote of a network whose lines are sh
 static unsigned speaker;
 static bool is_left_out;
 
-/* What isn't written yet, and behind it room for a line. */
+/* What isn't written yet, and room for a line after it. */
 static char room[ROOM + LINE_ROOM];
 static size_t used;
 
@@ -131,7 +131,7 @@ put_bytes(const void *bytes, size_t length)
   end_busy();
 }
 
-/* Has the library write the line of the last entry behind the transcript so far. It is no part of that until it is kept. Returns its length
+/* Has the library write the line of the last entry after the transcript so far. It is no part of that until it is kept. Returns its length
  * with its end. */
 static size_t
 take_line(void)
