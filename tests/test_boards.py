@@ -315,7 +315,8 @@ def test_kernel_asks_an_application(room: Path, kernel: Path) -> None:
 @pytest.mark.parametrize(("name", "words", "memory"), [
     ("library_test", ("5000",), MEMORY_CALLS), ("steps_test", ("5000", "100"), MEMORY_CALLS), ("steps_memory_test", (), ()),
     ("block_test", (), (KERNEL / "include/toarmuts_block.c",))])
-def test_kernel_tests(room: Path, kernel: Path, toarmuts_library: Path, name: str, words: tuple[str, ...], memory: tuple[Path, ...]) -> None:
+def test_kernel_tests(room: Path, kernel: Path, toarmuts_library: Path, name: str, words: tuple[str, ...],
+                      memory: tuple[Path, ...]) -> None:
     """The library's tests: worked replies, random calls, random runs step by step beside whole ones, refused memory, motes in blocks."""
     source, here = HERE / f"c/{name}.c", room / f"{name}-here"
     told = run_on(KERNEL_BOARD, compile_kernel_test(room, kernel, source, memory), *words)

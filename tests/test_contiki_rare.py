@@ -44,8 +44,9 @@ RECORD = "# record 1 sources 0 second 128 mmem 4096 heap 4096 header 16 quota 0 
     ("mmem_alloc(&handle, 4)", "managed memory is allocated outside of any process")])
 def test_call_outside_of_any_process(contiki: Contiki, tmp_path: Path, call: str, what: str) -> None:
     """A constructor of the program runs before the mote: it must not make a call."""
-    source = write_source(tmp_path, '#include "lib/heapmem.h"\n#include "lib/mmem.h"\nextern struct mmem handle;\nstruct mmem handle;\n'
-                          + program_of("printf(\"not reached\\n\");", f"static __attribute__((constructor)) void early(void) {{ {call}; }}"))
+    headers = '#include "lib/heapmem.h"\n#include "lib/mmem.h"\nextern struct mmem handle;\nstruct mmem handle;\n'
+    constructor = f"static __attribute__((constructor)) void early(void) {{ {call}; }}"
+    source = write_source(tmp_path, headers + program_of('printf("not reached\\n");', constructor))
     ran = contiki(source)
     assert (ran.returncode, ran.stdout, messages(ran.stderr)) == (1, b"", [what]), told(ran)
 
@@ -53,9 +54,9 @@ def test_call_outside_of_any_process(contiki: Contiki, tmp_path: Path, call: str
 def test_block_of_a_process_that_waits(contiki: Contiki, tmp_path: Path) -> None:
     """A block's owner must be able to make the call: one that waits for the receiver of its event can't."""
     ran = contiki(write_source(tmp_path, TWO_PROCESSES))
-    assert ran.returncode == 1 and messages(ran.stderr) == [
-        place("5 (Second)", "event 150", 6, 1).removeprefix("contiki: ") + "a timer or a block of First must change, and can't: the process "
-        "isn't running, or is in an activation"], told(ran)
+    wanted = place("5 (Second)", "event 150", 6, 1) + ("a timer or a block of First must change, and can't: the process isn't running, or "
+                                                       "is in an activation\n")
+    assert (ran.returncode, ran.stderr.decode()) == (1, wanted), told(ran)
 
 
 def test_report_of_the_heap(contiki: Contiki, tmp_path: Path) -> None:

@@ -6,7 +6,8 @@ from typing import Callable, NamedTuple
 
 import pytest
 
-from tools import EXAMPLES, ROOT, SANITIZERS, all_hold, current_library, library_for_aarch64, needs, once, run, succeed, told, with_sanitizers
+from tools import (EXAMPLES, ROOT, SANITIZERS, all_hold, current_library, library_for_aarch64, needs, once, run, succeed, told,
+                   with_sanitizers)
 
 WARNINGS = ("-Wall", "-Wextra", "-Werror")
 SOURCES = ROOT / "tests/c"

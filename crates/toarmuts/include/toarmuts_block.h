@@ -13,8 +13,8 @@
 extern "C" {
 #endif
 
-/* As toarmuts_open, with all memory in these bytes, which are the mote's up to toarmuts_close. OUT_OF_MEMORY where they are too few. One mote
- * is opened at a time. */
+/* As toarmuts_open, with all memory in these bytes, which are the mote's up to toarmuts_close. OUT_OF_MEMORY where they are too few.
+ * One mote is opened at a time. */
 uint32_t toarmuts_open_in(void *block, size_t size, const struct toarmuts_configuration *configuration, uint32_t applications,
                           struct toarmuts_mote *mote);
 

@@ -194,8 +194,8 @@ put_speaker(void)
   put_bytes(text, length);
 }
 
-/* What a mote prints. In a network each line begins with its number, and an unfinished line ends when another mote prints. It isn't inlined:
- * otherwise each turn of a whole transcript would save the registers that this needs. */
+/* What a mote prints. In a network each line begins with its number, and an unfinished line ends when another mote prints. It isn't
+ * inlined: otherwise each turn of a whole transcript would save the registers that this needs. */
 static __attribute__((noinline)) void
 put_text(const uint8_t *bytes, size_t length)
 {
