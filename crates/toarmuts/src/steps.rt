@@ -17,7 +17,9 @@ use library_core::application::PlainApplication;
 use library_core::bundled_turn::take_turn;
 use library_core::call::PlainCall;
 use library_core::configuration::Configuration;
-use library_core::in_session::{feed_input, feed_line, go_on, put_due, put_last_line, put_sent, take_call};
+use library_core::in_session::{
+    feed_input, feed_line, go_on, put_due, put_last_line, put_sent, take_call,
+};
 use library_core::input::input_of;
 use library_core::mote::Mote;
 use library_core::open_mote::boot;
