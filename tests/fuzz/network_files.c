@@ -115,7 +115,7 @@ toarmuts_close(struct toarmuts_mote *mote)
 
 /* A line of the script, as script.c reads it: of a longer one a byte more than the limit. */
 enum reading
-read_line(int script, char *line, size_t *length)
+read_line(int script, const char **line, size_t *length)
 {
   size_t left = script_length - script_at;
   const uint8_t *begin = script_bytes + script_at, *line_end = left == 0 ? NULL : memchr(begin, '\n', left);
@@ -123,7 +123,7 @@ read_line(int script, char *line, size_t *length)
   *length = line_end == NULL ? left : (size_t)(line_end - begin);
   script_at += *length + (line_end != NULL);
   *length = MIN(*length, LINE_LIMIT + 1);
-  memcpy(line, begin, *length);
+  *line = (const char *)begin;
   return left == 0 ? READ_END : READ_LINE;
 }
 
