@@ -44,6 +44,18 @@ def test_awkward_calls(contiki: Contiki, tmp_path: Path) -> None:
         "1 sent before the stack leaves in Main", "2 round 4, joined 1", "2 round 5, joined 1", "1 farewell in Main"]
 
 
+def test_sockets(contiki: Contiki, tmp_path: Path) -> None:
+    """A socket hears what is for its port, in the process that registered it, and answers whoever sent it. Calls on one that isn't registered
+    return -1, the others 1, or the number of bytes. A socket that is closed hears nothing."""
+    begin = ["-1 -1 -1", "-1 -1", "1 1", "1 1"]
+    script = serial(1, "hello") + "tick 4\n" + serial(2, "close") + serial(1, "again") + "tick 4\n"
+    lines = text_of(contiki, tmp_path, "mote 1..2 sockets.c\nline 1..2 delay 1\n", [OWN / "sockets.c"], script, *STRICT, "--sanitize")
+    assert lines == [
+        *(f"{mote} {line}" for mote in (1, 2) for line in begin), "1 1 5",
+        "2 question 1 1 from 4000 to 3000, ff02: hello in Sockets", "2 sent 4", "1 answer 1 1 from mote 2, 3000 to 4000: four",
+        "2 1", "2 -1 -1", "1 1 5"]
+
+
 # ---- rpl-udp ----
 
 def test_stored_chart(contiki: Contiki) -> None:
