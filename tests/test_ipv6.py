@@ -45,8 +45,8 @@ def test_awkward_calls(contiki: Contiki, tmp_path: Path) -> None:
 
 
 def test_sockets(contiki: Contiki, tmp_path: Path) -> None:
-    """A socket hears what is for its port, in the process that registered it, and answers whoever sent it. Calls on one that isn't registered
-    return -1, the others 1, or the number of bytes. A socket that is closed hears nothing."""
+    """A socket hears what is for its port, in the process that registered it, and answers whoever sent it. Calls on one that isn't
+    registered return -1, the others 1, or the number of bytes. A socket that is closed hears nothing."""
     begin = ["-1 -1 -1", "-1 -1", "1 1", "1 1"]
     script = serial(1, "hello") + "tick 4\n" + serial(2, "close") + serial(1, "again") + "tick 4\n"
     lines = text_of(contiki, tmp_path, "mote 1..2 sockets.c\nline 1..2 delay 1\n", [OWN / "sockets.c"], script, *STRICT, "--sanitize")
