@@ -148,8 +148,8 @@ def bench_campaigns() -> None:
         with tempfile.TemporaryDirectory() as folder:
             command = [sys.executable, "-m", "toarmuts.campaign", f"{TARGET}:{name}", "--seeds", f"0:{seeds}", "--found", folder]
             command += ["--jobs", *words]
-            told = subprocess.run(command, capture_output=True, text=True, check=False).stderr.strip().splitlines()[-1]
-        print(f"| campaign `{name}`, {seeds * 100:,} runs, --jobs {' '.join(words)} | {told} |", flush=True)
+            line = subprocess.run(command, capture_output=True, text=True, check=False).stderr.strip().splitlines()[-1]
+        print(f"| campaign `{name}`, {seeds * 100:,} runs, --jobs {' '.join(words)} | {line} |", flush=True)
 
 
 if __name__ == "__main__":

@@ -25,8 +25,8 @@ HEADER = CRATE / "include" / "toarmuts.h"
 PROVE = "./prove toarmuts"
 NO_SDIST = ("there is no source distribution: it would lack the proved library, which `./prove toarmuts` in the repository makes; "
             "`pip wheel ./python` there makes a wheel that can be handed on")
-SOURCES = ["native/transcript_table.c", "native/advance.c", "native/advance_network.c", "native/network_script.c", "native/stack.c"]
-HEADERS = ("transcript_table.h", "advance.h", "advance_network.h", "network_script.h", "stack.h")
+SOURCES = ["native/transcript_table.c", "native/advance.c", "native/network_script.c", "native/stack.c"]
+HEADERS = ("transcript_table.h", "advance.h", "network_script.h", "stack.h")
 
 # The headers for cffi, which reads no preprocessor's lines. The compiler compares it with them.
 DECLARED = """
@@ -48,18 +48,17 @@ uint32_t toarmuts_clock(struct toarmuts_mote *mote, uint64_t *clock);
 uint32_t toarmuts_close(struct toarmuts_mote *mote);
 uint32_t toarmuts_due(struct toarmuts_mote *mote, uint64_t *clock);
 void advance_mote(struct toarmuts_mote *mote, const struct toarmuts_call *call, struct advance *advance);
-void advance_bundled(struct toarmuts_mote *mote, struct toarmuts_application *application, struct advance *advance);
+void advance_mote_bundled(struct toarmuts_mote *mote, struct toarmuts_application *application, struct advance *advance);
 struct toarmuts_network { ...; };
 struct toarmuts_network_sizes { uint32_t room, links; uint64_t rounds; };
 struct toarmuts_network_mote { ...; };
 struct toarmuts_link { ...; };
-struct network_advance { ...; };
 uint32_t open_network(const struct toarmuts_network_sizes *sizes, const struct toarmuts_network_mote *motes, uint64_t count,
                       const struct toarmuts_link *links, uint64_t links_count, struct toarmuts_network *network);
 void advance_network_script(struct toarmuts_network *network, const uint8_t *script, uint64_t first, uint64_t length,
-                            struct network_advance *advance);
-void advance_network(struct toarmuts_network *network, const struct toarmuts_call *call, struct network_advance *advance);
-void advance_network_bundled(struct toarmuts_network *network, struct toarmuts_application *application, struct network_advance *advance);
+                            struct advance *advance);
+void advance_network(struct toarmuts_network *network, const struct toarmuts_call *call, struct advance *advance);
+void advance_network_bundled(struct toarmuts_network *network, struct toarmuts_application *application, struct advance *advance);
 uint32_t toarmuts_network_clock(struct toarmuts_network *network, uint64_t *clock);
 uint32_t toarmuts_network_due(struct toarmuts_network *network, uint32_t mote, uint64_t *clock);
 uint32_t toarmuts_network_close(struct toarmuts_network *network);
@@ -115,8 +114,8 @@ def library_file() -> pathlib.Path:
 
 def write_call_words(folder: pathlib.Path) -> str:
     """Writes the words of calls, of rules.json, as a table in C, and returns the file."""
-    told = json.loads((HERE / "src/toarmuts/rules.json").read_text(encoding="utf-8"))
-    rows = sorted((row["name"], kind) for kind, row in enumerate(told["calls"], 1))
+    rules = json.loads((HERE / "src/toarmuts/rules.json").read_text(encoding="utf-8"))
+    rows = sorted((row["name"], kind) for kind, row in enumerate(rules["calls"], 1))
     lines = ['#include "transcript_table.h"', "const struct call_word call_words[] = {"]
     lines += [f'  {{"{word}", {len(word)}, {kind}}},' for word, kind in rows]
     lines += ["};", "const size_t call_words_count = sizeof call_words / sizeof *call_words;", ""]

@@ -1,6 +1,6 @@
-"""Runs the program of a crate with the arguments that follow, and passes on input, output and exit status.
+"""Runs a program with the arguments that follow, and passes on input, output and exit status.
 
-    scripts/launch CRATE READS ARGUMENT..
+    scripts/launch PROGRAM READS ARGUMENT..
 
 Where ./prove has built it, and no source is newer, that program runs. Otherwise the run is unproved: scripts/unproved.py builds the
 program, once for these sources, and a line on standard error says so. READS is what the program reads: `input` for standard input,
@@ -19,19 +19,22 @@ if TYPE_CHECKING:
 
 ROOT = os.path.dirname(os.path.dirname(os.path.realpath(__file__)))
 BYTE_ORDER_MARK = b"\xef\xbb\xbf"
+# Another name of a program, which does what the name says that it is started by: as in scripts/sources.py, which takes longer to read.
+OTHER_NAMES = {"network_picture": "mote_picture"}
 
 
 class Launch:
     """A program to run: its crate and name, and the command that proves and builds it."""
 
-    def __init__(self, crate: str, reads: str, words: Sequence[str]) -> None:
-        self.crate = crate
+    def __init__(self, named: str, reads: str, words: Sequence[str]) -> None:
+        self.named = named
+        self.crate = crate = OTHER_NAMES.get(named, named)
         self.reads = reads
         self.words = list(words)
-        self.name = crate.replace("_", "-")
+        self.name = named.replace("_", "-")
         self.folder = os.path.join(ROOT, "crates", crate)
         self.program = os.path.join(self.folder, "out", crate)
-        self.proving = "./prove" if crate == "mote" else f"./prove {crate}"
+        self.proving = "./prove" if named == "mote" else f"./prove {named}"
 
     def tell(self, text: str) -> None:
         print(f"{self.name}: {text}", file=sys.stderr, flush=True)
@@ -51,7 +54,7 @@ class Launch:
     def start(self, program: str) -> NoReturn:
         self.tell_of_words()
         self.tell_of_input()
-        os.execv(program, [program, *self.words])
+        os.execv(program, [os.path.join(os.path.dirname(program), self.named), *self.words])
 
     # ---- A proved program ----
 
@@ -62,10 +65,10 @@ class Launch:
     def tell_of_words(self) -> None:
         """Says more about arguments that mote and mote-picture refuse briefly."""
         is_strange = any(it.startswith(("--mmem", "--heap", "--quota", "--header")) or os.path.isfile(it) for it in self.words)
-        if is_strange and self.crate in ("mote", "mote_picture"):
+        if is_strange and self.named in ("mote", "mote_picture"):
             sys.path.insert(0, os.path.join(ROOT, "scripts"))
             from hints import hints
-            for hint in hints(self.words, "script" if self.crate == "mote" else "transcript"):
+            for hint in hints(self.words, "script" if self.named == "mote" else "transcript"):
                 self.tell(hint)
 
     def tell_of_input(self) -> None:

@@ -11,6 +11,19 @@ from pathlib import Path
 PARTS = ("src", "specs", "proofs")
 # A file's time may be earlier than the clock by this much, in nanoseconds: it is that of the last tick.
 GRAIN = 10_000_000
+# Other names of a program, which does what the name says that it is started by.
+OTHER_NAMES = {"network_picture": "mote_picture"}
+
+
+def link_names(program: Path) -> None:
+    """Makes the other names of a program that was built, beside it: hard links, since rt refuses a folder with symbolic ones."""
+    for name in (other for other, of in OTHER_NAMES.items() if of == program.name):
+        new = program.with_name(f"{name}.new")
+        new.unlink(missing_ok=True)
+        os.link(program, new)
+        new.rename(program.with_name(name))
+        # Where both names were links to one file, nothing was renamed.
+        new.unlink(missing_ok=True)
 
 
 class Sources:

@@ -21,7 +21,7 @@ from pathlib import Path
 from typing import Callable, Iterator
 
 sys.path.insert(0, str(Path(__file__).resolve().parent))
-from sources import GRAIN, Sources, sum_of  # noqa: E402
+from sources import GRAIN, OTHER_NAMES, Sources, link_names, sum_of  # noqa: E402
 from unproved_build import Building, Refused  # noqa: E402
 
 ENDING = (signal.SIGINT, signal.SIGTERM, signal.SIGHUP)
@@ -139,6 +139,7 @@ class Unproved:
             # Without a mark nothing is current, so another run waits for the lock.
             store.mark.unlink(missing_ok=True)
             new.rename(store.built)
+            link_names(store.built)
             mark.rename(store.mark)
         return store.built
 
@@ -175,7 +176,9 @@ def main() -> int:
 
     try:
         with ending_by_signals():
-            print(Unproved(Path(__file__).resolve().parent.parent, sys.argv[1]).give(tell, begin))
+            crate = OTHER_NAMES.get(sys.argv[1], sys.argv[1])
+            built = Unproved(Path(__file__).resolve().parent.parent, crate).give(tell, begin)
+            print(built if crate == sys.argv[1] else built.with_name(sys.argv[1]))
     except Refused as why:
         tell(str(why))
         return 1

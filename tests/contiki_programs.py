@@ -5,7 +5,7 @@ from dataclasses import dataclass
 from pathlib import Path
 from typing import Mapping
 
-from tools import EXAMPLES, ROOT, Completed, Word, once, run, told
+from tools import EXAMPLES, ROOT, Completed, Word, once, output_of, run
 
 SOURCES = ROOT / "tests/c/contiki"
 STRICT = ("-std=c11", "-Wall", "-Wextra", "-pedantic", "-Wshadow", "-Wstrict-prototypes", "-Werror")
@@ -81,5 +81,5 @@ class Contiki:
         def make(program: Path) -> None:
             sources = sorted(source.glob("*.c")) if source.is_dir() else [source]
             made = self("--cc", compiler, "--build", program, *STRICT, *words, *sources)
-            assert (made.returncode, made.stderr) == (0, b""), told(made)
+            assert (made.returncode, made.stderr) == (0, b""), output_of(made)
         return once(self.room / name, make)

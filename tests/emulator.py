@@ -13,7 +13,7 @@ from pathlib import Path
 
 import tools
 from contiki_programs import Contiki
-from tools import CRATES, ROOT, Completed, Word, once, run, succeed, told
+from tools import CRATES, ROOT, Completed, Word, once, output_of, run, succeed
 
 HAS_NEWLIB = shutil.which("arm-none-eabi-gcc") and b"/" in tools.run("arm-none-eabi-gcc", "--print-file-name=rdimon.specs").stdout
 # The emulator's clock counts instructions: one has 2^SHIFT nanoseconds.
@@ -52,7 +52,7 @@ class Builder:
 
         def make(image: Path) -> None:
             made = run(ROOT / "contiki", "--library", self.library, "--board", board, *words, "-Wall", "-Wextra", source, "-o", image)
-            assert (made.returncode, made.stderr) == (0, b""), told(made)
+            assert (made.returncode, made.stderr) == (0, b""), output_of(made)
         return once(self.room / f"{name}.elf", make)
 
 

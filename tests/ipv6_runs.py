@@ -6,7 +6,7 @@ from dataclasses import dataclass
 from pathlib import Path
 
 from contiki_programs import SOURCES, Contiki
-from tools import EXAMPLES, Completed, Word, succeed, told
+from tools import EXAMPLES, Completed, Word, output_of, succeed
 
 IPV6 = EXAMPLES / "contiki/ipv6"
 OWN = SOURCES / "ipv6"
@@ -57,7 +57,7 @@ def run_network(contiki: Contiki, folder: Path, network: str, sources: list[Path
     file = folder / "network.net"
     file.write_text(network, encoding="utf-8")
     ran = contiki("--network", file, *words, *sources, stdin=script.encode())
-    assert (ran.returncode, ran.stderr) == (0, b""), told(ran)
+    assert (ran.returncode, ran.stderr) == (0, b""), output_of(ran)
     return ran
 
 

@@ -10,7 +10,7 @@ import pytest
 
 from test_contiki_programs import has_crypto
 from test_modules import MODULES, WARNINGS
-from tools import CRATES, ROOT, SANITIZERS, all_hold, run, succeed, told, with_sanitizers
+from tools import CRATES, ROOT, SANITIZERS, all_hold, output_of, run, succeed, with_sanitizers
 
 FOLDER = ROOT / "tests/bounded"
 DRIVER = ROOT / "c/contiki"
@@ -28,7 +28,7 @@ def test_frames(tmp_path: Path) -> None:
     """Frames of 0 to 24 bytes: 65,536 frame controls for each length, and where that makes a header nine pairs of PAN and receiver."""
     ran = run(build(tmp_path / "framer", "framer", *SANITIZERS, *OF_DRIVER))
     # Eight frame controls of 16 bits make a header to all, eight one to a mote: two bits of the low byte and one of the high byte are free.
-    assert re.findall(r"^(\d+) frames$", ran.stdout.decode(), re.M) == [str(25 * (65536 + 8 * (2 * 8)))], told(ran)
+    assert re.findall(r"^(\d+) frames$", ran.stdout.decode(), re.M) == [str(25 * (65536 + 8 * (2 * 8)))], output_of(ran)
     all_hold(ran)
 
 
@@ -37,7 +37,7 @@ def test_lists(tmp_path: Path) -> None:
     sources = [MODULES / f"src/{name}.c" for name in ("list", "circular-list", "dbl-list", "dbl-circ-list")]
     ran = run(build(tmp_path / "lists", "lists", *SANITIZERS, "-Wconversion", "-Wpedantic", *OF_MODULES, *sources))
     # 65 states, 7 + 2 + 5 + 5 calls, and 7 arguments of each kind.
-    assert re.findall(r"^(\d+) calls$", ran.stdout.decode(), re.M) == [str(65 * 19 * 7 * 7)], told(ran)
+    assert re.findall(r"^(\d+) calls$", ran.stdout.decode(), re.M) == [str(65 * 19 * 7 * 7)], output_of(ran)
     all_hold(ran)
 
 

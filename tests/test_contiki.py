@@ -9,7 +9,7 @@ import pytest
 from call_rules import OF_MOTE
 from contiki_programs import SOURCES, STRICT, Contiki, script_of, transcript_of
 from random_calls import random_lists
-from tools import EXAMPLES, ROOT, once, run, succeed, told
+from tools import EXAMPLES, ROOT, once, output_of, run, succeed
 
 EXAMPLE_SOURCES = sorted((EXAMPLES / "contiki").glob("*.c"))
 # Each source beside a script and a transcript, or the text that it prints; `parts` is a folder of sources.
@@ -25,8 +25,9 @@ def test_example(contiki: Contiki, sanitizing_compiler: str, source: Path) -> No
     """Each example writes its transcript, and so do further sources; those of a text write that."""
     is_text = source.with_suffix(".text").exists()
     ran = run(contiki.build(source, sanitizing_compiler, "--sanitize"), *(["--text"] if is_text else []), stdin=script_of(source))
-    assert (ran.returncode, ran.stdout) == (0, source.with_suffix(".text").read_bytes() if is_text else transcript_of(source)), told(ran)
-    assert ran.stderr == b"", told(ran)
+    wanted = source.with_suffix(".text").read_bytes() if is_text else transcript_of(source)
+    assert (ran.returncode, ran.stdout) == (0, wanted), output_of(ran)
+    assert ran.stderr == b"", output_of(ran)
 
 
 def test_each_source_is_tried() -> None:
@@ -79,7 +80,7 @@ def compare(name: str, built: Path, reference: Path, applications: str, chance: 
     lists.write_text(applications.replace("calls ", "").replace("calls", ""), encoding="utf-8")
     wanted = run(reference, names, *sizes.values(), stdin=script)
     ran = run(built, *words_of(sizes), stdin=script, settings={"LISTS": str(lists)})
-    assert (ran.returncode, ran.stdout) == (wanted.returncode, wanted.stdout), f"{name}: {words_of(sizes)} {script!r} {told(ran)}"
+    assert (ran.returncode, ran.stdout) == (wanted.returncode, wanted.stdout), f"{name}: {words_of(sizes)} {script!r} {output_of(ran)}"
 
 
 @pytest.mark.parametrize("name", OF_MOTE)
@@ -112,4 +113,4 @@ def test_picture_by_the_command(contiki: Contiki, mote_picture: Path) -> None:
     if run(ROOT / "prove", "--is-current", mote_picture.name).returncode != 0:
         pytest.skip("mote_picture isn't built by ./prove of the sources as they are, so --picture is not tried")
     ran = contiki("--picture", source, stdin=script_of(source))
-    assert (ran.returncode, ran.stdout) == (0, source.with_suffix(".svg").read_bytes()), told(ran)
+    assert (ran.returncode, ran.stdout) == (0, source.with_suffix(".svg").read_bytes()), output_of(ran)

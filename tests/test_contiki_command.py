@@ -15,7 +15,7 @@ import pytest
 
 from contiki_programs import BLINKER, HELLO, SOURCES, Contiki, messages, outcome, program_of, script_of, transcript_of, write_source
 from test_contiki_refused import NO_PROGRAM
-from tools import EXAMPLES, ROOT, Completed, Word, needs, run, told, without, write_program
+from tools import EXAMPLES, ROOT, Completed, Word, needs, output_of, run, without, write_program
 
 # Lines of comments that leave room for 7 bytes of the 16,777,216 of a script, which a line end precedes.
 COMMENTS = (b"#" * 1023 + b"\n") * 16_383 + b"#" * 1017
@@ -43,8 +43,8 @@ def without_effect(setting: str, source: Path, why: str) -> Case:
 
 
 def check(ran: Completed, case: Case) -> None:
-    assert (ran.returncode, ran.stdout.decode() if case.out is not None else None) == (case.status, case.out), told(ran)
-    assert re.fullmatch(case.why, ran.stderr.decode()), told(ran)
+    assert (ran.returncode, ran.stdout.decode() if case.out is not None else None) == (case.status, case.out), output_of(ran)
+    assert re.fullmatch(case.why, ran.stderr.decode()), output_of(ran)
 
 
 # ---- Arguments of the command ----
@@ -97,7 +97,7 @@ def test_arguments(contiki: Contiki, tmp_path: Path, case: Case) -> None:
 
 def test_help(contiki: Contiki, blinker: Path) -> None:
     for ran in contiki("--help"), run(blinker, "--text", "--mmem=64", "--heap=64", "--help"):
-        assert (ran.returncode, ran.stdout[:5], ran.stderr) == (0, b"Runs ", b""), told(ran)
+        assert (ran.returncode, ran.stdout[:5], ran.stderr) == (0, b"Runs ", b""), output_of(ran)
 
 
 @pytest.mark.parametrize(("other", "why"), [
@@ -106,7 +106,7 @@ def test_help(contiki: Contiki, blinker: Path) -> None:
 ], ids=["two", "main"])
 def test_two_programs(contiki: Contiki, sanitizing_compiler: str, tmp_path: Path, other: str, why: str) -> None:
     ran = contiki("--cc", sanitizing_compiler, BLINKER, write_source(tmp_path, other))
-    assert (ran.returncode, messages(ran.stderr)) == (65, [why, NO_PROGRAM]), told(ran)
+    assert (ran.returncode, messages(ran.stderr)) == (65, [why, NO_PROGRAM]), output_of(ran)
 
 
 # ---- Scripts, and arguments of the program ----
@@ -123,9 +123,9 @@ def blinker(contiki: Contiki) -> Path:
 def test_malformed_line(blinker: Path, script: bytes, line: int, why: str) -> None:
     """A malformed line ends the transcript, and the reason is reported in one line."""
     whole, text = run(blinker, stdin=script), run(blinker, "--text", stdin=script)
-    assert (whole.returncode, text.returncode, text.stdout, text.stderr) == (2, 2, b"", whole.stderr), told(whole)
-    assert whole.stdout.endswith(f"\nbad line {line}\n".encode()), told(whole)
-    assert re.fullmatch(f"contiki: line {line} of the script {why}.*\n", whole.stderr.decode()), told(whole)
+    assert (whole.returncode, text.returncode, text.stdout, text.stderr) == (2, 2, b"", whole.stderr), output_of(whole)
+    assert whole.stdout.endswith(f"\nbad line {line}\n".encode()), output_of(whole)
+    assert re.fullmatch(f"contiki: line {line} of the script {why}.*\n", whole.stderr.decode()), output_of(whole)
 
 
 @pytest.mark.parametrize(("script", "status", "end"), [
@@ -135,7 +135,7 @@ def test_malformed_line(blinker: Path, script: bytes, line: int, why: str) -> No
 ], ids=["longest line", "longer line", "longest script", "longer script", "longer by a line end"])
 def test_longest_script(blinker: Path, script: bytes, status: int, end: bytes) -> None:
     ran = run(blinker, stdin=script)
-    assert ran.returncode == status and ran.stdout.endswith(end), told(ran)
+    assert ran.returncode == status and ran.stdout.endswith(end), output_of(ran)
 
 
 @pytest.mark.parametrize("case", [
@@ -220,7 +220,7 @@ def test_unproved_library_of_a_tree(tree: Path, toarmuts_library: Path) -> None:
     write_program(tree / "prove", "#!/bin/bash\nexit 1\n")
     write_program(tree / "scripts/unproved.py", f'#!/bin/bash\n[[ $* == toarmuts ]] && echo {toarmuts_library}/libtoarmuts.a\n')
     ran = run(tree / "contiki", HELLO, stdin=script_of(HELLO))
-    assert (ran.returncode, ran.stdout) == (0, transcript_of(HELLO)), told(ran)
+    assert (ran.returncode, ran.stdout) == (0, transcript_of(HELLO)), output_of(ran)
     assert ran.stderr == b"contiki: this run is unproved; ./prove toarmuts proves and builds the library\n"
 
 
@@ -235,7 +235,7 @@ def test_driver_that_a_release_keeps(tree: Path, toarmuts_library: Path, tmp_pat
     kept = []
     for folder in tmp_path / "file", cache.parent, cache.parent:
         ran = run(tree / "contiki", HELLO, stdin=script_of(HELLO), settings={"XDG_CACHE_HOME": str(folder)})
-        assert ran.stdout == transcript_of(HELLO), told(ran)
+        assert ran.stdout == transcript_of(HELLO), output_of(ran)
         kept.append({path.name: path.stat().st_ino for path in cache.iterdir()})
     assert kept[1] == kept[2] and len(kept[0]) == 4
     made, = set(kept[1]) - {"1123456789abcdef", "another"}
@@ -248,7 +248,7 @@ def test_picture(tree: Path, source: Path, name: str, status: int) -> None:
     """A picture is drawn by the command beside it, of the same sizes; the status is that of the run."""
     write_program(tree / "mote-picture", '#!/bin/bash\necho "$@" && grep -c .\n')
     ran = run(tree / "contiki", "--picture", "--heap=64", "--mmem", 128, source)
-    assert (ran.returncode, ran.stdout.decode()) == (status, f"--heap=64 --mmem 128 -- {name}\n{2 - status}\n"), told(ran)
+    assert (ran.returncode, ran.stdout.decode()) == (status, f"--heap=64 --mmem 128 -- {name}\n{2 - status}\n"), output_of(ran)
 
 
 # Makefiles of Contiki-NG's kind, one of them with CONTIKI elsewhere, one that asks for folders and target first, one with modules
@@ -269,7 +269,7 @@ def test_makefile(contiki: Contiki, tmp_path: Path, name: str, wanted: str) -> N
     assert (tmp_path / "Makefile.target").read_text(encoding="utf-8") == "TARGET = native\n"
     shown = make("viewconf")
     for line in re.findall(r"^(?:CONTIKI_PROJECT|DEFINES) = [^$\n]*\n", text, re.M):
-        assert shown.returncode == 0 and line in shown.stdout.decode(), told(shown)
+        assert shown.returncode == 0 and line in shown.stdout.decode(), output_of(shown)
     target = "node.native" if name == "Makefile.quotes" else "node"
     assert outcome(make() if name == "Makefile" else make(target)) == (0, "", "")
     assert outcome(run(tmp_path / target, "--text")) == (0, wanted, "")
@@ -294,13 +294,13 @@ def test_target_of_a_makefile(tmp_path: Path, kept: str, words: list[str], wante
 @needs("gdb")
 def test_debugger(contiki: Contiki) -> None:
     ran = contiki("--gdb", SOURCES / "faults/null_pointer.c", settings={"GDB": "gdb -q -batch -ex run -ex backtrace"})
-    assert b"process_thread_careless" in ran.stdout, told(ran)
+    assert b"process_thread_careless" in ran.stdout, output_of(ran)
 
 
 @needs("setsid")
 def test_debugger_without_a_terminal(contiki: Contiki) -> None:
     ran = run("setsid", "--wait", ROOT / "contiki", "--library", contiki.library, "--gdb", HELLO, settings={"GDB": ""})
-    assert (ran.returncode, ran.stderr) == (69, b"contiki: --gdb needs a terminal\n"), told(ran)
+    assert (ran.returncode, ran.stderr) == (69, b"contiki: --gdb needs a terminal\n"), output_of(ran)
 
 
 def test_debugger_from_a_terminal(contiki: Contiki, tmp_path: Path) -> None:

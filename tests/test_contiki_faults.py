@@ -9,7 +9,7 @@ from typing import Any
 import pytest
 
 from contiki_programs import SOURCES, Contiki, outcome, place, program_of, write_source
-from tools import ROOT, cases, needs, run, table, told
+from tools import ROOT, cases, needs, output_of, run, table
 
 SCRIPT = b"tick 1\nserial 0a\n"
 
@@ -33,9 +33,9 @@ def test_fault(contiki: Contiki, name: str, status: int, report: str, at: list[A
     """A program that is stopped says why, and its transcript up to there is written."""
     what = (place(*at) if at else "") + why
     ran = run(contiki.build(SOURCES / f"faults/{name}.c", "gcc", *([] if name in PLAIN else ["--sanitize"])), stdin=SCRIPT)
-    assert ran.returncode == status and re.search(f"{report}(?s:.*){re.escape(what)}", ran.stderr.decode()), told(ran)
-    assert report or ran.stderr.decode().startswith(what), told(ran)
-    assert (b"division by zero" if name == "undefined" else b"") in ran.stderr, told(ran)
+    assert ran.returncode == status and re.search(f"{report}(?s:.*){re.escape(what)}", ran.stderr.decode()), output_of(ran)
+    assert report or ran.stderr.decode().startswith(what), output_of(ran)
+    assert (b"division by zero" if name == "undefined" else b"") in ran.stderr, output_of(ran)
     stopped = re.search(rb"at line (\d+) of the transcript, after (\d+) calls", ran.stderr)
     lines = int(stopped[1]) - 1 + int(stopped[2]) if stopped else 10_001
     assert ran.stdout.count(b"\n") == lines and ran.stdout.endswith(b"\n" * (lines > 0))
@@ -45,7 +45,7 @@ def test_fault(contiki: Contiki, name: str, status: int, report: str, at: list[A
 def test_late_block(contiki: Contiki, asks: str) -> None:
     """Figures that depend on a block that is freed later aren't returned."""
     ran = contiki(f"-DASKS={asks}", SOURCES / "faults/late_block.c", stdin=b"tick 1\n")
-    assert ran.returncode == 1 and b"after 1 calls: a block was freed during an activation of its owner" in ran.stderr, told(ran)
+    assert ran.returncode == 1 and b"after 1 calls: a block was freed during an activation of its owner" in ran.stderr, output_of(ran)
 
 
 # A statement at which a program is stopped or crashes, or loses something, its status, where that is, and what is told. What it printed
@@ -67,7 +67,7 @@ def test_print_before_a_report(contiki: Contiki, tmp_path: Path) -> None:
     """The same where the sanitizers end the program."""
     source = write_source(tmp_path, program_of('char *block = heapmem_alloc(4); printf("half a line"); block[4] = 1;'))
     ran = contiki("--sanitize", "--text", source)
-    assert (ran.returncode, ran.stdout, b"heap-buffer-overflow" in ran.stderr) == (1, b"half a line", True), told(ran)
+    assert (ran.returncode, ran.stdout, b"heap-buffer-overflow" in ran.stderr) == (1, b"half a line", True), output_of(ran)
 
 
 ANOTHER = 'PROCESS(p{0}, "P");\nPROCESS_THREAD(p{0}, ev, data)\n{{PROCESS_BEGIN();PROCESS_END();}}\n'
@@ -86,7 +86,7 @@ def test_process_without_a_name(contiki: Contiki, tmp_path: Path) -> None:
     contiki("--build", program, source)
     assert run(program, "--names").stdout == b"\n"
     ran = run(program)
-    assert ran.returncode == 3 and ran.stderr.endswith(b"; the last turn was that of process 4 ()\n"), told(ran)
+    assert ran.returncode == 3 and ran.stderr.endswith(b"; the last turn was that of process 4 ()\n"), output_of(ran)
 
 
 SPINS = SOURCES / "spins.c"

@@ -15,7 +15,7 @@ import pytest
 import test_contiki_network
 from contiki_programs import Contiki, outcome, place, program_of, write_source
 from test_contiki_network import HELLO, TWO_MOTES, Runner, write_network
-from tools import ROOT, run, told, with_sanitizers
+from tools import ROOT, output_of, run, with_sanitizers
 
 runner = test_contiki_network.runner
 PART = 65536
@@ -68,7 +68,7 @@ def test_many_posted_pointers(contiki: Contiki, tmp_path: Path) -> None:
         'if(data != &things[i % 150]) { printf("another pointer\\n"); } }', "static int i; static int things[150];"))
     ran = contiki(source)
     numbers = [int(number) for number in re.findall(r"-> post 4 150 (\d+)$", ran.stdout.decode(), re.M)]
-    assert numbers == [*range(65536, 65686)] * 2 and b"print" not in ran.stdout, told(ran)
+    assert numbers == [*range(65536, 65686)] * 2 and b"print" not in ran.stdout, output_of(ran)
 
 
 def test_restarted_timer(contiki: Contiki, tmp_path: Path) -> None:
@@ -123,7 +123,7 @@ def test_event_from_before_a_start(contiki: Contiki, tmp_path: Path) -> None:
     ran = contiki(write_source(tmp_path, RESTARTED), stdin=b"tick 5\n")
     calls = [line.split(" -> ")[1] for line in ran.stdout.decode().splitlines() if line.startswith("4 ")]
     start = calls.index("timer-set 0 0")
-    assert calls[start:] == ["timer-set 0 0", "wait", "timer-expired 0", "wait", "wait"], told(ran)
+    assert calls[start:] == ["timer-set 0 0", "wait", "timer-expired 0", "wait", "wait"], output_of(ran)
 
 
 ENDED = """#include "contiki.h"
@@ -394,13 +394,13 @@ HUGE = 2 ** 64
 def test_number_beyond_its_range(runner: Runner, line: str) -> None:
     """A number that is too large is malformed, also one whose low bits are a good one."""
     ran = runner(f"{TWO_MOTES}{line}\n", [HELLO], "")
-    assert (ran.returncode, ran.stdout) == (2, b"bad line 2\n"), told(ran)
+    assert (ran.returncode, ran.stdout) == (2, b"bad line 2\n"), output_of(ran)
 
 
 def test_input_beyond_its_range(runner: Runner) -> None:
     for line in (f"tick {HUGE + 1}", f"{HUGE + 1} serial 61"):
         ran = runner(TWO_MOTES, [HELLO], f"{line}\n")
-        assert ran.returncode == 2 and ran.stdout.endswith(b"\nbad line 1\n"), told(ran)
+        assert ran.returncode == 2 and ran.stdout.endswith(b"\nbad line 1\n"), output_of(ran)
 
 
 def test_largest_numbers(runner: Runner) -> None:
@@ -408,7 +408,7 @@ def test_largest_numbers(runner: Runner) -> None:
     setup = ("mote 1..65535 hello-world.c\nlink 65535 1 delay 4294967295 every 4294967295\nlink 1 2 delay 1 lot 65536 seed 4294967295\n"
              "room 4294967295\nrounds 4294967295\ngrid 1..4 width 4294967295 delay 1\n")
     ran = runner(f"{setup}walk\n", [HELLO], "")
-    assert (ran.returncode, ran.stdout) == (2, b"bad line 7\n"), told(ran)
+    assert (ran.returncode, ran.stdout) == (2, b"bad line 7\n"), output_of(ran)
 
 
 def test_certain_loss(contiki: Contiki, runner: Runner, tmp_path: Path) -> None:
@@ -485,7 +485,7 @@ def test_print_after_a_halt_within_a_print(runner: Runner, tmp_path: Path) -> No
   printf("begun");""", '#include "sys/node-id.h"'), encoding="utf-8")
     ran = runner("mote 1..2 prints.c\n", [tmp_path / "prints.c"], "2 serial 0a\n1 serial 0a\n")
     assert ran.returncode == 0 and ran.stdout.decode().splitlines()[-4:] == [
-        "2 halt", "1 > serial 0a", "1 4 event 138 x -> print 626567756e", "1 4 answer done -> exit"], told(ran)
+        "2 halt", "1 > serial 0a", "1 4 event 138 x -> print 626567756e", "1 4 answer done -> exit"], output_of(ran)
 
 
 # Mote 1 sends twenty frames, each over a thousand links, and mote 2 never rests from the first tick on.

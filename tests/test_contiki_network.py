@@ -16,7 +16,7 @@ import pytest
 from contiki_programs import SOURCES, STRICT, Contiki, outcome, program_of
 from random_calls import random_lists
 from test_network_random import APPLICATIONS, drawn_input, drawn_loss
-from tools import EXAMPLES, Completed, Word, run, table, told, with_sanitizers
+from tools import EXAMPLES, Completed, Word, output_of, run, table, with_sanitizers
 
 NETWORKS = EXAMPLES / "contiki/networks"
 OWN = SOURCES / "networks"
@@ -48,7 +48,7 @@ class Runner:
 
     def text(self, network: str, sources: list[Path], script: str, *words: Word) -> list[str]:
         ran = self(network, sources, script, "--text", *words)
-        assert (ran.returncode, ran.stderr) == (0, b""), told(ran)
+        assert (ran.returncode, ran.stderr) == (0, b""), output_of(ran)
         return ran.stdout.decode().splitlines()
 
 
@@ -66,7 +66,7 @@ def test_example(contiki: Contiki, sanitizing_compiler: str, network: Path, word
     ran = contiki("--network", network, "--cc", sanitizing_compiler, *STRICT, *words, *(["--text"] if text.exists() else []),
                   *sources_of(network), stdin=network.with_suffix(".script"))
     wanted = (text if text.exists() else network.with_suffix(".transcript")).read_bytes()
-    assert (ran.returncode, ran.stdout, ran.stderr) == (0, wanted, b""), told(ran)
+    assert (ran.returncode, ran.stdout, ran.stderr) == (0, wanted, b""), output_of(ran)
 
 
 def test_each_example_is_tried() -> None:
@@ -151,7 +151,7 @@ def test_frames_that_are_sent(runner: Runner) -> None:
     ran = runner("mote 1 node.c\n", [OWN / "node.c"], script, "--quiet")
     sent = re.findall(r"^1 note sent (.*)$", ran.stdout.decode(), re.M)
     assert sent == [f"41d801cdabffff{ONE}6e", f"41d802cdabffff{ONE}61", f"61dc03cdab{TWO}{ONE}3200", f"61dc04cdab{ONE}{ONE}73",
-                    "41d805cdabffff080706050403020172"], told(ran)
+                    "41d805cdabffff080706050403020172"], output_of(ran)
 
 
 def test_numbers_of_frames(runner: Runner) -> None:
@@ -167,7 +167,7 @@ def test_longest_frame(runner: Runner, letter: str, header: int, most: int) -> N
     assert ran.stdout.decode().splitlines()[2:] == [f"2 {most} {SELF} {NOBODY if letter == 'n' else OTHER} 1 1", f"2 -60 105 {ord(letter)}"]
     ran = runner("mote 1 node.c\n", [OWN / "node.c"], f"1 serial {lines[1]}0a\n")
     assert ran.returncode == 1 and ran.stderr.decode().endswith(
-        f"a frame of {most + 1} bytes can't be sent: with its header, of {header} bytes, it has at most 127\n"), told(ran)
+        f"a frame of {most + 1} bytes can't be sent: with its header, of {header} bytes, it has at most 127\n"), output_of(ran)
     assert ran.stderr.startswith(b"contiki: mote 1, process 4 (Node), handling LINE (138) at line ")
 
 
@@ -193,7 +193,7 @@ def test_random_network(contiki: Contiki, runner: Runner, network: Path, seed: i
     sources = [EXAMPLES / f"contiki/mote/{name}.c" for name in sorted(set(names))]
     wanted = run(network, stdin=(setup.format(*[""] * len(names)) + script).encode())
     ran = runner(setup.format(*[".c"] * len(names)), sources, script, *(["--sanitize"] if seed % 4 == 0 else []))
-    assert (ran.returncode, ran.stdout) == (wanted.returncode, wanted.stdout), told(ran)
+    assert (ran.returncode, ran.stdout) == (wanted.returncode, wanted.stdout), output_of(ran)
     for number, name in enumerate(names, 1):
         size = re.findall(rf"^mote {number} .* (--mmem) (\d+)$", setup, re.M)
         built = contiki.build(EXAMPLES / f"contiki/mote/{name}.c", "gcc", "--sanitize")
@@ -220,7 +220,7 @@ def test_random_lists(contiki: Contiki, runner: Runner, seed: int) -> None:
     script = "".join(drawn_input(rng, count) + "\n" for _ in range(rng.randint(1, 20)))
     ran = runner(f"mote 1..{count} lists_by_number.c\nrounds 3000\n{''.join(links)}", [OWN / "lists_by_number.c"], script,
                  *(["--sanitize"] if seed % 4 == 0 else []), settings={"LISTS": str(runner.folder / "lists")})
-    assert ran.returncode in (0, 3), told(ran)
+    assert ran.returncode in (0, 3), output_of(ran)
     for number, file in enumerate(lists, 1):
         alone(ran, number, built, settings={"LISTS": str(file)})
 
@@ -240,7 +240,7 @@ def test_parts_of_the_transcript(contiki: Contiki) -> None:
     for words, wanted in ((["--quiet"], quiet), (["--only", "3"], own), (["--only=3", "--quiet"], quiet_own),
                           (["--only", "3", "--text"], texts)):
         ran = contiki(*command, *words, stdin=script)
-        assert (ran.returncode, ran.stdout.decode().splitlines(), ran.stderr) == (0, wanted, b""), told(ran)
+        assert (ran.returncode, ran.stdout.decode().splitlines(), ran.stderr) == (0, wanted, b""), output_of(ran)
 
 
 def test_text_of_begun_lines(runner: Runner, tmp_path: Path) -> None:
@@ -340,10 +340,10 @@ def test_source_that_does_not_compile(runner: Runner, tmp_path: Path) -> None:
     source = tmp_path / "wrong.c"
     source.write_text(HELLO.read_text(encoding="utf-8") + "int main(void) { return 0; }\n", encoding="utf-8")
     ran = runner("mote 1 wrong.c\n", [source], "")
-    assert ran.returncode == 65 and b"\ncontiki: a source has a main: leave it out" in ran.stderr, told(ran)
+    assert ran.returncode == 65 and b"\ncontiki: a source has a main: leave it out" in ran.stderr, output_of(ran)
     source.write_text(HELLO.read_text(encoding="utf-8") + "void none(void);\nvoid calls(void) { none(); }\n", encoding="utf-8")
     ran = runner("mote 1 wrong.c\n", [source], "")
-    assert ran.returncode == 65 and b"none" in ran.stderr, told(ran)
+    assert ran.returncode == 65 and b"none" in ran.stderr, output_of(ran)
     source.write_text('#include "contiki.h"\n', encoding="utf-8")
     ran = runner("mote 1 hello-world.c\nmote 2 wrong.c\n", [HELLO, source], "")
     assert outcome(ran) == (64, "", "contiki: mote 2: no AUTOSTART_PROCESSES, so no process is started\n")
@@ -379,7 +379,7 @@ def test_misuse_of_memory(runner: Runner, sanitizing_compiler: str) -> None:
     """The sanitizers name the line of a source; the mote is named, too."""
     ran = runner(FAULTY, [OWN / "faulty.c"], "1 serial 0a\n2 serial 0a\n", "--text", "--sanitize", "--cc", sanitizing_compiler,
                  "-DFAULT=((char *)heapmem_alloc(4))[4] = 1")
-    assert ran.returncode == 1 and b"heap-buffer-overflow" in ran.stderr and b"faulty.c:20" in ran.stderr, told(ran)
+    assert ran.returncode == 1 and b"heap-buffer-overflow" in ran.stderr and b"faulty.c:20" in ran.stderr, output_of(ran)
     assert b"contiki: mote 2, process 4 (Faulty), handling LINE (138)" in ran.stderr and ran.stdout.decode() == BEGUN
 
 

@@ -14,7 +14,7 @@ import pytest
 from contiki_programs import SOURCES, STATEMENT_LINE, Contiki, messages, outcome, place, program_of, write_source
 from test_contiki_refused import NO_PROGRAM
 from test_modules import MODULES, PLAIN_MODULES, WARNINGS, build_modules
-from tools import ROOT, SANITIZERS, needs, run, sanitizes, succeed, told
+from tools import ROOT, SANITIZERS, needs, output_of, run, sanitizes, succeed
 
 FOLDER = SOURCES / "programs"
 # Programs that take modules in C alone.
@@ -41,7 +41,7 @@ def test_program(contiki: Contiki, compiler: str, name: str) -> None:
     ran = contiki("--cc", compiler, "--text", *words, source.name, stdin=source.with_suffix(".script"), cwd=source.parent)
     lines = ran.stderr.splitlines(keepends=True)
     other = [line for line in lines if line != RTIMER_NOTE and b": the unit test " not in line]
-    assert (ran.returncode, ran.stdout, other) == (0, source.with_suffix(".text").read_bytes(), []), told(ran)
+    assert (ran.returncode, ran.stdout, other) == (0, source.with_suffix(".text").read_bytes(), []), output_of(ran)
     assert (RTIMER_NOTE in lines) == ("rtimer_set(" in source.read_text(encoding="utf-8"))
 
 
@@ -79,7 +79,7 @@ def test_posted_local(contiki: Contiki, tmp_path: Path, sanitizing_compiler: str
     built = tmp_path / "built"
     assert outcome(contiki("--cc", sanitizing_compiler, "--sanitize", "--build", built, source)) == (0, "", "")
     ran = run(built, "--text")
-    assert (ran.returncode, b"stack-use-after-return" in ran.stderr) == (1, True), told(ran)
+    assert (ran.returncode, b"stack-use-after-return" in ran.stderr) == (1, True), output_of(ran)
     assert run(built, "--text", settings={"ASAN_OPTIONS": "detect_stack_use_after_return=0"}).returncode == 0
 
 
@@ -115,13 +115,13 @@ def test_slip(contiki: Contiki, tmp_path: Path, slip: str, sanitizing_compiler: 
     """What is missing is reported in Contiki-NG's terms."""
     text, why = SLIPS[slip]
     ran = contiki("--cc", sanitizing_compiler, write_source(tmp_path, text))
-    assert (ran.returncode, messages(ran.stderr)) == (65, [*why, NO_PROGRAM]), told(ran)
+    assert (ran.returncode, messages(ran.stderr)) == (65, [*why, NO_PROGRAM]), output_of(ran)
 
 
 def test_slip_in_another_language(contiki: Contiki, tmp_path: Path) -> None:
     """It is also reported so where the compiler may speak another language."""
     ran = contiki(write_source(tmp_path, SLIPS["no begin"][0]), settings={"LANGUAGE": "de"})
-    assert messages(ran.stderr) == [NO_BEGIN, NO_PROGRAM], told(ran)
+    assert messages(ran.stderr) == [NO_BEGIN, NO_PROGRAM], output_of(ran)
 
 
 def test_own_module(contiki: Contiki, tmp_path: Path) -> None:
@@ -197,7 +197,7 @@ def test_modules_on_the_host(tmp_path: Path, sanitizing_compiler: str) -> None:
     succeed(sanitizing_compiler, "-std=c11", "-g", *WARNINGS, "-Wshadow", *SANITIZERS, f"-I{MODULES}/include",
             ROOT / "tests/c/modules/plain_test.c", *PLAIN_MODULES, "-o", tmp_path / "plain")
     ran = run(tmp_path / "plain")
-    assert (ran.returncode, ran.stderr) == (0, b""), told(ran)
+    assert (ran.returncode, ran.stderr) == (0, b""), output_of(ran)
     assert ran.stdout.count(b"Result: success\n") == ran.stdout.count(b"Result: ") == 5
     times = [tuple(map(int, it)) for it in re.findall(rb"^Start: (\d+)\nEnd: (\d+)\nDuration: (\d+)$", ran.stdout, re.M)]
     assert len(times) == 5 and all(begin <= end and took == end - begin for begin, end, took in times) and times[-1][0] > 0
@@ -226,4 +226,4 @@ def test_misuse_of_modules(modules_library: Path, shared: Path, tmp_path: Path, 
                ROOT / "tests/c/modules/misuse.c", modules, "-o", tmp_path / "misuse")
     assert outcome(made) == (0, "", "")
     ran = run(tmp_path / "misuse")
-    assert (ran.returncode == 0, b"use-after-poison" in ran.stderr) == (statement == USE, statement != USE), told(ran)
+    assert (ran.returncode == 0, b"use-after-poison" in ran.stderr) == (statement == USE, statement != USE), output_of(ran)

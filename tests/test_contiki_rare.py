@@ -8,7 +8,7 @@ from pathlib import Path
 import pytest
 
 from contiki_programs import Contiki, messages, outcome, place, program_of, write_source
-from tools import told
+from tools import output_of
 
 TWO_PROCESSES = """#include "contiki.h"
 #include "lib/heapmem.h"
@@ -48,7 +48,7 @@ def test_call_outside_of_any_process(contiki: Contiki, tmp_path: Path, call: str
     constructor = f"static __attribute__((constructor)) void early(void) {{ {call}; }}"
     source = write_source(tmp_path, headers + program_of('printf("not reached\\n");', constructor))
     ran = contiki(source)
-    assert (ran.returncode, ran.stdout, messages(ran.stderr)) == (1, b"", [what]), told(ran)
+    assert (ran.returncode, ran.stdout, messages(ran.stderr)) == (1, b"", [what]), output_of(ran)
 
 
 def test_block_of_a_process_that_waits(contiki: Contiki, tmp_path: Path) -> None:
@@ -56,7 +56,7 @@ def test_block_of_a_process_that_waits(contiki: Contiki, tmp_path: Path) -> None
     ran = contiki(write_source(tmp_path, TWO_PROCESSES))
     wanted = place("5 (Second)", "event 150", 6, 1) + ("a timer or a block of First must change, and can't: the process isn't running, or "
                                                        "is in an activation\n")
-    assert (ran.returncode, ran.stderr.decode()) == (1, wanted), told(ran)
+    assert (ran.returncode, ran.stderr.decode()) == (1, wanted), output_of(ran)
 
 
 def test_report_of_the_heap(contiki: Contiki, tmp_path: Path) -> None:
@@ -72,7 +72,7 @@ def test_report_of_the_heap(contiki: Contiki, tmp_path: Path) -> None:
 def test_illegal_instruction(contiki: Contiki, tmp_path: Path) -> None:
     ran = contiki(write_source(tmp_path, program_of("__builtin_trap();")))
     wanted = place("4 (Only)", "INIT (129)", 1, 0) + "a crash: an invalid instruction (SIGILL)\n"
-    assert (ran.returncode, ran.stderr.decode()) == (128 + signal.SIGILL, wanted), told(ran)
+    assert (ran.returncode, ran.stderr.decode()) == (128 + signal.SIGILL, wanted), output_of(ran)
 
 
 def test_text_of_no_address(contiki: Contiki, tmp_path: Path) -> None:
@@ -104,7 +104,7 @@ def test_record_by_hand(contiki: Contiki, tmp_path: Path, lines: str, status: in
     (tmp_path / "record").write_text(RECORD + lines, encoding="ascii")
     ran = contiki("--replay", tmp_path / "record", write_source(tmp_path, program_of("PROCESS_WAIT_EVENT();")))
     other_sources = "the record is of other sources: this run may be another one"
-    assert (ran.returncode, messages(ran.stderr)) == (status, [other_sources, *wanted]), told(ran)
+    assert (ran.returncode, messages(ran.stderr)) == (status, [other_sources, *wanted]), output_of(ran)
 
 
 @pytest.mark.parametrize("word", ["second", "heap", "node", "pointer"])
@@ -112,4 +112,5 @@ def test_head_of_a_record(contiki: Contiki, tmp_path: Path, word: str) -> None:
     """Each number of the first line must be one."""
     (tmp_path / "record").write_text(RECORD.replace(f" {word} ", f" {word} x"), encoding="ascii")
     ran = contiki("--replay", tmp_path / "record", write_source(tmp_path, program_of("PROCESS_WAIT_EVENT();")))
-    assert (ran.returncode, messages(ran.stderr)) == (2, ["this is no record: it doesn't begin with `# record 1 sources ..`"]), told(ran)
+    wanted = "this is no record: it doesn't begin with `# record 1 sources ..`"
+    assert (ran.returncode, messages(ran.stderr)) == (2, [wanted]), output_of(ran)

@@ -10,7 +10,7 @@ from pathlib import Path
 import pytest
 
 from contiki_programs import BLINKER, STRICT, Contiki, messages, outcome, script_of, transcript_of
-from tools import EXAMPLES, ROOT, SANITIZERS, Completed, Word, all_hold, run, succeed, told
+from tools import EXAMPLES, ROOT, SANITIZERS, Completed, Word, all_hold, output_of, run, succeed
 
 HERE = ROOT / "tests/c/firmware"
 BOARD = ROOT / "c/contiki/src/board"
@@ -47,7 +47,7 @@ def test_sort(tmp_path: Path) -> None:
 def recorded(contiki: Contiki, place: Path, source: Path, script: bytes, *words: str) -> tuple[Completed, bytes]:
     """A run with a record, and the record."""
     ran = contiki("--record", place, *words, source, stdin=script)
-    assert (ran.returncode, ran.stderr) == (0, b""), told(ran)
+    assert (ran.returncode, ran.stderr) == (0, b""), output_of(ran)
     return ran, place.read_bytes()
 
 
@@ -63,7 +63,7 @@ def test_replay_of_example(contiki: Contiki, tmp_path: Path, source: Path) -> No
     assert ran.stdout == transcript_of(source)
     again = replayed(contiki, tmp_path / "record", source, record)
     inputs = len([line for line in script_of(source).splitlines() if line and not line.startswith(b"#")])
-    assert (again.returncode, again.stdout) == (0, ran.stdout), told(again)
+    assert (again.returncode, again.stdout) == (0, ran.stdout), output_of(again)
     assert again.stderr.decode() == f"contiki: replayed {inputs} inputs and 0 values; {inputs + 1} checks agree\n"
 
 
@@ -85,7 +85,7 @@ def test_values_are_replayed(contiki: Contiki, tmp_path: Path) -> None:
     assert first.stdout != second.stdout and len(re.findall(rb"^# value ", record, re.M)) == 4
     for words in ["--text"], ["--text", "--sanitize"]:
         again = replayed(contiki, tmp_path / "record", THERMO, record, *words)
-        assert (again.returncode, again.stdout) == (0, first.stdout), told(again)
+        assert (again.returncode, again.stdout) == (0, first.stdout), output_of(again)
 
 
 def parts_of(record: bytes) -> list[int]:
@@ -105,7 +105,7 @@ def test_each_part_counts(contiki: Contiki, tmp_path: Path) -> None:
         changed.append(lines[:at] + [lines[at][:-2] + (b"1" if digit != b"1" else b"2") + b"\n"] + lines[at + 1:])
     for it in changed:
         ran = run(program, "--replay", stdin=b"".join(it))
-        assert ran.returncode == 1 and re.search(rb"contiki: .*line \d+ of the record: ", ran.stderr), (it, told(ran))
+        assert ran.returncode == 1 and re.search(rb"contiki: .*line \d+ of the record: ", ran.stderr), (it, output_of(ran))
     assert run(program, "--replay", stdin=record).returncode == 0
 
 
@@ -117,7 +117,7 @@ def test_cut_record(contiki: Contiki, tmp_path: Path) -> None:
     lengths = set()
     for end in range(record.index(b"\n") + 1, len(record) + 1):
         again = run(program, "--replay", stdin=record[:end])
-        assert again.returncode == 0 and ran.stdout.startswith(again.stdout), (end, told(again))
+        assert again.returncode == 0 and ran.stdout.startswith(again.stdout), (end, output_of(again))
         lengths.add(len(again.stdout))
     assert len(lengths) > 4 and max(lengths) == len(ran.stdout)
 
@@ -145,7 +145,7 @@ def test_source_is_not_overwritten(contiki: Contiki, tmp_path: Path, words: list
     with (tmp_path / "run.record").open("rb") as script:
         ran = subprocess.run([ROOT / "contiki", "--library", contiki.library, *words], cwd=tmp_path, stdin=script, capture_output=True,
                              check=False)
-    assert (ran.returncode, messages(ran.stderr)) == (64, [told_as]), told(ran)
+    assert (ran.returncode, messages(ran.stderr)) == (64, [told_as]), output_of(ran)
     assert {it.name: it.read_text(encoding="utf-8") for it in tmp_path.iterdir()} == texts
 
 
@@ -169,7 +169,7 @@ def test_record_is_replaced(contiki: Contiki, tmp_path: Path, before: str) -> No
 def test_refused_replay(contiki: Contiki, tmp_path: Path, record: bytes | str, words: list[str], status: int, told_as: str) -> None:
     _, whole = recorded(contiki, tmp_path / "record", THERMO, SECONDS)
     ran = replayed(contiki, tmp_path / "record", THERMO, record if isinstance(record, bytes) else whole, *words)
-    assert ran.returncode == status and told_as in messages(ran.stderr), told(ran)
+    assert ran.returncode == status and told_as in messages(ran.stderr), output_of(ran)
 
 
 def test_replay_of_another_program(contiki: Contiki, tmp_path: Path) -> None:
@@ -218,15 +218,15 @@ def test_board_that_begins_anew_within_a_line(contiki: Contiki, tmp_path: Path) 
         again = run(program, "--replay", stdin=record[:end] + record)
         number = record[:end].count(10) + 1
         begun = f"another run begins at line {number} of the record: replay it from a file of its own"
-        assert again.returncode == 0 and ran.stdout.startswith(again.stdout), (end, told(again))
-        assert messages(again.stderr)[:-1] == ([begun] if number > 1 else []), (end, told(again))
+        assert again.returncode == 0 and ran.stdout.startswith(again.stdout), (end, output_of(again))
+        assert messages(again.stderr)[:-1] == ([begun] if number > 1 else []), (end, output_of(again))
 
 
 def test_byte_0_in_a_record(contiki: Contiki, tmp_path: Path) -> None:
     """A line doesn't end at a byte 0: what follows it would be lost unnoticed."""
     _, record = recorded(contiki, tmp_path / "record", THERMO, b"tick 1\ntick 2\n")
     ran = replayed(contiki, tmp_path / "record", THERMO, record.replace(b"tick 1\n", b"tick 1\0"))
-    assert (ran.returncode, messages(ran.stderr)) == (1, ["line 3 of the record has a byte 0"]), told(ran)
+    assert (ran.returncode, messages(ran.stderr)) == (1, ["line 3 of the record has a byte 0"]), output_of(ran)
 
 
 def test_long_record(contiki: Contiki, tmp_path: Path) -> None:
@@ -245,7 +245,7 @@ def test_refused_run_keeps_the_record(contiki: Contiki, tmp_path: Path) -> None:
     succeed(ROOT / "contiki", "--library", contiki.library, "--build", program, BLINKER)
     for words, told_as in ((["--heap", "3"], "bad sizes"), (["--replay"], "--replay makes no record: leave out --record")):
         ran = run(program, *words, "--record", tmp_path / "record", stdin=record)
-        assert (ran.returncode, messages(ran.stderr)) == (64, [told_as]), told(ran)
+        assert (ran.returncode, messages(ran.stderr)) == (64, [told_as]), output_of(ran)
         assert (tmp_path / "record").read_bytes() == record
 
 
@@ -254,9 +254,9 @@ def test_record_from_a_pipe(contiki: Contiki, tmp_path: Path) -> None:
     ran, _ = recorded(contiki, tmp_path / "record", BLINKER, b"tick 1\n")
     words: list[Word] = [ROOT / "contiki", "--library", contiki.library, "--replay", "/dev/stdin", BLINKER]
     again = run("bash", "-c", 'cat "$1" | "${@:2}"', "-", tmp_path / "record", *words)
-    assert (again.returncode, again.stdout) == (0, ran.stdout), told(again)
+    assert (again.returncode, again.stdout) == (0, ran.stdout), output_of(again)
     folder = run(*words[:3], "--replay", tmp_path, BLINKER)
-    assert (folder.returncode, messages(folder.stderr)) == (64, [f"{tmp_path}: no such file"]), told(folder)
+    assert (folder.returncode, messages(folder.stderr)) == (64, [f"{tmp_path}: no such file"]), output_of(folder)
 
 
 def test_full_disk(contiki: Contiki, tmp_path: Path) -> None:
@@ -266,7 +266,7 @@ def test_full_disk(contiki: Contiki, tmp_path: Path) -> None:
     ran = run("bash", "-c", 'trap "" XFSZ; ulimit -f 1; exec "$@"', "-", program, "--record", record, stdin=b"tick 100\n" * 100)
     assert (ran.returncode, messages(ran.stderr)) == (6, ["the record can't be written"]) and record.stat().st_size == 1024
     again = run(program, "--replay", record)
-    assert again.returncode == 0 and again.stdout.count(b"\n") > 30 and ran.stdout.startswith(again.stdout), told(again)
+    assert again.returncode == 0 and again.stdout.count(b"\n") > 30 and ran.stdout.startswith(again.stdout), output_of(again)
 
 
 def test_bug_is_found_by_a_replay(contiki: Contiki, tmp_path: Path) -> None:
@@ -275,7 +275,7 @@ def test_bug_is_found_by_a_replay(contiki: Contiki, tmp_path: Path) -> None:
     _, record = recorded(contiki, tmp_path / "record", HERE / "meter.c", script, "--text")
     assert replayed(contiki, tmp_path / "record", HERE / "meter.c", record, "--text").returncode == 0
     found = replayed(contiki, tmp_path / "record", HERE / "meter.c", record, "--text", "--sanitize")
-    assert found.returncode == 1 and b"handling PACKET (139)" in found.stderr and b"meter.c:19:" in found.stderr, told(found)
+    assert found.returncode == 1 and b"handling PACKET (139)" in found.stderr and b"meter.c:19:" in found.stderr, output_of(found)
 
 
 def test_record_of_a_board(contiki: Contiki) -> None:
@@ -300,4 +300,4 @@ def test_value_outside_of_a_process(contiki: Contiki, tmp_path: Path) -> None:
                       'static uint32_t read_it(void) { return 1; }\n__attribute__((constructor)) static void begin(void) '
                       '{ value_of(read_it); }\nPROCESS_THREAD(only, ev, data) { PROCESS_BEGIN(); PROCESS_END(); }\n', encoding="utf-8")
     ran = contiki(source)
-    assert (ran.returncode, messages(ran.stderr)) == (1, ["value_of is called outside of any process"]), told(ran)
+    assert (ran.returncode, messages(ran.stderr)) == (1, ["value_of is called outside of any process"]), output_of(ran)

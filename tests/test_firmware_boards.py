@@ -17,7 +17,7 @@ import pytest
 
 from contiki_programs import Contiki, messages, program_of, script_of, transcript_of, write_source
 from emulator import CORES, HAS_NEWLIB, PATIENCE, Builder, Emulated, kernels, replay, run_script, whole_lines
-from tools import EXAMPLES, ROOT, Word, needs, run, told
+from tools import EXAMPLES, ROOT, Word, needs, output_of, run
 
 pytestmark = [needs("arm-none-eabi-gcc", "qemu-system-arm"),
               pytest.mark.skipif(not HAS_NEWLIB, reason="not here: libnewlib-arm-none-eabi")]
@@ -56,7 +56,7 @@ def check_replay(contiki: Contiki, place: Path, board: Emulated, source: Path, *
     board.finish()
     ran = replay(contiki, place, whole_lines(board.heard["record"]), source, "--text", *words)
     told_last = messages(ran.stderr)[-1]
-    assert ran.returncode == 0 and re.fullmatch(r"replayed \d+ inputs and \d+ values; [1-9]\d* checks agree", told_last), told(ran)
+    assert ran.returncode == 0 and re.fullmatch(r"replayed \d+ inputs and \d+ values; [1-9]\d* checks agree", told_last), output_of(ran)
     heard, made = board.heard["console"], ran.stdout
     assert heard.startswith(made) or made.startswith(heard), (heard[-300:], made[-300:])
     assert abs(len(heard) - len(made)) < 256
@@ -95,7 +95,7 @@ def test_what_does_not_fit(build: Builder, tmp_path: Path, what: str, told_as: s
     """The message says which memory is too small."""
     source = write_source(tmp_path, program_of('printf("%d", all[clock_time()]);', f"{what};"))
     ran = run(ROOT / "contiki", "--library", build.library, "--board", "lm3s6965", level, source, "-o", tmp_path / "image")
-    assert ran.returncode == 65 and messages(ran.stderr)[0] == told_as, told(ran)
+    assert ran.returncode == 65 and messages(ran.stderr)[0] == told_as, output_of(ran)
 
 
 @pytest.mark.parametrize("board", CORES)
@@ -160,7 +160,7 @@ def test_values(contiki: Contiki, build: Builder, boards: list[Emulated], tmp_pa
     lines = whole_lines(it.heard["record"]).splitlines(keepends=True)
     at = next(number for number, line in enumerate(lines) if line.startswith(b"# value "))
     ran = replay(contiki, tmp_path / "record", b"".join(lines[:at] + lines[at + 1:]), HERE / "thermo.c")
-    assert ran.returncode == 1 and b"this run reads a value, which its run didn't" in ran.stderr, told(ran)
+    assert ran.returncode == 1 and b"this run reads a value, which its run didn't" in ran.stderr, output_of(ran)
 
 
 def test_widths(contiki: Contiki, build: Builder, boards: list[Emulated], tmp_path: Path) -> None:
@@ -171,8 +171,8 @@ def test_widths(contiki: Contiki, build: Builder, boards: list[Emulated], tmp_pa
     it.until("record", b"# check ", 2)
     it.pump(0.3)
     ran = replay(contiki, tmp_path / "record", whole_lines(it.heard["record"]), HERE / "widths.c", "--text")
-    assert ran.returncode == 1, told(ran)
-    assert messages(ran.stderr)[-1].endswith("does the program depend on the size of a pointer, of a long or of a struct?"), told(ran)
+    assert ran.returncode == 1, output_of(ran)
+    assert messages(ran.stderr)[-1].endswith("does the program depend on the size of a pointer, of a long or of a struct?"), output_of(ran)
 
 
 def test_two_boards(contiki: Contiki, build: Builder, boards: list[Emulated], tmp_path: Path) -> None:
@@ -244,7 +244,7 @@ def test_record_that_nobody_reads(contiki: Contiki, build: Builder, boards: list
     it.until("record", b"# the record ends here: the port is too slow\n")
     assert whole_lines(it.heard["record"]).endswith(b"# the record ends here: the port is too slow\n")
     ran = replay(contiki, tmp_path / "record", whole_lines(it.heard["record"]), source, "--text")
-    assert ran.returncode == 0 and it.heard["console"].startswith(ran.stdout[:len(it.heard["console"])]), told(ran)
+    assert ran.returncode == 0 and it.heard["console"].startswith(ran.stdout[:len(it.heard["console"])]), output_of(ran)
 
 
 FAULTS = ["null", "zero", "exit", "abort", "assert", "timers", "8", "100", "1000", "4000"]
@@ -252,7 +252,7 @@ FAULTS = ["null", "zero", "exit", "abort", "assert", "timers", "8", "100", "1000
 
 @pytest.mark.parametrize("how", FAULTS)
 def test_fault(contiki: Contiki, build: Builder, boards: list[Emulated], tmp_path: Path, how: str) -> None:
-    """A fault is told on the console and in the record with the simulator's message, and the board begins anew; the replay has the same
+    """A fault is reported on the console and in the record with the simulator's message, and the board begins anew; the replay has the same
     fault at the same place."""
     board = "lm3s6965" if how in ("null", "100", "4000") else LARGE
     source = HERE / "faults.c"
@@ -262,7 +262,8 @@ def test_fault(contiki: Contiki, build: Builder, boards: list[Emulated], tmp_pat
     assert it.ended() == 0
     ran = replay(contiki, tmp_path / "record", it.heard["record"], source, "--text")
     (message,) = messages(ran.stderr)
-    assert f"contiki: {message}\n".encode() in it.heard["console"] and f"# contiki: {message}\n".encode() in it.heard["record"], told(ran)
+    line = f"contiki: {message}\n".encode()
+    assert line in it.heard["console"] and b"# " + line in it.heard["record"], output_of(ran)
     assert it.heard["console"].startswith(b"ready\n" + how.encode() + b"\n")
 
 
@@ -277,7 +278,7 @@ def own_board(folder: Path, old: str = "", new: str = "", name: str = "mine") ->
 
 def build_own(build: Builder, place: Path, board: Path, source: Path, *words: Word) -> Path:
     ran = run(ROOT / "contiki", "--library", build.library, "--board", board, *words, source, "-o", place)
-    assert (ran.returncode, ran.stderr) == (0, b""), told(ran)
+    assert (ran.returncode, ran.stderr) == (0, b""), output_of(ran)
     return place
 
 
@@ -377,7 +378,7 @@ def test_names_and_standard_functions(contiki: Contiki, build: Builder, tmp_path
     ran = run(ROOT / "contiki", "--library", build.library, "--board", LARGE, "--script", tmp_path / "empty", "--run", HERE / source,
               *words, timeout=PATIENCE)
     there = contiki(HERE / source, *words)
-    assert (ran.returncode, ran.stdout, ran.stderr) == (0, there.stdout, b"") and ran.stdout.count(b"print") > 4, told(ran)
+    assert (ran.returncode, ran.stdout, ran.stderr) == (0, there.stdout, b"") and ran.stdout.count(b"print") > 4, output_of(ran)
 
 
 def test_slow_reader_of_a_transcript(build: Builder) -> None:
@@ -386,7 +387,7 @@ def test_slow_reader_of_a_transcript(build: Builder) -> None:
     script = script_beside(source)
     words: list[Word] = [ROOT / "contiki", "--library", build.library, "--board", LARGE, "--script", script, "--run", source]
     ran = run("bash", "-c", '"$@" | { sleep 6; cat; }', "-", *words, timeout=PATIENCE)
-    assert ran.stdout == script.with_suffix(".transcript").read_bytes(), told(ran)
+    assert ran.stdout == script.with_suffix(".transcript").read_bytes(), output_of(ran)
 
 
 def test_run_by_the_command(contiki: Contiki, build: Builder) -> None:
@@ -394,7 +395,7 @@ def test_run_by_the_command(contiki: Contiki, build: Builder) -> None:
     source = CONTIKI / "kitchen.c"
     words: list[Word] = [ROOT / "contiki", "--library", build.library, "--board", LARGE, "--script", source.with_suffix(".script")]
     ran = run(*words, "--run", source, timeout=PATIENCE)
-    assert (ran.returncode, ran.stdout) == (0, transcript_of(source)), told(ran)
+    assert (ran.returncode, ran.stdout) == (0, transcript_of(source)), output_of(ran)
     printed = run(*words, "--run", "--text", source, timeout=PATIENCE).stdout
     assert printed == contiki("--text", source, stdin=script_of(source)).stdout
 
@@ -465,7 +466,7 @@ def test_run_at_a_terminal(contiki: Contiki, build: Builder, tmp_path: Path) -> 
     os.write(terminal.file, b"\x03")
     assert terminal.ends()
     ran = contiki("--replay", record, "--text", source)
-    assert (ran.returncode, ran.stdout) == (0, b"help, echo TEXT, count N\n"), told(ran)
+    assert (ran.returncode, ran.stdout) == (0, b"help, echo TEXT, count N\n"), output_of(ran)
 
 
 @pytest.mark.parametrize("words,told_as", [
@@ -487,7 +488,7 @@ def test_refused(contiki: Contiki, tmp_path: Path, words: list[str], told_as: st
     for name in "toarmuts.h", "toarmuts_memory.c":
         (tmp_path / name).write_bytes((contiki.library / name).read_bytes())
     ran = run(ROOT / "contiki", "--library", tmp_path, *words, CONTIKI / "blinker.c", cwd=tmp_path)
-    assert (ran.returncode, messages(ran.stderr)) == (64, [told_as]), told(ran)
+    assert (ran.returncode, messages(ran.stderr)) == (64, [told_as]), output_of(ran)
 
 
 @pytest.mark.parametrize("lacks,words,told_as", [
@@ -503,4 +504,4 @@ def test_missing_tool(tmp_path: Path, lacks: str, words: list[str], told_as: str
             if it.name != lacks and not (tools / it.name).exists():
                 (tools / it.name).symlink_to(it)
     ran = run(ROOT / "contiki", "--board", LARGE, "-o", "image", *words, CONTIKI / "blinker.c", settings={"PATH": str(tools)}, cwd=tmp_path)
-    assert (ran.returncode, messages(ran.stderr)) == (69, [told_as]), told(ran)
+    assert (ran.returncode, messages(ran.stderr)) == (69, [told_as]), output_of(ran)

@@ -14,7 +14,7 @@ from contiki_programs import Contiki
 from emulator import HAS_NEWLIB, Builder, kernels, run_script
 from random_calls import random_lists
 from test_contiki import random_script
-from tools import ROOT, needs, run, told
+from tools import ROOT, needs, output_of, run
 
 pytestmark = [needs("arm-none-eabi-gcc", "qemu-system-arm"),
               pytest.mark.skipif(not HAS_NEWLIB, reason="not here: libnewlib-arm-none-eabi")]
@@ -64,7 +64,7 @@ def test_random_programs(contiki: Contiki, build: Builder, tmp_path: Path, turn:
         there.write_bytes(written(written(image, LISTS_MARK, lists, LISTS_ROOM, b"\0"), SCRIPT_MARK, script, SCRIPT_ROOM, b"\n"))
         wanted = run(here, *SIZES[turn], stdin=script)
         _, transcript, status = run_script(there, BOARD)
-        assert (status, transcript) == (wanted.returncode, wanted.stdout), f"{seed}: {told(wanted)}"
+        assert (status, transcript) == (wanted.returncode, wanted.stdout), f"{seed}: {output_of(wanted)}"
         lines += transcript.count(b"\n")
         statuses.add(status)
         here.unlink()

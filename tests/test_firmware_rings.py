@@ -9,7 +9,7 @@ from pathlib import Path
 import pytest
 
 from contiki_programs import STRICT
-from tools import CRATES, ROOT, SANITIZERS, Completed, all_hold, needs, run, succeed, told, with_sanitizers
+from tools import CRATES, ROOT, SANITIZERS, Completed, all_hold, needs, output_of, run, succeed, with_sanitizers
 
 HERE = ROOT / "tests/c/firmware"
 SOURCES = ROOT / "c/contiki/src"
@@ -109,4 +109,4 @@ def test_planted_error(tmp_path: Path, what: str) -> None:
     (sources / "board" / file).write_text(text, encoding="utf-8")
     options = thread_sanitizer(tmp_path) if name == "rings_threads" else ("-O1", "-DRANDOM_CALLS=20000")
     ran = run_test("gcc", name, tmp_path, *options, sources=sources)
-    assert ran.returncode != 0, told(ran)
+    assert ran.returncode != 0, output_of(ran)

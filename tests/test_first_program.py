@@ -8,7 +8,7 @@ from pathlib import Path
 
 import pytest
 
-from tools import EXAMPLES, ROOT, Completed, library, needs, program, run, succeed, told
+from tools import EXAMPLES, ROOT, Completed, library, needs, output_of, program, run, succeed
 
 PAGES = {name: (ROOT / name).read_text(encoding="utf-8") for name in ("README.md", "CONTRIBUTING.md", "docs/first-program.md")}
 FIRST = EXAMPLES / "first"
@@ -79,7 +79,7 @@ def test_commands(tmp_path: Path) -> None:
         ran = shell(command, tmp_path)
         made = re.search(r"> (\w+\.\w+)$", command)
         printed = (tmp_path / made[1]).read_bytes() if made else ran.stdout
-        assert command in shown and ran.returncode == 0, f"{command}\n{told(ran)}"
+        assert command in shown and ran.returncode == 0, f"{command}\n{output_of(ran)}"
         assert printed == (wanted if isinstance(wanted, bytes) else wanted.read_bytes()), command
 
 
@@ -114,5 +114,5 @@ DEBUGGER = next(line for line in ELSEWHERE if "--gdb" in line)
 def test_debugger(command: str, folder: Path) -> None:
     """The commands of the page stop at the serial line's event, with its bytes; so they do as a task of VS Code."""
     ran = run("bash", "-c", command, cwd=folder, settings={"GDB": f"gdb -q -batch -x {FIRST / 'pulse.gdb'}"})
-    assert re.search(rb'\$1 = 138 .*\$2 = 0x[0-9a-f]+ [^\n]*"hi"\n', ran.stdout, re.S), told(ran)
+    assert re.search(rb'\$1 = 138 .*\$2 = 0x[0-9a-f]+ [^\n]*"hi"\n', ran.stdout, re.S), output_of(ran)
     assert ran.stdout.count(b"\nBreakpoint 1, ") == 1

@@ -6,7 +6,7 @@ from pathlib import Path
 import pytest
 
 from fuzz_targets import FOLDER, NAMES, build, corpus, has_fuzzer, unpack
-from tools import library, run, told
+from tools import library, output_of, run
 
 # The least number of inputs of each corpus: without them a replay would show nothing.
 LEAST = {"network_files": 100, "library": 100, "ipv6": 100, "heapmem": 20, "mmem": 10, "memb": 2}
@@ -26,8 +26,8 @@ def test_corpus(tmp_path: Path, name: str) -> None:
     inputs = unpack(name, tmp_path / "inputs")
     count = len(list(inputs.iterdir()))
     ran = run(build(name, tmp_path / name), "-runs=0", inputs, timeout=600)
-    assert ran.returncode == 0, told(ran)
+    assert ran.returncode == 0, output_of(ran)
     read = re.search(rb"INFO: +(\d+) files found", ran.stderr)
-    assert read is not None and int(read[1]) == count >= LEAST[name], told(ran)
+    assert read is not None and int(read[1]) == count >= LEAST[name], output_of(ran)
     # The library's target prints the refusals and the steps of a network that no input had.
-    assert ran.stdout == b"", told(ran)
+    assert ran.stdout == b"", output_of(ran)

@@ -11,7 +11,7 @@ import pytest
 
 from contiki_programs import HELLO, STRICT, Contiki, messages, program_of, write_source
 from ipv6_runs import CLIENT, IPV6, OWN, SERVER, Frame, delivery_of, dissect, frames_of, run_network, serial, text_of, write_capture
-from tools import ROOT, SANITIZERS, needs, program, run, sanitizes, succeed, told
+from tools import ROOT, SANITIZERS, needs, output_of, program, run, sanitizes, succeed
 
 EXAMPLES = {"readings": ["sink.c", "sensor.c"], "talk": ["talk.c"], "events": ["events.c"]}
 BUILDS = {"gcc": ["--cc", "gcc"], "clang, sanitized": ["--cc", "clang", "--sanitize"]}
@@ -27,7 +27,7 @@ TREE = "mote 1 udp-server.c\nmote 2..30 udp-client.c\n" + "".join(
 def test_example(contiki: Contiki, name: str, build: str) -> None:
     ran = contiki("--network", IPV6 / f"{name}.net", *BUILDS[build], *STRICT, "--text", *(IPV6 / source for source in EXAMPLES[name]),
                   stdin=IPV6 / f"{name}.script")
-    assert (ran.returncode, ran.stdout, ran.stderr) == (0, (IPV6 / f"{name}.text").read_bytes(), b""), told(ran)
+    assert (ran.returncode, ran.stdout, ran.stderr) == (0, (IPV6 / f"{name}.text").read_bytes(), b""), output_of(ran)
 
 
 def test_each_example_is_tried() -> None:
@@ -56,6 +56,19 @@ def test_sockets(contiki: Contiki, tmp_path: Path) -> None:
         "2 1", "2 -1 -1", "1 1 5"]
 
 
+def test_connections(contiki: Contiki, tmp_path: Path) -> None:
+    """UDP by events: with that of the other process and that to mote 1 there are ten connections. Mote 3 hears what goes to all, and by its
+    connection to mote 1 only that one. What is for a process that has ended is dropped. A packet without data isn't sent."""
+    script = serial(1, "hello") + "tick 2\n" + serial(1, "one") + serial(2, "one") + "tick 2\n" + serial(3, "drop") + serial(2, "other") + \
+        "tick 2\n" + serial(3, "drop") + serial(3, "end") + serial(2, "other") + "tick 2\n" + serial(3, "drop") + serial(2, "nothing") + \
+        "tick 2\n"
+    network = "mote 1..3 connections.c\nlink 1 3 delay 1\nlink 2 3 delay 1\nlink 3 1 delay 1\n"
+    lines = text_of(contiki, tmp_path, network, [OWN / "connections.c"], script, *STRICT, "--sanitize")
+    begin = [f"{mote} {line}" for mote in (1, 2, 3) for line in ("8 more, then 1", "port 3000")]
+    assert lines == [*begin, "3 hello from port 3000, 0 1, new 1", "3 one from port 3000, 1 0, new 1", "3 dropped 1", "3 dropped 1",
+                     "3 dropped 2"]
+
+
 # ---- rpl-udp ----
 
 def test_stored_chart(contiki: Contiki) -> None:
@@ -63,7 +76,7 @@ def test_stored_chart(contiki: Contiki) -> None:
     network = IPV6 / "rpl-udp.net"
     ran = contiki("--network", network, SERVER, CLIENT, stdin=network.with_suffix(".script"))
     drawn = run(program("network_picture"), "--to", "910", stdin=network.read_bytes() + ran.stdout)
-    assert drawn.stdout == network.with_suffix(".svg").read_bytes(), told(drawn)
+    assert drawn.stdout == network.with_suffix(".svg").read_bytes(), output_of(drawn)
 
 
 def test_line(contiki: Contiki, tmp_path: Path) -> None:
@@ -129,7 +142,7 @@ def test_root_forgets(contiki: Contiki, tmp_path: Path) -> None:
     script = "tick 12800\n" + serial(1, "halt") + "tick 1\n" + serial(5, "be") + "tick 5760\n" + serial(5, "late") + "tick 7680\n"
     ran = contiki("--network", file, "--text", OWN / "commanded.c", OWN / "heir.c", CLIENT, stdin=script.encode())
     lines = ran.stdout.decode().splitlines()
-    assert ran.returncode == 0 and b"contiki: mote 1 halted: " in ran.stderr, told(ran)
+    assert ran.returncode == 0 and b"contiki: mote 1 halted: " in ran.stderr, output_of(ran)
     halted, late = (lines.index(line) for line in ("1 halt", "5 late"))
     assert {mote for mote, _ in delivery_of(lines[:halted]).answered} == {2, 3, 4}
     after = delivery_of(lines[late:])
@@ -146,7 +159,7 @@ def test_mote_halts(contiki: Contiki, tmp_path: Path, halted: int) -> None:
     script = "tick 5120\n" + serial(halted, "halt") + "tick 10240\n" + serial(5 - halted, "ip.drop") + "tick 5120\n"
     ran = contiki("--network", file, "--text", SERVER, OWN / "counts.c", CLIENT, stdin=script.encode())
     lines = ran.stdout.decode().splitlines()
-    assert ran.returncode == 0 and f"contiki: mote {halted} halted: ".encode() in ran.stderr, told(ran)
+    assert ran.returncode == 0 and f"contiki: mote {halted} halted: ".encode() in ran.stderr, output_of(ran)
     end, = (index for index, line in enumerate(lines) if line.startswith(f"{5 - halted} ip.drop"))
     late = delivery_of(lines[end:])
     assert len(late.sent) >= 3 and late.answered == late.sent
@@ -236,13 +249,13 @@ LAST = "the program has settings that change nothing; docs/ipv6.md lists what th
 def test_refused_settings(contiki: Contiki, tmp_path: Path, compiler: str) -> None:
     source = write_source(tmp_path, program_of("NETSTACK_ROUTING.root_start();"))
     ran = contiki("--cc", compiler, *(f"-D{setting}" for setting in REFUSED), source)
-    assert ran.returncode == 65 and sorted(messages(ran.stderr)) == sorted([*REFUSED.values(), LAST]), told(ran)
+    assert ran.returncode == 65 and sorted(messages(ran.stderr)) == sorted([*REFUSED.values(), LAST]), output_of(ran)
 
 
 def test_settings_of_a_program_without_ipv6(contiki: Contiki, tmp_path: Path) -> None:
     source = write_source(tmp_path, program_of('printf("on\\n");'))
     ran = contiki("--text", *(f"-D{setting}" for setting in REFUSED), source)
-    assert (ran.returncode, ran.stdout, ran.stderr) == (0, b"on\n", b""), told(ran)
+    assert (ran.returncode, ran.stdout, ran.stderr) == (0, b"on\n", b""), output_of(ran)
 
 
 def test_settings_take_effect(contiki: Contiki, tmp_path: Path) -> None:
@@ -262,10 +275,10 @@ def test_settings_take_effect(contiki: Contiki, tmp_path: Path) -> None:
 
 def test_nullnet_beside_ipv6(contiki: Contiki, tmp_path: Path) -> None:
     source = write_source(tmp_path, program_of("NETSTACK_ROUTING.root_start(); NETSTACK_NETWORK.output(NULL);"))
+    wanted = "a program sends by NullNet (nullnet.h, NETSTACK_NETWORK) or by IPv6 (simple-udp.h, NETSTACK_ROUTING), not by both"
     for compiler in ("gcc", "clang"):
         ran = contiki("--cc", compiler, source)
-        assert ran.returncode == 65 and messages(ran.stderr)[0] == \
-            "a program sends by NullNet (nullnet.h, NETSTACK_NETWORK) or by IPv6 (simple-udp.h, NETSTACK_ROUTING), not by both", told(ran)
+        assert (ran.returncode, messages(ran.stderr)[0]) == (65, wanted), output_of(ran)
 
 
 def test_program_without_udp_has_no_stack(contiki: Contiki, tmp_path: Path) -> None:
@@ -290,7 +303,7 @@ def test_texts_of_addresses(contiki: Contiki, tmp_path: Path) -> None:
     body = "uip_ipaddr_t a; " + " ".join(
         f'if(uiplib_ip6addrconv("{text}", &a)) {{ uiplib_ipaddr_print(&a); }} else {{ printf("0"); }} printf("\\n");' for text in TEXTS)
     ran = contiki("--text", "--sanitize", write_source(tmp_path, program_of(body)))
-    assert ran.stdout.decode().splitlines() == list(TEXTS.values()), told(ran)
+    assert ran.stdout.decode().splitlines() == list(TEXTS.values()), output_of(ran)
 
 
 # ---- Frames ----

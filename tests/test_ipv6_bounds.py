@@ -6,7 +6,7 @@ import pytest
 
 from contiki_programs import Contiki, messages, program_of, write_source
 from ipv6_runs import CLIENT, IPV6, SERVER, delivery_of, frames_of, run_network, serial, text_of
-from tools import told
+from tools import output_of
 
 LINE = "mote 1 udp-server.c\nmote 2..4 udp-client.c\nline 1..4 delay 1\n"
 PAIR = "mote 1 udp-server.c\nmote 2 udp-client.c\nline 1..2 delay 1\n"
@@ -70,7 +70,7 @@ def flags(settings: list[str]) -> list[str]:
 def test_beyond(contiki: Contiki, tmp_path: Path, refused: dict[str, str]) -> None:
     source = write_source(tmp_path, program_of("NETSTACK_ROUTING.root_start();"))
     ran = contiki(*flags(list(refused)), source)
-    assert ran.returncode == 65 and sorted(messages(ran.stderr)) == sorted([*refused.values(), LAST]), told(ran)
+    assert ran.returncode == 65 and sorted(messages(ran.stderr)) == sorted([*refused.values(), LAST]), output_of(ran)
 
 
 @pytest.mark.parametrize("settings", BOTH)

@@ -50,9 +50,9 @@ def udp(source: str, destination: str, port: int, data: bytes) -> str:
     return (head + checksum(source, destination, 17, head + b"\0\0" + data) + data).hex()
 
 
-def plain(source: str, destination: str, protocol: str, content: str) -> str:
-    """A packet with hop limit 64: RFC 8200, section 3."""
-    return "60000000" f"{len(content) // 2:04x}" + protocol + "40" + source + destination + content
+def plain(source: str, destination: str, protocol: str, content: str, begin: str = "60000000", limit: str = "40") -> str:
+    """A packet with hop limit 64, unless another one is given: RFC 8200, section 3."""
+    return begin + f"{len(content) // 2:04x}" + protocol + limit + source + destination + content
 
 
 def link(mote: int) -> str:
@@ -121,6 +121,9 @@ TOO_MANY_LEFT = plain(near(9), near(1), "2b", route(2, far(3)))
 OTHER_KIND = plain(near(9), near(1), "2b", route(1, far(3), kind=5))
 ROUND = plain(near(9), near(1), "2b", route(2, end(1), end(3), end(1)))
 NO_SUCH_PORT = plain(near(9), near(1), "11", udp(near(9), near(1), 99, b"x"))
+# A route to mote 3, and its compressed header after that of its kind: 22 bytes (RFC 6282, section 4.2).
+TO_MOTE_3, ROUTED = route(1, far(3)), "16" "0300" "00000000" + far(1)
+BY_SHORT, BY_OTHER = "fd00000000000000" "000000fffe001234", "20010db8000000000000000000000007"
 ELSEWHERE = plain(far(2), "20010db800000000" + end(2), "3b", "")
 
 # Frames to a root, and what it sends then.
@@ -137,6 +140,20 @@ EXCHANGES = {
         frame("41" + plain(far(9), far(1), "2b", route(1, far(3)))),
         # Hop limit 63 in line, the sender's end in line, the receiver's address left out; a routing header of 22 bytes, next header none.
         [sent("7c573f" + end(9) + "e2" "3b" "16" "0300" "00000000" + far(1), 3)]),
+    "RFC 6282, 3.1.1: a traffic class and a flow label are in line, the ECN first": (
+        frame("41" + plain(far(9), far(1), "2b", TO_MOTE_3, "6ab12345")), [sent("6457" "ea012345" "3f" + end(9) + "e2" "3b" + ROUTED, 3)]),
+    "RFC 6282, 3.1.1: a sender of 16 bits by context 0": (
+        frame("41" + plain(BY_SHORT, far(1), "2b", TO_MOTE_3)), [sent("7c67" "3f" "1234" "e2" "3b" + ROUTED, 3)]),
+    "RFC 6282, 3.1.1: a sender of 128 bits": (
+        frame("41" + plain(BY_OTHER, far(1), "2b", TO_MOTE_3)), [sent("7c07" "3f" + BY_OTHER + "e2" "3b" + ROUTED, 3)]),
+    "RFC 6282, 3.1.1: a hop limit that becomes 1": (
+        frame("41" + plain(far(9), far(1), "2b", TO_MOTE_3, limit="02")), [sent("7d57" + end(9) + "e2" "3b" + ROUTED, 3)]),
+    "RFC 6282, 4.2: a routing header before destination options, which are the last header": (
+        frame("41" + plain(far(9), far(1), "2b", "3c" + TO_MOTE_3[2:] + "3b00" "010400000000")),
+        [sent("7c573f" + end(9) + "e3" + ROUTED + "e6" "3b" "06" "010400000000", 3)]),
+    "RFC 6282, 4.3: a routing header before UDP": (
+        frame("41" + plain(far(9), far(1), "2b", "11" + TO_MOTE_3[2:] + udp(far(9), far(3), 4000, b"x"))),
+        [sent("7c573f" + end(9) + "e3" + ROUTED + "f0" "03e80fa0" + udp(far(9), far(3), 4000, b"x")[12:], 3)]),
     "RFC 4443, 4.2: a reply is from the address that was asked": (
         frame("41" + plain(near(9), far(1), "3a", icmp(near(9), far(1), "8000" "12340001" "61"))),
         [sent("7a733a" + icmp(far(1), near(9), "8100" "12340001" "61"))]),

@@ -16,7 +16,7 @@ import pytest
 from plain_memory import Memory, wrong_lines
 from run_laws import broken_laws
 from run_replay import turn_in
-from tools import CRATES, ROOT, needs, once, run, succeed, told
+from tools import CRATES, ROOT, needs, once, output_of, run, succeed
 
 SOURCES = sorted((ROOT / "tests/layers").glob("*.rt.txt"))
 FILES = [source.name.removesuffix(".rt.txt") for source in SOURCES if "fn check_all(" in source.read_text(encoding="utf-8")]
@@ -63,7 +63,7 @@ def run_cases(place: Path) -> None:
     refused, = re.findall(r"const REFUSED: u32 = ([\d_]+);", (ROOT / "tests/layers/growths.rt.txt").read_text(encoding="utf-8"))
     ran = run("rt", "try", "--steps", "1", "--seconds", "900", "--fail-alloc", refused.replace("_", ""), "--cases", cases, cwd=room)
     ended = re.findall(r"^case=(\S+) run=ended status=0 ", ran.stderr.decode(), re.M)
-    assert ran.returncode == 0 and sorted(ended) == sorted(path.name for path in cases.iterdir()), told(ran)
+    assert ran.returncode == 0 and sorted(ended) == sorted(path.name for path in cases.iterdir()), output_of(ran)
     parts = re.split(r"^== ([a-z]\S*)\n", ran.stdout.decode(), flags=re.M)
     (place / "outputs").write_text(json.dumps(dict(zip(parts[1::2], parts[2::2]))), encoding="utf-8")
 

@@ -6,7 +6,7 @@ from typing import Callable, NamedTuple
 
 import pytest
 
-from tools import (EXAMPLES, ROOT, SANITIZERS, all_hold, current_library, library_for_aarch64, needs, once, run, succeed, told,
+from tools import (EXAMPLES, ROOT, SANITIZERS, all_hold, current_library, library_for_aarch64, needs, once, output_of, run, succeed,
                    with_sanitizers)
 
 WARNINGS = ("-Wall", "-Wextra", "-Werror")
@@ -59,7 +59,7 @@ def test_program(sanitized: Callable[[Program], Path], program: Program) -> None
 @pytest.mark.parametrize("program", [STEPS, NETWORK], ids=[STEPS.name, NETWORK.name])
 def test_forgotten_close_is_found(sanitized: Callable[[Program], Path], program: Program) -> None:
     ran = run(sanitized(program), "forget")
-    assert ran.returncode != 0 and b"leaked in" in ran.stderr, told(ran)
+    assert ran.returncode != 0 and b"leaked in" in ran.stderr, output_of(ran)
 
 
 @with_sanitizers

@@ -6,7 +6,7 @@ import pytest
 
 from contiki_programs import outcome
 from test_modules import MODULES, SANITIZED, build_modules
-from tools import run, succeed, told, with_sanitizers
+from tools import output_of, run, succeed, with_sanitizers
 
 # Programs over the modules as they are in the library: a heap of 65,536 bytes, managed memory of 4,096.
 PROGRAM = """#include "lib/heapmem.h"
@@ -48,7 +48,7 @@ def compiled(modules: Path, folder: Path, statements: str) -> Path:
 def test_block_whose_resize_is_refused(checked: Path, tmp_path: Path, write: str, is_own: bool) -> None:
     """It has its own bytes as before, and the sanitizer still finds a write beyond them."""
     ran = run(compiled(checked, tmp_path, f"{REFUSED}  {write}"))
-    assert (ran.returncode == 0, b"use-after-poison" in ran.stderr) == (is_own, not is_own), told(ran)
+    assert (ran.returncode == 0, b"use-after-poison" in ran.stderr) == (is_own, not is_own), output_of(ran)
 
 
 @with_sanitizers

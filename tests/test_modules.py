@@ -6,7 +6,7 @@ from pathlib import Path
 
 import pytest
 
-from tools import (EXAMPLES, ROOT, SANITIZERS, all_hold, current_library, library_for_aarch64, needs, once, run, succeed, told,
+from tools import (EXAMPLES, ROOT, SANITIZERS, all_hold, current_library, library_for_aarch64, needs, once, output_of, run, succeed,
                    with_sanitizers, write_program)
 
 MODULES = ROOT / "c/modules"
@@ -102,7 +102,7 @@ def test_headers(tmp_path: Path, compiler: str, language: str) -> None:
 def test_refused_pool(tmp_path: Path, statement: str) -> None:
     source = f'#include "lib/memb.h"\n#include "toarmuts/managed.h"\nstruct large {{ char bytes[65536]; }};\n{statement}\n'
     made = run("gcc", "-std=c11", f"-I{MODULES}/include", "-x", "c", "-c", "-", "-o", tmp_path / "none.o", stdin=source.encode())
-    assert made.returncode != 0 and b"static assertion failed" in made.stderr, told(made)
+    assert made.returncode != 0 and b"static assertion failed" in made.stderr, output_of(made)
 
 
 # ---- As it is installed ----
@@ -158,8 +158,8 @@ def test_size_of_a_heap(tmp_path: Path, size: str, is_built: bool) -> None:
     """A heap has at least 1 byte, and less than 128 MB, rounded up: its rows have 27 bits for a size."""
     words = (f"-DHEAPMEM_CONF_ARENA_SIZE={size}", "-DHEAPMEM_CONF_MAX_BLOCKS=1", "-c", MODULES / "src/heapmem-memory.c")
     made = run("gcc", "-std=c11", f"-I{MODULES}/include", *words, "-o", tmp_path / "none.o")
-    assert (made.returncode == 0) == is_built, told(made)
-    assert is_built or b"static assertion failed" in made.stderr, told(made)
+    assert (made.returncode == 0) == is_built, output_of(made)
+    assert is_built or b"static assertion failed" in made.stderr, output_of(made)
 
 
 def test_program_of_one_module(modules_library: Path, tmp_path: Path) -> None:
@@ -185,7 +185,7 @@ def test_archive_of_a_core(tmp_path: Path) -> None:
         f'#!/bin/bash\necho "$@" slow >&2\nmkdir -p {proved}/$2 && touch {proved}/$2/libmodules_c.a\n'))
     for wanted in b"modules_c cortex-m3 slow\n", b"":
         made = run("make", "-s", "-C", tmp_path / "c/modules", "CORE=cortex-m3", "CC=true", "AR=true")
-        assert (made.returncode, made.stderr) == (0, wanted), told(made)
+        assert (made.returncode, made.stderr) == (0, wanted), output_of(made)
         assert (proved / "cortex-m3/libmodules_c.a").exists()
 
 

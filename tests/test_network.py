@@ -11,7 +11,7 @@ import pytest
 
 from stored_cases import StoredCase, stored_cases
 from test_faults import SMALL_NETWORK
-from tools import EXAMPLES, ROOT, cases, program, run, succeed, told
+from tools import EXAMPLES, ROOT, cases, output_of, program, run, succeed
 from tools import with_stream as with_stream
 
 SAMPLES = sorted((EXAMPLES / "networks").glob("*.net"))
@@ -30,7 +30,7 @@ RELAYED = ("{m} > frame {f}", "{m} 4 event 139 1 -> mmem-alloc 0 1", "{m} 4 answ
 
 def transcript_of(script: str, *words: str, status: int = 0) -> list[str]:
     ran = run(program("network"), *words, stdin=script.encode())
-    assert (ran.returncode, ran.stderr) == (status, b""), told(ran)
+    assert (ran.returncode, ran.stderr) == (status, b""), output_of(ran)
     return ran.stdout.decode().splitlines()
 
 
@@ -106,7 +106,7 @@ def test_plain_network(sanitizing_compiler: str) -> None:
     if not built.exists():
         pytest.skip("the program network isn't built")
     ran = run(ROOT / "bench/networks", "--cc", sanitizing_compiler, "--same", built)
-    assert (ran.returncode, ran.stdout) == (0, b""), told(ran)
+    assert (ran.returncode, ran.stdout) == (0, b""), output_of(ran)
 
 
 # ---- Malformed lines ----

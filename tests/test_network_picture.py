@@ -22,12 +22,12 @@ import pytest
 from fault_library import Faults
 from test_network import WORKED, with_stream
 from test_network_random import drawn_network
-from tools import EXAMPLES, ROOT, needs, program, run, succeed, told, write_program
+from tools import EXAMPLES, ROOT, needs, output_of, program, run, succeed, write_program
 
 THREE = EXAMPLES / "networks/three.net"
 NETWORKS = int(os.environ.get("TOARMUTS_PICTURED_NETWORKS", "100"))
 PARTS = 4
-# Where a chart has its lanes and rows, as crates/network_picture/src/place.rt places them. Before each fiftieth row the motes' numbers are
+# Where a chart has its lanes and rows, as in crates/mote_picture/src/network/layout.rt. Before each fiftieth row the motes' numbers are
 # repeated.
 FIRST_LANE, TOP, ROW, ROWS_TO_HEAD = 132, 94, 16, 50
 START = re.compile(r"M(\d+),(\d+)")
@@ -45,7 +45,7 @@ def drawn(transcript: bytes, *words: str) -> bytes:
 
 def transcript_of(script: str) -> bytes:
     ran = run(program("network"), stdin=script.encode())
-    assert ran.returncode in (0, 2, 3), told(ran)
+    assert ran.returncode in (0, 2, 3), output_of(ran)
     return ran.stdout
 
 

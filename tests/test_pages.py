@@ -84,7 +84,7 @@ def test_definitions_of_a_network() -> None:
     lines = {file: sum(len(each) for each, _ in definitions(f"crates/{file}").values()) for file, _ in rows}
     assert [(file, str(lines[file])) for file, _ in rows] == rows and len(lines) == len(rows)
     assert f"{sum(lines.values())} lines more in {len(lines)} files" in " ".join(ORDER.split())
-    own = {str(path.relative_to(CRATES)) for crate in ("alarm_core", "medium_core", "network_session", "network_text", "network_run")
+    own = {str(path.relative_to(CRATES)) for crate in ("medium_core", "network_session", "network_run")
            for path in (CRATES / crate / "specs").glob("*.antt") if path.stem not in ("Lib", "Code")}
     assert own <= lines.keys()
 

@@ -8,7 +8,7 @@ from typing import Callable
 
 import pytest
 
-from tools import ROOT, once, run, succeed, told
+from tools import ROOT, once, output_of, run, succeed
 
 ROW = re.compile(r"^- `(crates/[^`]+)` \((\d+)\):.*\n", re.M)
 DEFINITION = "\nabbrev pub unreached : Nat\nunreached = 0\n"
@@ -79,10 +79,10 @@ FAULTS = [
     f"speaks of {ROWS[0][0]}, which stands below it",
     f"{ROWS[1][0]}: isn't listed with {ROWS[1][1]} lines",
     f"{FIRST_DEFINITIONS}: has what no clause of run reaches: unreached",
-    "cases for all other calls: app_kit/specs/Spoilt.antt: spoilt",
-    "cases for all other calls: app_kit/src/spoilt.rt: ",
-    "crates/app_kit/src/spoilt.rt: comment: there is no no_such_thing",
-    "crates/app_kit/src/spoilt.rt: comment: there is no none.antt",
+    "cases for all other calls: mote_apps/specs/Spoilt.antt: spoilt",
+    "cases for all other calls: mote_apps/src/spoilt.rt: ",
+    "crates/mote_apps/src/spoilt.rt: comment: there is no no_such_thing",
+    "crates/mote_apps/src/spoilt.rt: comment: there is no none.antt",
 ]
 
 
@@ -92,10 +92,10 @@ def found(shared: Path) -> str:
         copy_tree(place)
         for file, change in SPOILT.items():
             (place / file).write_text(change((ROOT / file).read_text(encoding="utf-8")), encoding="utf-8")
-        (place / "crates/app_kit/specs/Spoilt.antt").write_text(SPOILT_DEFINITIONS, encoding="utf-8")
-        (place / "crates/app_kit/src/spoilt.rt").write_text(SPOILT_CODE, encoding="utf-8")
+        (place / "crates/mote_apps/specs/Spoilt.antt").write_text(SPOILT_DEFINITIONS, encoding="utf-8")
+        (place / "crates/mote_apps/src/spoilt.rt").write_text(SPOILT_CODE, encoding="utf-8")
         ran = run(sys.executable, "-m", "pytest", "-q", "-p", "no:cacheprovider", "tests/test_pages.py", cwd=place)
-        assert ran.returncode == 1, told(ran)
+        assert ran.returncode == 1, output_of(ran)
         (place / "found").write_bytes(ran.stdout)
     return (once(shared / "spoilt-pages", make) / "found").read_text(encoding="utf-8")
 

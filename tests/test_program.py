@@ -9,7 +9,7 @@ from pathlib import Path
 import pytest
 
 from stored_cases import StoredCase, stored_cases
-from tools import CRATES, EXAMPLES, ROOT, program, run, told, with_stream
+from tools import CRATES, EXAMPLES, ROOT, output_of, program, run, with_stream
 
 CASES = stored_cases("cases")
 SCRIPTS = sorted(EXAMPLES.glob("*.script"))
@@ -107,7 +107,7 @@ STDIN = CRATES / "template_app/stdin"
 def test_status(template: Path, status: int, wanted: str, words: list[str | bytes], script: bytes | Path) -> None:
     """The statuses of the table in docs/transcript.md, each with its text on standard error."""
     ran = run(template, *words, stdin=script)
-    assert ran.returncode == status and fnmatch.fnmatchcase(ran.stderr.decode(), wanted), told(ran)
+    assert ran.returncode == status and fnmatch.fnmatchcase(ran.stderr.decode(), wanted), output_of(ran)
 
 
 @pytest.mark.parametrize(("status", "wanted", "word", "redirection"), [
@@ -122,4 +122,4 @@ def test_status_with_a_stream(template: Path, status: int, wanted: str, word: st
 def test_plain_mote(mote: Path, sanitizing_compiler: str) -> None:
     """The mote in plain C that the benchmark sets beside this one writes the same, under the sanitizers."""
     ran = run(ROOT / "bench/compare", "--cc", sanitizing_compiler, mote, timeout=3600)
-    assert ran.returncode == 0 and re.search(rb"(?:^|\n)([1-9]\d*) of \1 runs are the same\n$", ran.stdout), told(ran)
+    assert ran.returncode == 0 and re.search(rb"(?:^|\n)([1-9]\d*) of \1 runs are the same\n$", ran.stdout), output_of(ran)

@@ -15,7 +15,7 @@ import pytest
 from schedule import Schedule, most_jobs, read_seconds
 from small_tree import WITHOUT_RT, Tree, wait_until
 from sources import Sources
-from tools import needs, run, told, write_program
+from tools import needs, output_of, run, write_program
 
 ALL = ["low", "high", "beside", "mote"]
 OF_OTHERS = "c 10  # beside others\nd 10\nb 100\n"
@@ -173,8 +173,8 @@ def test_all_ended_by_force(tree: Tree) -> None:
     assert (tree.root / ".git/prove").exists()
     if shutil.which("rt"):
         ran = run("timeout", "60", "rt", "ci", cwd=tree.root)
-        assert b"low NOT PROVED" in ran.stdout, told(ran)
-        assert not any(words in ran.stdout + ran.stderr for words in (b"no check reads", b"remove")), told(ran)
+        assert b"low NOT PROVED" in ran.stdout, output_of(ran)
+        assert not any(words in ran.stdout + ran.stderr for words in (b"no check reads", b"remove")), output_of(ran)
     assert tree.run("prove").returncode == 0, tree.stderr
     assert tree.is_clean() and tree.kept("low") == ["low", "low"]
 

@@ -9,7 +9,7 @@ from typing import Callable
 
 import pytest
 
-from tools import CRATES, EXAMPLES, ROOT, SANITIZERS, Completed, Word, all_hold, needs, once, run, succeed, told, with_sanitizers
+from tools import CRATES, EXAMPLES, ROOT, SANITIZERS, Completed, Word, all_hold, needs, once, output_of, run, succeed, with_sanitizers
 
 PACKAGE = ROOT / "python"
 TESTS = PACKAGE / "tests"
@@ -72,7 +72,7 @@ def environments(toarmuts_library: Path, shared: Path) -> Environments:
 def pass_all(ran: Completed) -> None:
     """Some tests passed, and none failed; of those that were skipped it is told why."""
     last = ran.stdout.decode().rstrip().rpartition("\n")[2]
-    assert ran.returncode == 0 and re.search(r"\b[1-9]\d* passed", last), told(ran)
+    assert ran.returncode == 0 and re.search(r"\b[1-9]\d* passed", last), output_of(ran)
     if "skipped" in last:
         pytest.skip("passed, but for: " + "; ".join(re.findall(r"^SKIPPED (.*)", ran.stdout.decode(), re.M)))
 

@@ -10,7 +10,7 @@ from call_rules import CALLS
 from plain_memory import Memory, wrong_lines
 from random_calls import random_call
 from run_laws import broken_laws
-from tools import succeed, told
+from tools import output_of, succeed
 
 RUNS = 1000
 PART = 250
@@ -62,4 +62,4 @@ def test_random_runs(scenario: Path, tmp_path: Path, first: int) -> None:
     kept_runs = [text + transcript for transcript, (text, _) in zip(transcripts[:IN_PIECES], runs)]
     (tmp_path / "runs").write_text("".join(kept_runs), encoding="utf-8")
     kept = succeed(scenario, "--thorough", "runs", cwd=tmp_path)
-    assert kept.stdout == f"runs: {IN_PIECES} of {IN_PIECES} runs as told, {15 * IN_PIECES} in pieces\n".encode(), told(kept)
+    assert kept.stdout == f"runs: {IN_PIECES} of {IN_PIECES} runs as told, {15 * IN_PIECES} in pieces\n".encode(), output_of(kept)

@@ -36,7 +36,7 @@ from toarmuts.errors import BadCall, BadScenario, NoApplication
 
 def mote(number, it):
     sizes = "".join(f" --{name} {getattr(it.options, name)}" for name in ("mmem", "heap", "header", "quota"))
-    return f"mote {number} {' '.join(named.told for named in it.named)}{sizes.removesuffix(' --quota None')}".replace("  ", " ")
+    return f"mote {number} {' '.join(named.shown for named in it.named)}{sizes.removesuffix(' --quota None')}".replace("  ", " ")
 
 def network(text):
     try:

@@ -14,14 +14,14 @@ from typing import Callable, NamedTuple
 
 import pytest
 
-from tools import CRATES, ROOT, Completed, Word, library, needs, once, program, run, succeed, told, write_program
+from tools import CRATES, ROOT, Completed, Word, library, needs, once, output_of, program, run, succeed, write_program
 
 VERSION = (ROOT / "VERSION").read_text(encoding="utf-8").strip()
 NAME = f"toarmuts-{VERSION}-linux-x86_64"
 PACKAGE = f"toarmuts_{VERSION}_amd64.deb"
 # While the first number is 0, the soname has the second too.
 SONAME = "libtoarmuts.so." + (VERSION.rpartition(".")[0] if VERSION.startswith("0.") else VERSION.partition(".")[0])
-PROGRAMS = ("mote", "mote_picture", "scenario", "network", "network_picture")
+PROGRAMS = ("mote", "mote_picture", "scenario", "network")
 LIBRARIES = ("toarmuts", "modules_c")
 COMMANDS = ("mote", "mote-picture", "network", "network-picture", "scenario", "contiki")
 FLAGS = "-std=c11 -Wall -Wextra -Werror"
@@ -78,7 +78,7 @@ def releases(proofs: None, page_file: Path, shared: Path) -> Path:
         made = run(one / "scripts/release", room / "first", timeout=3600)
         if b"these Debian packages are missing" in made.stderr:
             pytest.skip(made.stderr.decode().strip())
-        assert made.returncode == 0, told(made)
+        assert made.returncode == 0, output_of(made)
         succeed("bash", "-c", 'umask 077; "$0" "$1"', two / "scripts/release", room / "second",
                 settings={"TZ": "Asia/Tokyo", "LC_ALL": "C"}, timeout=3600)
         succeed("tar", "-xzf", room / "first" / f"{NAME}.tar.gz", "-C", room)
@@ -142,7 +142,7 @@ class System(NamedTuple):
     def shell(self, command: str) -> str:
         """What a line of the shell in the user's folder prints. Its examples are in $examples."""
         ran = self.run("bash", "-c", f"cd; examples={self.prefix}/share/doc/toarmuts/examples; {command}")
-        assert ran.returncode == 0, f"{command}\n{told(ran)}"
+        assert ran.returncode == 0, f"{command}\n{output_of(ran)}"
         return ran.stdout.decode()
 
 
@@ -223,7 +223,7 @@ def test_modules_for_cortex_m(archive: System, core: str) -> None:
 @pytest.mark.parametrize("command", COMMANDS)
 def test_manual(archive: System, command: str) -> None:
     ran = archive.run("man", "--warnings", "-l", f"{archive.prefix}/share/man/man1/{command}.1.gz")
-    assert ran.stderr == b"" and len(ran.stdout.split(b"\n")) >= 10, told(ran)
+    assert ran.stderr == b"" and len(ran.stdout.split(b"\n")) >= 10, output_of(ran)
 
 
 COMPLETION = Path("/usr/share/bash-completion/bash_completion")
@@ -239,7 +239,7 @@ _toarmuts "$1" "${{@: -1}}" "${{@: -2:1}}"; echo "${{COMPREPLY[*]}}"
 def test_completion(archive: System, words: str, wanted: str) -> None:
     file = f"{archive.prefix}/share/bash-completion/completions/{words.split()[0]}"
     ran = archive.run("bash", "-c", COMPLETED.format(completion=COMPLETION), "bash", file, *words.split())
-    assert ran.stdout.decode() == wanted + "\n", told(ran)
+    assert ran.stdout.decode() == wanted + "\n", output_of(ran)
 
 
 # ---- The package ----
@@ -281,7 +281,7 @@ def test_clean_debian(releases: Path, tmp_path: Path) -> None:
 
     def install(*words: str) -> None:
         ran = inside("apt-get", "install", "-y", "--no-install-recommends", *words)
-        assert ran.returncode == 0, told(ran)
+        assert ran.returncode == 0, output_of(ran)
     succeed("debootstrap", "--variant=minbase", "bookworm", clean, timeout=3600)
     install("gcc", "libc6-dev", "pkg-config", "python3-venv")
     before = files()

@@ -6,7 +6,7 @@ from pathlib import Path
 
 import pytest
 
-from tools import ROOT, cases, run, told
+from tools import ROOT, cases, output_of, run
 
 
 # The file, what stands there in whose place, and the test that notices.
@@ -23,4 +23,4 @@ def test_fault_is_noticed(tmp_path: Path, file: str, before: str, after: str, te
     planted.write_text(text.replace(before, after), encoding="utf-8")
     ran = run(sys.executable, "-m", "pytest", "-q", "-x", "-p", "no:cacheprovider", "tests/test_retarget.py", "-k", test,
               cwd=tmp_path)
-    assert ran.returncode == 1 and b"1 failed" in ran.stdout, told(ran)
+    assert ran.returncode == 1 and b"1 failed" in ran.stdout, output_of(ran)

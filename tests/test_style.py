@@ -6,7 +6,7 @@ from pathlib import Path
 
 import pytest
 
-from tools import ROOT, needs, run, succeed, told
+from tools import ROOT, needs, output_of, run, succeed
 
 # Each kind of script has one first line. A script that takes Debian's packages for Python names Debian's.
 SHEBANGS = {"#!/usr/bin/env python3": "python", "#!/usr/bin/python3": "python", "#!/bin/bash": "shell", "#!/bin/sh": "shell",
@@ -83,7 +83,7 @@ def test_mypy(tmp_path: Path) -> None:
 @pytest.mark.parametrize("path", sources("shell"), ids=lambda path: str(path.relative_to(ROOT)))
 def test_shellcheck(path: Path) -> None:
     ran = run("shellcheck", "--external-sources", "--severity=warning", path, cwd=ROOT)
-    assert ran.returncode == 0, told(ran)
+    assert ran.returncode == 0, output_of(ran)
 
 
 @needs("clang-format")
@@ -91,7 +91,7 @@ def test_clang_format() -> None:
     checked = sources("C")
     assert checked
     ran = run("clang-format", "--dry-run", *checked, cwd=ROOT)
-    assert ran.returncode == 0 and ran.stderr == b"", told(ran)
+    assert ran.returncode == 0 and ran.stderr == b"", output_of(ran)
 
 
 def longest_line() -> int:

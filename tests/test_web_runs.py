@@ -44,7 +44,7 @@ PROGRAM_RUNS = PROGRAM_CLASS + script("program_runs")
 
 def with_cases(body: str, cases: list[Any], program: str = "") -> str:
     """A script with its data before it: cases, and the module of a program, which has its name."""
-    module = {"mote_picture": "picture", "network_picture": "chart"}.get(program, program)
+    module = {"mote_picture": "picture", "network_picture": "picture"}.get(program, program)
     return f"const CASES = {json.dumps(cases)}, NAME = {json.dumps(program)}, PROGRAM = {json.dumps(module)};\n{body}"
 
 

@@ -240,23 +240,25 @@ def test_edits_by_rt_ci(wrong: Wrong) -> None:
 # ---- By the kit itself ----
 
 def test_real_crate(tmp_path: Path) -> None:
-    """The kit refuses an edit of alarm_core by a contract. One that means the same as before isn't refused, and one that can't be compiled
+    """The kit refuses an edit of mote_types by a contract. One that means the same as before isn't refused, and one that can't be compiled
     is bad."""
-    shutil.copytree(CRATES / "alarm_core", tmp_path / "crates/alarm_core", ignore=shutil.ignore_patterns("out", "must-fail"))
+    shutil.copytree(CRATES / "mote_types", tmp_path / "crates/mote_types", ignore=shutil.ignore_patterns("out", "must-fail"))
     for name in ("scripts", "tests"):
         (tmp_path / name).mkdir()
     for name in ("scripts/must_fail.py", "scripts/rattle_functions.py", "scripts/kit_rt.py", "scripts/schedule.py", "tests/wrong_bodies"):
         shutil.copy2(ROOT / name, tmp_path / name)
-    (tmp_path / "crates.txt").write_text("alarm_core: thiserror\n", encoding="utf-8")
-    folder, name, old = tmp_path / "crates/alarm_core/must-fail", "takes_the_higher_number.edit", "a.owner <= b.owner"
+    line = re.search(r"^mote_types:.*\n", (ROOT / "crates.txt").read_text(encoding="utf-8"), re.M)
+    assert line is not None
+    (tmp_path / "crates.txt").write_text(line[0], encoding="utf-8")
+    folder, name, old = tmp_path / "crates/mote_types/must-fail", "lets_a_packet_event_be_posted.edit", "| SERIAL_LINE | PACKET"
     folder.mkdir()
-    shutil.copy2(CRATES / "alarm_core/must-fail" / name, folder / name)
-    write_edit(folder, "z_same", old, "!(b.owner < a.owner)", "src/alarm.rt")
-    write_edit(folder, "z_unknown_name", old, "a.owner <= nobody", "src/alarm.rt")
-    ran = run(tmp_path / "tests/wrong_bodies", "--jobs", "2", "alarm_core", timeout=1800)
+    shutil.copy2(CRATES / "mote_types/must-fail" / name, folder / name)
+    write_edit(folder, "z_same", old, "| PACKET | SERIAL_LINE", "src/event.rt")
+    write_edit(folder, "z_unknown_name", old, "| SERIAL_LINE | NOBODY", "src/event.rt")
+    ran = run(tmp_path / "tests/wrong_bodies", "--jobs", "2", "mote_types", timeout=1800)
     lines = ran.stdout.decode().splitlines()
-    told = rf"alarm_core/{name}: refused: [\w:]+: note: src/alarm.rt:\d+:\d+: it is not proved that what the function ensures"
+    told = rf"mote_types/{name}: refused: [\w:]+: note: src/event.rt:\d+:\d+: it is not proved that what the function ensures"
     assert re.match(told, lines[0]), lines
-    assert lines[1] == "alarm_core/z_same.edit: NOT REFUSED: the crate is still proved with it"
-    assert lines[2].startswith("alarm_core/z_unknown_name.edit: BAD EDIT: its text can't be compiled or read: ")
+    assert lines[1] == "mote_types/z_same.edit: NOT REFUSED: the crate is still proved with it"
+    assert lines[2].startswith("mote_types/z_unknown_name.edit: BAD EDIT: its text can't be compiled or read: ")
     assert (lines[3:], ran.returncode) == (["1 passed, 2 failed"], 1)

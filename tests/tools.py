@@ -36,7 +36,7 @@ def run(*words: Word, stdin: bytes | Path = b"", cwd: Path | None = None, settin
 def succeed(*words: Word, stdin: bytes | Path = b"", cwd: Path | None = None, settings: Mapping[str, str] | None = None,
             timeout: float = 1800) -> Completed:
     ran = run(*words, stdin=stdin, cwd=cwd, settings=settings, timeout=timeout)
-    assert ran.returncode == 0, f"{' '.join(map(str, words))}: status {ran.returncode}\n{told(ran)}"
+    assert ran.returncode == 0, f"{' '.join(map(str, words))}: status {ran.returncode}\n{output_of(ran)}"
     return ran
 
 
@@ -45,7 +45,8 @@ def with_stream(redirection: str, *words: str | Path) -> Completed:
     return run("bash", "-c", f'exec "$@" {redirection}', "bash", *words)
 
 
-def told(ran: Completed) -> str:
+def output_of(ran: Completed) -> str:
+    """The end of what a command wrote, for messages."""
     return (ran.stdout[-4000:] + ran.stderr[-4000:]).decode(errors="replace")
 
 
@@ -86,11 +87,16 @@ def is_quick() -> bool:
 UNPROVED = ("mote", "scenario", "network", "mote_picture", "network_picture", "toarmuts", "modules_c")
 
 
+def built_in(name: str) -> Path:
+    """The folder of what is built of a crate. `network_picture` is another name of a program."""
+    return CRATES / ("mote_picture" if name == "network_picture" else name) / "out"
+
+
 @functools.lru_cache(maxsize=None)
 def proved_or_not(name: str, file: str) -> Path:
     """A program, or the library for C, as it is proved, or else built without a proof. Where neither is there, the test is skipped."""
     if run(ROOT / "prove", "--is-current", name).returncode == 0:
-        return CRATES / name / "out" / file
+        return built_in(name) / file
     ran = run(ROOT / "scripts/unproved.py", name) if name in UNPROVED else None
     if ran is None or ran.returncode != 0:
         pytest.skip(f"crates/{name}: not built: ./prove {name}")
@@ -101,7 +107,7 @@ def program(name: str) -> Path:
     """A built program. tests/all has all proved and built; without that, it must be there."""
     if is_quick():
         return proved_or_not(name, name)
-    built = CRATES / name / "out" / name
+    built = built_in(name) / name
     if not built.exists():
         pytest.fail(f"crates/{name}: the program isn't built: ./prove {name}", pytrace=False)
     return built
@@ -115,7 +121,7 @@ def library(name: str) -> Path:
         for command in (ROOT / "prove", ROOT / "scripts/for-aarch64"):
             ran = run(command, name, timeout=10_800)
             if ran.returncode != 0:
-                pytest.fail(f"{command.name} {name}: status {ran.returncode}\n{told(ran)}", pytrace=False)
+                pytest.fail(f"{command.name} {name}: status {ran.returncode}\n{output_of(ran)}", pytrace=False)
     built = CRATES / name / f"out/lib{name}.a"
     if not built.exists():
         pytest.fail(f"crates/{name}: the library isn't built: ./prove {name}", pytrace=False)
@@ -138,7 +144,7 @@ def library_for_aarch64(name: str) -> Path:
 
 def all_hold(ran: Completed) -> None:
     """A test in C ran to its end, and each of its checks holds."""
-    assert ran.returncode == 0 and re.search(rb"(?:^|\n)([1-9]\d*) of \1 checks hold\n$", ran.stdout), told(ran)
+    assert ran.returncode == 0 and re.search(rb"(?:^|\n)([1-9]\d*) of \1 checks hold\n$", ran.stdout), output_of(ran)
 
 
 @functools.lru_cache(maxsize=None)

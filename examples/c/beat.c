@@ -32,7 +32,7 @@ main(void)
   uint32_t step;
   int ticks = 2;
   toarmuts_open(&sizes, 1, &mote);
-  while(toarmuts_next(&mote, &step, &turn) == TOARMUTS_DONE && step != TOARMUTS_HALT) {
+  while(toarmuts_next(&mote, &step, &turn) == TOARMUTS_DONE && step != TOARMUTS_STEP_HALTED) {
     if(step == TOARMUTS_REST && ticks-- == 0) {
       break;
     } else if(step == TOARMUTS_REST) {

@@ -61,7 +61,7 @@ static PyMemberDef row_members[] = {
   NUMBER("_answer", T_ULONGLONG, answer),
   NUMBER("_asked", T_ULONGLONG, asked),
   NUMBER("_length", T_UINT, length),
-  NUMBER("_told", T_UINT, told),
+  NUMBER("_content", T_UINT, content),
   NUMBER("_call", T_UINT, call),
   NUMBER("_kind", T_UBYTE, kind),
   NUMBER("_detail", T_UBYTE, detail),
@@ -232,19 +232,19 @@ find_words(struct words *words, const char *line, size_t length, Py_ssize_t deta
 static void
 add_line(PyObject *row)
 {
-  PyObject *type, *fault, *trace, *told;
+  PyObject *type, *fault, *trace, *raised;
 
   PyErr_Fetch(&type, &fault, &trace);
   PyErr_NormalizeException(&type, &fault, &trace);
-  told = fault != NULL ? PyObject_CallMethod(row, "_spoilt", "O", fault) : NULL;
-  if(told == NULL || told == fault) {
-    Py_XDECREF(told);
+  raised = fault != NULL ? PyObject_CallMethod(row, "_spoilt", "O", fault) : NULL;
+  if(raised == NULL || raised == fault) {
+    Py_XDECREF(raised);
     PyErr_Clear();
     PyErr_Restore(type, fault, trace);
     return;
   }
-  PyErr_SetObject((PyObject *)Py_TYPE(told), told);
-  Py_DECREF(told);
+  PyErr_SetObject((PyObject *)Py_TYPE(raised), raised);
+  Py_DECREF(raised);
   Py_XDECREF(type);
   Py_XDECREF(fault);
   Py_XDECREF(trace);
@@ -256,7 +256,7 @@ words_get(PyObject *self, PyObject *object, PyObject *owner)
   struct words *words = (struct words *)self;
   const struct row *row = (const struct row *)object;
   PyObject *made;
-  size_t first, behind;
+  size_t first, last;
 
   (void)owner;
   if(object == NULL || object == Py_None) {
@@ -267,13 +267,13 @@ words_get(PyObject *self, PyObject *object, PyObject *owner)
     PyErr_SetString(PyExc_TypeError, "a row of a transcript is wanted");
     return NULL;
   }
-  first = words->are_call ? row->numbers.call : row->numbers.told;
-  behind = words->are_call ? row->numbers.length : row->numbers.call - ARROW;
-  if(behind < first || behind > row->numbers.length) {
+  first = words->are_call ? row->numbers.call : row->numbers.content;
+  last = words->are_call ? row->numbers.length : row->numbers.call - ARROW;
+  if(last < first || last > row->numbers.length) {
     PyErr_SetString(PyExc_ValueError, "the words lie outside the line");
     return NULL;
   }
-  made = find_words(words, PyBytes_AsString(row->data) + row->numbers.begin + first, behind - first,
+  made = find_words(words, PyBytes_AsString(row->data) + row->numbers.begin + first, last - first,
                     words->are_call ? 0 : row->numbers.detail);
   if(made == NULL) {
     add_line(object);

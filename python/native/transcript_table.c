@@ -153,15 +153,15 @@ read_turn(struct words *words, struct transcript_row *row, const uint8_t *line)
 {
   static const char *const origins[] = {"event", "synch", "poll", "callback", "answer"};
   const uint8_t *call = behind_arrow(words);
-  struct words told = {words->next, words->end};
+  struct words stimulus = {words->next, words->end};
   uint64_t number;
 
-  if(call == NULL || !take_number(&told, &number) || number >= PROCESSES) {
+  if(call == NULL || !take_number(&stimulus, &number) || number >= PROCESSES) {
     return 0;
   }
   row->process = (uint8_t)number;
-  row->detail = take_one_of(&told, origins, 5);
-  row->told = (uint32_t)(told.next - line);
+  row->detail = take_one_of(&stimulus, origins, 5);
+  row->content = (uint32_t)(stimulus.next - line);
   row->call = (uint32_t)(call - line);
   words->next = call;
   row->call_kind = kind_of_call(words);
@@ -169,9 +169,9 @@ read_turn(struct words *words, struct transcript_row *row, const uint8_t *line)
     return 0;
   }
   if(row->detail == ORIGIN_ANSWER) {
-    return read_answer(&told, row);
+    return read_answer(&stimulus, row);
   }
-  if(!take_number(&told, &number) || number > 255) {
+  if(!take_number(&stimulus, &number) || number > 255) {
     return 0;
   }
   row->event = (uint8_t)number;
@@ -185,7 +185,7 @@ read_input(struct words *words, struct transcript_row *row, const uint8_t *line,
   uint64_t ticks;
 
   row->detail = take_one_of(words, inputs, 3);
-  row->told = (uint32_t)(words->next - line);
+  row->content = (uint32_t)(words->next - line);
   if(row->detail == 0) {
     if(!take_number(words, &ticks)) {
       return 0;
@@ -203,7 +203,7 @@ read_note(struct words *words, struct transcript_row *row, const uint8_t *line)
   uint64_t number = 0;
 
   row->detail = take_one_of(words, notes, 2);
-  row->told = (uint32_t)(words->next - line);
+  row->content = (uint32_t)(words->next - line);
   if(row->detail == 0) {
     if(!take_number(words, &number) || number > 255) {
       return 0;
@@ -232,7 +232,7 @@ read_line(struct words words, struct transcript_row *row, struct walk *walk)
   } else if(take(&words, "bad")) {
     row->kind = TRANSCRIPT_BAD_LINE;
     has_form = take(&words, "line");
-    row->told = (uint32_t)(words.next - line);
+    row->content = (uint32_t)(words.next - line);
   } else if(take(&words, "too")) {
     row->kind = TRANSCRIPT_TOO_LONG;
     has_form = take(&words, "long");

@@ -24,7 +24,7 @@ struct transcript_row {
   uint64_t answer;    /* a turn: 1 + the row of the answer to its call; 0 where there is none */
   uint64_t asked;     /* a reply: 1 + the row of its call; 0 if there is none */
   uint32_t length;    /* without its line end */
-  uint32_t told;      /* from begin on: a turn's stimulus, without its origin; an input's or a note's argument */
+  uint32_t content;   /* from begin on: a turn's stimulus, without its origin; an input's or a note's argument */
   uint32_t call;      /* a turn: from begin on, where its call's words begin */
   uint8_t kind;       /* enum transcript_kind */
   uint8_t detail;     /* a turn: enum toarmuts_origin; an input: tick 0, serial 1, frame 2; a note: lost 0, sent 1 */

@@ -26,19 +26,19 @@ def waits():
 
 def in_thread(kibibytes, work):
     """What comes of work in a thread with so much stack; an exception that it raises is answered."""
-    told = []
+    results = []
 
     def wrapped():
         try:
-            told.append(work())
+            results.append(work())
         except Exception as fault:
-            told.append(fault)
+            results.append(fault)
 
     threading.stack_size(kibibytes * 1024)
     thread = threading.Thread(target=wrapped)
     thread.start()
     thread.join()
-    return told[0]
+    return results[0]
 
 
 WORKS = {"run": lambda: toarmuts.run(["hello"]).printed(), "step": lambda: toarmuts.run([beats]).printed(),
@@ -49,8 +49,8 @@ WORKS = {"run": lambda: toarmuts.run(["hello"]).printed(), "step": lambda: toarm
 def sizes(what):
     """Tells what each size of a stack gets."""
     for size in range(32, 513, 16):
-        told = in_thread(size, WORKS[what])
-        print(size, "too small" if isinstance(told, StackTooSmall) else told)
+        result = in_thread(size, WORKS[what])
+        print(size, "too small" if isinstance(result, StackTooSmall) else result)
 
 
 def refusals():
@@ -59,11 +59,11 @@ def refusals():
             (64, WORKS["mote"], "has less than 168 KiB left, which a mote that goes step by step may need"),
             (64, lambda: Mote([], mmem=5), "less than 168 KiB"), (64, lambda: toarmuts.run([], mmem=5), "less than 240 KiB")]
     for size, work, words in rows:
-        told = in_thread(size, work)
-        assert isinstance(told, StackTooSmall) and isinstance(told, (OutOfMemory, MemoryError)) and words in str(told), (size, told)
+        result = in_thread(size, work)
+        assert isinstance(result, StackTooSmall) and isinstance(result, (OutOfMemory, MemoryError)) and words in str(result), (size, result)
     # There is room to open a mote's sizes by a step, and none for the run that tells what is wrong with them.
-    told = in_thread(192, lambda: Mote([], mmem=5))
-    assert isinstance(told, StackTooSmall) and "less than 240 KiB" in str(told), told
+    result = in_thread(192, lambda: Mote([], mmem=5))
+    assert isinstance(result, StackTooSmall) and "less than 240 KiB" in str(result), result
 
 
 class Asked:
@@ -110,9 +110,9 @@ def worked_runs(size, run):
                 wanted = run(scenario).transcript.data
             except toarmuts.ToarmutsError:
                 continue
-            told = [in_thread(size + more, lambda: run(scenario).transcript.data) for more in range(0, 49, 8)]
-            assert all(one == wanted or isinstance(one, StackTooSmall) for one in told), (scenario.name, told)
-            count += told[-1] == wanted
+            results = [in_thread(size + more, lambda: run(scenario).transcript.data) for more in range(0, 49, 8)]
+            assert all(one == wanted or isinstance(one, StackTooSmall) for one in results), (scenario.name, results)
+            count += results[-1] == wanted
     return count
 
 

@@ -424,11 +424,11 @@ def test_lines_have_no_form_exactly_where_the_library_finds_none():
 ])
 def test_what_is_raised_can_be_pickled(make):
     """It comes out of a pickle as it was, whatever its class is made of."""
-    with pytest.raises(toarmuts.ToarmutsError) as told:
+    with pytest.raises(toarmuts.ToarmutsError) as raised:
         make()
-    again = pickle.loads(pickle.dumps(told.value))
-    assert (type(again), str(again), again.args) == (type(told.value), str(told.value), told.value.args)
-    assert {name: str(member) for name, member in vars(again).items()} == {name: str(member) for name, member in vars(told.value).items()}
+    again = pickle.loads(pickle.dumps(raised.value))
+    assert (type(again), str(again), again.args) == (type(raised.value), str(raised.value), raised.value.args)
+    assert {name: str(member) for name, member in vars(again).items()} == {name: str(member) for name, member in vars(raised.value).items()}
 
 
 def raises(mmem):
@@ -440,9 +440,9 @@ def test_what_is_raised_in_another_process_is_told_here():
     # No fork: a thread of pytest's own may hold a lock just then.
     with concurrent.futures.ProcessPoolExecutor(1, multiprocessing.get_context("spawn")) as pool:
         assert pool.submit(raises, 8).result(timeout=300) == 0
-        with pytest.raises(BadSizes) as told:
+        with pytest.raises(BadSizes) as raised:
             pool.submit(raises, 6).result(timeout=300)
-    assert (told.value.size, told.value.why) == ("mmem", Reason.MMEM)
+    assert (raised.value.size, raised.value.why) == ("mmem", Reason.MMEM)
 
 
 def test_calls_cannot_be_changed():

@@ -40,10 +40,10 @@ def test_most_ticks_of_until(moment: int | None) -> None:
 
 def test_lines_before_a_difference() -> None:
     """Three lines before it, and the clock: of a mote the sum of its ticks, of a network its last one."""
-    told = first_difference("> tick 1\n> tick 2\na\nb\nc\n", "> tick 1\n> tick 2\na\nb\nd\n")
-    assert told is not None and (told.line, told.before, told.clock) == (5, ("> tick 2", "a", "b"), 3)
-    told = first_difference("= 5\n= 9\na\n", "= 5\n= 9\n")
-    assert told is not None and (told.line, told.found, told.clock) == (3, None, 9)
+    difference = first_difference("> tick 1\n> tick 2\na\nb\nc\n", "> tick 1\n> tick 2\na\nb\nd\n")
+    assert difference is not None and (difference.line, difference.before, difference.clock) == (5, ("> tick 2", "a", "b"), 3)
+    difference = first_difference("= 5\n= 9\na\n", "= 5\n= 9\n")
+    assert difference is not None and (difference.line, difference.found, difference.clock) == (3, None, 9)
 
 
 def test_last_applications_are_left_out() -> None:

@@ -36,8 +36,8 @@ def check_library(crate, **environment):
 def test_a_missing_library_is_reported_before_it_is_built(tmp_path):
     crate = tmp_path / "crates/toarmuts"
     crate.mkdir(parents=True)
-    told = check_library(crate)
-    assert f"there is no {crate}/out/libtoarmuts.a" in told and "`./prove toarmuts`" in told
+    output = check_library(crate)
+    assert f"there is no {crate}/out/libtoarmuts.a" in output and "`./prove toarmuts`" in output
 
 
 def test_a_library_that_is_older_than_its_header_is_reported(tmp_path):
@@ -46,8 +46,8 @@ def test_a_library_that_is_older_than_its_header_is_reported(tmp_path):
     (crate / "out").mkdir()
     (crate / "include/toarmuts.h").write_text("void toarmuts_run(void);\nvoid toarmuts_newer(void);\n")
     (crate / "out/libtoarmuts.a").write_bytes(b"toarmuts_run\0")
-    told = check_library(crate)
-    assert "lacks toarmuts_newer, it is older than its header" in told and "`./prove toarmuts`" in told
+    output = check_library(crate)
+    assert "lacks toarmuts_newer, it is older than its header" in output and "`./prove toarmuts`" in output
 
 
 def test_a_library_of_other_sources_is_reported(tmp_path):
@@ -113,8 +113,8 @@ def test_the_sources_alone_tell_what_is_missing(tmp_path):
     import shutil
 
     shutil.copytree(ROOT / "python/src", tmp_path / "src", ignore=shutil.ignore_patterns("*.so", "__pycache__"))
-    told = run_python(TOLD, tmp_path, PYTHONPATH=str(tmp_path / "src"))
-    assert "the compiled library isn't in" in told and "`pip install ./python`" in told
+    output = run_python(TOLD, tmp_path, PYTHONPATH=str(tmp_path / "src"))
+    assert "the compiled library isn't in" in output and "`pip install ./python`" in output
 
 
 def test_debians_setuptools_makes_no_wheel_for_another_python():
@@ -128,12 +128,12 @@ def test_a_repository_with_another_library_is_reported(tmp_path):
     """It may have been built anew since."""
     (tmp_path / "crates/toarmuts/out").mkdir(parents=True)
     code = "import toarmuts; from toarmuts.library import repository; print(repository()); toarmuts.run(['hello'])"
-    told = run_python(code, tmp_path, TOARMUTS_REPOSITORY=str(tmp_path))
-    assert told == str(tmp_path)
+    output = run_python(code, tmp_path, TOARMUTS_REPOSITORY=str(tmp_path))
+    assert output == str(tmp_path)
     (tmp_path / "crates/toarmuts/out/libtoarmuts.a").write_bytes(b"another one")
-    told = run_python(code, tmp_path, TOARMUTS_REPOSITORY=str(tmp_path))
+    output = run_python(code, tmp_path, TOARMUTS_REPOSITORY=str(tmp_path))
     made = tmp_path / "crates/toarmuts/out/libtoarmuts.a"
-    assert f"toarmuts was built with another library than {made}: `pip install {tmp_path}/python` rebuilds it" in told
+    assert f"toarmuts was built with another library than {made}: `pip install {tmp_path}/python` rebuilds it" in output
     assert run_python("import toarmuts; toarmuts.run(['hello'])") == ""
 
 
@@ -158,9 +158,9 @@ def test_an_unproved_library_is_built_where_there_is_no_proved_one(tmp_path, sta
     script = tmp_path / "scripts/unproved.py"
     script.write_text(f"#!/bin/sh\necho /unproved/$1.a\nexit {status}\n")
     script.chmod(0o755)
-    told = run_python("import build_native; print(build_native.library_file())", TOARMUTS_CRATE=str(tmp_path / "crates/toarmuts"))
-    assert ("/unproved/toarmuts.a" in told) == (status == 0)
-    assert f"toarmuts: {'the library is unproved: ' * (status == 0)}there is no {tmp_path}/crates/toarmuts/out/libtoarmuts.a: " in told
+    output = run_python("import build_native; print(build_native.library_file())", TOARMUTS_CRATE=str(tmp_path / "crates/toarmuts"))
+    assert ("/unproved/toarmuts.a" in output) == (status == 0)
+    assert f"toarmuts: {'the library is unproved: ' * (status == 0)}there is no {tmp_path}/crates/toarmuts/out/libtoarmuts.a: " in output
 
 
 @pytest.mark.parametrize("is_proved", [True, False])
@@ -169,8 +169,8 @@ def test_an_unproved_library_is_reported(tmp_path, is_proved):
     settings = copied(tmp_path, "/nowhere", is_proved=is_proved)
     if "TOARMUTS_LIBRARY" in os.environ:
         return
-    told = run_python("import toarmuts; toarmuts.run(['hello'])", tmp_path, **settings)
-    assert told.count("the library of toarmuts is unproved; `./prove toarmuts`") == (not is_proved)
+    output = run_python("import toarmuts; toarmuts.run(['hello'])", tmp_path, **settings)
+    assert output.count("the library of toarmuts is unproved; `./prove toarmuts`") == (not is_proved)
 
 
 def copied(folder, repository, **note):
@@ -231,19 +231,19 @@ def test_the_metadata_tell_what_the_package_is():
     """Of what is installed, and of a wheel that the backend packs."""
     packed = run_python("import backend; print(backend._metadata(backend._project())['METADATA'])")
     project = tomllib.loads((ROOT / "python/pyproject.toml").read_text())["project"]
-    for told in (email.message_from_string(packed), importlib.metadata.metadata("toarmuts")):
-        assert (told["Name"], told["Version"], told["Author"]) == ("toarmuts", toarmuts.__version__, "the Toarmuts authors")
-        assert told["Requires-Python"] == ">=3.10" and told["Description-Content-Type"] == "text/markdown"
-        assert told.get_all("Classifier") == project["classifiers"] and told["Keywords"] == ",".join(project["keywords"])
-        about = told.get_payload() or told["Description"]
+    for metadata in (email.message_from_string(packed), importlib.metadata.metadata("toarmuts")):
+        assert (metadata["Name"], metadata["Version"], metadata["Author"]) == ("toarmuts", toarmuts.__version__, "the Toarmuts authors")
+        assert metadata["Requires-Python"] == ">=3.10" and metadata["Description-Content-Type"] == "text/markdown"
+        assert metadata.get_all("Classifier") == project["classifiers"] and metadata["Keywords"] == ",".join(project["keywords"])
+        about = metadata.get_payload() or metadata["Description"]
         assert about.strip() == (ROOT / "python/README.md").read_text().strip()
-        assert sorted(told.get_all("Provides-Extra")) == sorted(project["optional-dependencies"])
+        assert sorted(metadata.get_all("Provides-Extra")) == sorted(project["optional-dependencies"])
 
 
 def test_no_source_distribution_is_offered(tmp_path):
-    told = run_python(f"import backend; backend.build_sdist({str(tmp_path)!r})")
-    assert "UnsupportedOperation: there is no source distribution: it would lack the proved library" in told
-    assert "`pip wheel ./python`" in told and not list(tmp_path.iterdir())
+    output = run_python(f"import backend; backend.build_sdist({str(tmp_path)!r})")
+    assert "UnsupportedOperation: there is no source distribution: it would lack the proved library" in output
+    assert "`pip wheel ./python`" in output and not list(tmp_path.iterdir())
     environment = {**os.environ, "TOARMUTS_CRATE": str(ROOT / "crates/toarmuts")}
     done = subprocess.run([sys.executable, "setup.py", "--quiet", "sdist", "--dist-dir", tmp_path], cwd=ROOT / "python", env=environment,
                           capture_output=True, text=True, check=False)
@@ -251,10 +251,10 @@ def test_no_source_distribution_is_offered(tmp_path):
 
 
 def test_it_tells_of_itself():
-    told = run_python("import runpy, sys; sys.argv = ['toarmuts']; runpy.run_module('toarmuts', run_name='__main__')")
+    output = run_python("import runpy, sys; sys.argv = ['toarmuts']; runpy.run_module('toarmuts', run_name='__main__')")
     for words in (f"toarmuts {toarmuts.__version__}, in {HERE}", f"called by {library().backend}", "> tick 10", "its event timer 0 ran out",
                   "docs/python.md"):
-        assert words in told, told
+        assert words in output, output
     done = subprocess.run([sys.executable, "-m", "toarmuts", "--version"], capture_output=True, text=True, check=False)
     assert (done.returncode, done.stdout) == (0, f"toarmuts {toarmuts.__version__}\n")
 

@@ -34,8 +34,8 @@ def test_processes_change_nothing(tmp_path, name):
     words = ("target.py:" + name, "--seeds", "0:6", "--count", "30", "--coverage")
     found = [campaign(tmp_path / str(jobs), *words, "--jobs", jobs) for jobs in (1, 2, 4)]
     assert found[0] == found[1] == found[2]
-    status, told, files = found[0]
-    assert status == 1 and len(files) == 1 and "6 seeds, 180 runs" in told and f"of {len(cells())} cells were reached" in told
+    status, output, files = found[0]
+    assert status == 1 and len(files) == 1 and "6 seeds, 180 runs" in output and f"of {len(cells())} cells were reached" in output
     path = next((tmp_path / "1").glob("*.scenario"))
     assert [scenario.carry_out().fault for scenario in read_file(path)] == [None]
     if SCENARIO.exists():
@@ -52,13 +52,13 @@ def test_a_seed_alone_is_the_same(tmp_path):
 
 
 def test_nothing_is_found_where_nothing_is_wrong(tmp_path):
-    status, told, files = campaign(tmp_path / "none", "target.py:Repaired", "--seeds", "0:2", "--count", "30", "--jobs", "1")
-    assert status == 0 and files == {} and "0 faults" in told
+    status, output, files = campaign(tmp_path / "none", "target.py:Repaired", "--seeds", "0:2", "--count", "30", "--jobs", "1")
+    assert status == 0 and files == {} and "0 faults" in output
 
 
 def test_no_more_processes_are_started_than_there_are_seeds(tmp_path):
-    status, told, _ = campaign(tmp_path / "few", "target.py:Repaired", "--seeds", "0:2", "--count", "1", "--jobs", "99999")
-    assert status == 0 and "2 seeds" in told
+    status, output, _ = campaign(tmp_path / "few", "target.py:Repaired", "--seeds", "0:2", "--count", "1", "--jobs", "99999")
+    assert status == 0 and "2 seeds" in output
 
 
 def test_dask_changes_nothing(tmp_path):
@@ -81,8 +81,8 @@ def test_an_application_that_raises_is_a_fault(tmp_path):
     (tmp_path / "raising.py").write_text(
         "from toarmuts.campaign import make_case\n\n\ndef raises():\n    yield\n\n\nclass Target:\n    def draw(self, chance):\n"
         "        return make_case([raises], ['tick 1'] * chance.randrange(3))\n\n    def check(self, run):\n        return None\n")
-    status, told, files = campaign(tmp_path / "found", tmp_path / "raising.py:Target", "--seeds", "0:2", "--count", "3", "--jobs", "1")
-    assert status == 1 and "process 4 fails: None is not a call" in told
+    status, output, files = campaign(tmp_path / "found", tmp_path / "raising.py:Target", "--seeds", "0:2", "--count", "3", "--jobs", "1")
+    assert status == 1 and "process 4 fails: None is not a call" in output
     assert list(files) == ["process-4-fails-None-is-not-a-call.txt"]
     lines = files["process-4-fails-None-is-not-a-call.txt"].splitlines()
     assert lines[0] == "# process 4 fails: None is not a call" and "made smaller by" in lines[1]
@@ -179,15 +179,15 @@ def test_progress_tells_runs_and_what_is_left(monkeypatch, capsys):
     monkeypatch.setattr(campaigns.time, "monotonic", lambda: clock[0])
     progress = campaigns._Progress(2, 100)
 
-    def told(seconds, runs):
+    def shown(seconds, runs):
         clock[0], progress.runs = seconds, runs
         progress.tell()
         return capsys.readouterr().err
 
-    assert told(9.9, 1) == "" and told(10, 0) == "0 of 2 seeds, 0 of 200 runs, 0 faults, 10.0 s\n"
-    assert told(19, 50) == "" and told(20, 50) == "0 of 2 seeds, 50 of 200 runs, 0 faults, 20.0 s, about 60 s left\n"
-    assert told(100, 50) == "0 of 2 seeds, 50 of 200 runs, 0 faults, 100.0 s, about 5 min left\n"
-    assert told(7200, 50) == "0 of 2 seeds, 50 of 200 runs, 0 faults, 7200.0 s, about 6 h left\n"
+    assert shown(9.9, 1) == "" and shown(10, 0) == "0 of 2 seeds, 0 of 200 runs, 0 faults, 10.0 s\n"
+    assert shown(19, 50) == "" and shown(20, 50) == "0 of 2 seeds, 50 of 200 runs, 0 faults, 20.0 s, about 60 s left\n"
+    assert shown(100, 50) == "0 of 2 seeds, 50 of 200 runs, 0 faults, 100.0 s, about 5 min left\n"
+    assert shown(7200, 50) == "0 of 2 seeds, 50 of 200 runs, 0 faults, 7200.0 s, about 6 h left\n"
     progress.add(campaigns.Unit(0, runs=100))
     clock[0] = 7201
     progress.add(campaigns.Unit(1, runs=100))
@@ -298,8 +298,8 @@ def test_a_process_that_dies_is_told_and_the_rest_is_kept(tmp_path):
     """The first one to draw dies once a seed of the other is told."""
     (tmp_path / "dying.py").write_text(DYING)
     process, lines = told_line_by_line(tmp_path, "1 of 8 seeds", "dying.py:Target", "--seeds", "0:8", "--count", "1", "--jobs", "2")
-    told = "".join(lines)
-    assert process.returncode == 2 and "toarmuts-campaign: a process has died" in told and "Traceback" not in told, told
+    output = "".join(lines)
+    assert process.returncode == 2 and "toarmuts-campaign: a process has died" in output and "Traceback" not in output, output
     assert [path.name for path in (tmp_path / "found").iterdir()] == ["it-says-hi.scenario"]
 
 
@@ -490,8 +490,8 @@ def test_what_no_scenario_tells_is_run_again_too(targets, target, fault):
 
 def test_what_cannot_be_run_again_is_told(targets):
     (targets / "other.scenario").write_text("tick 1\n")
-    status, told, reason = run_again(targets, "targets.py:Raises", "--again", "other.scenario")
-    assert (status, told) == (2, "") and "other.scenario: not a file that a campaign wrote" in reason
+    status, output, reason = run_again(targets, "targets.py:Raises", "--again", "other.scenario")
+    assert (status, output) == (2, "") and "other.scenario: not a file that a campaign wrote" in reason
     assert run_again(targets, "targets.py:Raises", "--again", "none.scenario")[0] == 2
     text = "# a\n# target, seed 1, case 2, made smaller by 3 runs\ncalls\ncalls\ncalls\n"
     with pytest.raises(campaigns.CampaignError, match="the target draws another case than the file's, which has 3 applications"):

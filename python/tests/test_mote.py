@@ -143,15 +143,15 @@ class Fails:
     """Raises, returns no call, and then prints, at each line that comes in."""
 
     def __init__(self):
-        self.told = 0
+        self.turns = 0
 
     def turn(self, stimulus):
         if not (isinstance(stimulus, Event) and stimulus.code == EventCode.SERIAL_LINE):
             return Wait()
-        self.told += 1
-        if self.told == 1:
+        self.turns += 1
+        if self.turns == 1:
             raise KeyError("no such thing")
-        return None if self.told == 2 else Print(b"third")
+        return None if self.turns == 2 else Print(b"third")
 
 
 def test_an_application_that_raises_leaves_the_mote_as_it_was():
@@ -168,7 +168,7 @@ def test_an_application_that_raises_leaves_the_mote_as_it_was():
         mote.resume()
     assert mote.transcript == fault.transcript and mote.awaiting == (5, Event(138, b"on"))
     assert texts(mote.resume())[0] == "5 event 138 x6f6e -> print 7468697264" and mote.awaiting is None
-    assert mote.tick(1)[0].text == "> tick 1" and mote.application(5).told == 3
+    assert mote.tick(1)[0].text == "> tick 1" and mote.application(5).turns == 3
 
 
 def test_a_run_so_far_ends_before_a_turn_that_awaits_its_call():
@@ -296,19 +296,19 @@ def test_an_application_cannot_close_its_mote():
 
 
 def test_a_mote_at_work_cannot_be_closed_by_another_thread():
-    told, goes_on = threading.Event(), threading.Event()
+    reached, goes_on = threading.Event(), threading.Event()
 
     class Dawdles:
         def turn(self, stimulus):
             if stimulus == Event(EventCode.SERIAL_LINE, b"on"):
-                told.set()
+                reached.set()
                 goes_on.wait(60)
             return Wait()
 
     mote = Mote([Dawdles])
     thread = threading.Thread(target=mote.serial_text, args=("on",))
     thread.start()
-    assert told.wait(60)
+    assert reached.wait(60)
     with pytest.raises(MoteError, match="the mote is at work"):
         mote.close()
     goes_on.set()
@@ -455,21 +455,21 @@ def test_a_generator_begins_anew_at_each_start():
 
 
 def test_a_generator_whose_process_was_killed_ends_at_the_next_start():
-    told = []
+    received = []
 
     def cleans():
         try:
             while True:
-                told.append(str((yield Wait())))
+                received.append(str((yield Wait())))
         finally:
-            told.append("cleaned")
+            received.append("cleaned")
 
     # 5 was started last, so it is told of a line first: 4 is gone by then, or not yet on the list that the broadcast began with.
     mote = Mote([cleans, ["wait", "kill 4", "wait", "start 4"]])
     mote.serial_text("a")
-    assert told == ["131 -"]
+    assert received == ["131 -"]
     mote.serial_text("b")
-    assert told == ["131 -", "cleaned"] and mote.transcript.turns(4)[-1].text == "4 synch 129 - -> wait"
+    assert received == ["131 -", "cleaned"] and mote.transcript.turns(4)[-1].text == "4 synch 129 - -> wait"
 
 
 def test_what_makes_a_generator_is_asked_at_each_start():
@@ -519,15 +519,15 @@ def test_a_generator_that_returns_exits():
 
 
 def test_answers_and_stimuli_are_sent():
-    told = []
+    received = []
 
     def listens():
-        told.append((yield MmemAlloc(0, 4097)))
-        told.append((yield MmemAlloc(0, 8)))
-        told.append((yield Wait()))
+        received.append((yield MmemAlloc(0, 4097)))
+        received.append((yield MmemAlloc(0, 8)))
+        received.append((yield Wait()))
 
     toarmuts.run([listens], "serial 6869\nserial 0a\n")
-    assert [str(told[0]), str(told[1])] == ["refused 12", "done"] and told[2] == Event(EventCode.SERIAL_LINE, b"hi")
+    assert [str(received[0]), str(received[1])] == ["refused 12", "done"] and received[2] == Event(EventCode.SERIAL_LINE, b"hi")
 
 
 def test_tables_and_objects_are_applications():

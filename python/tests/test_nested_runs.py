@@ -112,22 +112,22 @@ def test_at_each_place(work, how):
 
 
 def test_in_a_signals_handler():
-    wanted, told, wrong = toarmuts.run(["blink"], SCRIPT).transcript.data, [], 0
+    wanted, printed, wrong = toarmuts.run(["blink"], SCRIPT).transcript.data, [], 0
 
     def handler(*_):
-        told.append(toarmuts.run(["hello"]).printed())
+        printed.append(toarmuts.run(["hello"]).printed())
         signal.setitimer(signal.ITIMER_REAL, 0.0005)
 
     before = signal.signal(signal.SIGALRM, handler)
     try:
         signal.setitimer(signal.ITIMER_REAL, 0.0005)
         ends = time.monotonic() + 300
-        while len(told) < 1000 and time.monotonic() < ends:
+        while len(printed) < 1000 and time.monotonic() < ends:
             wrong += toarmuts.run(["blink"], SCRIPT).transcript.data != wanted
     finally:
         signal.setitimer(signal.ITIMER_REAL, 0)
         signal.signal(signal.SIGALRM, before)
-    assert wrong == 0 and len(told) >= 1000 and set(told) == {b"hi\n"}
+    assert wrong == 0 and len(printed) >= 1000 and set(printed) == {b"hi\n"}
 
 
 IMPORTS = """import sys, toarmuts

@@ -44,7 +44,7 @@ def pair():
 
 def test_each_input_gives_the_lines_that_follow():
     network = pair()
-    assert (network.clock, network.transcript.data, network.closed, network.halted) == (0, b"", False, False)
+    assert (network.clock, network.transcript.data, network.closed, network.exhausted) == (0, b"", False, False)
     assert texts(network.start()) == STARTED == texts(network.booted) == texts(network.start())
     assert texts(network.tick(3)) == RECEIVED and network.clock == 3
     assert texts(network.tick(0)) == [] and texts(network.at(3)) == [] and texts(network.at(5)) == ["= 5"]
@@ -70,7 +70,7 @@ def test_a_frame_is_lost_or_finds_no_room(loss, line):
 def test_a_halted_mote_misses_what_comes():
     network = Network(["clock-watcher", [SENDS], "echo"]).link(2, 1, delay=4)
     started = network.start()
-    assert network.mote(1).halted and not network.mote(2).halted and not network.halted and "1 halt" in texts(started)
+    assert network.mote(1).halted and not network.mote(2).halted and not network.exhausted and "1 halt" in texts(started)
     assert texts(network.frame(1, b"a")) == ["missed - 1"] and texts(network.tick(4)) == ["= 4", "missed 2 1"]
     missed = [entry for entry in network.transcript if entry.kind is NetworkKind.MISSED]
     assert [(entry.sender, entry.mote, entry.clock) for entry in missed] == [(None, 1, 0), (2, 1, 4)]
@@ -79,14 +79,23 @@ def test_a_halted_mote_misses_what_comes():
     assert part.status is Status.HALTED and part.script == b"" and part.again().text == part.text
 
 
-def test_a_network_halts_where_an_input_takes_all_its_rounds():
+def test_an_input_uses_up_its_rounds():
     network = Network(["relay", "relay"], rounds=6).line()
     assert texts(network.frame(1, b"a"))[-1] == "1 4 answer done -> wait"
-    assert texts(network.tick(100))[-1] == "halt" and network.halted and network.transcript[-1].kind is NetworkKind.HALT
+    assert texts(network.tick(100))[-1] == "halt" and network.exhausted and network.transcript[-1].kind is NetworkKind.EXHAUSTED
     for use in (lambda: network.tick(), lambda: network.frame(1, b"a"), lambda: network.resume()):
         with pytest.raises(MoteError, match="the network was halted: nothing follows"):
             use()
-    assert network.so_far().status is Status.HALTED
+    assert network.so_far().status is Status.EXHAUSTED
+
+
+def test_old_names_stay_for_a_version():
+    network = Network(["relay", "relay"], rounds=6).line()
+    network.frame(1, b"a")
+    assert not network.halted
+    network.tick(100)
+    assert network.halted and NetworkKind.HALT is NetworkKind.EXHAUSTED is NetworkKind("halt")
+    assert Status.HALTED is Status.EXHAUSTED and Status(3).name == "HALTED"
 
 
 def worked():
@@ -122,8 +131,8 @@ def test_random_networks(part):
     for number in range(25 * part, 25 * part + 25):
         network, inputs = random_network(number)
         run = run_network(network, inputs)
-        told = subprocess.run([PROGRAM], input=run.script().encode(), capture_output=True, check=False)
-        assert (told.returncode, told.stderr) == (run.status, b"") and run.difference(told.stdout) is None, run.script()
+        ran = subprocess.run([PROGRAM], input=run.script().encode(), capture_output=True, check=False)
+        assert (ran.returncode, ran.stderr) == (run.status, b"") and run.difference(ran.stdout) is None, run.script()
         check_parts(run)
 
 
@@ -184,8 +193,8 @@ def test_applications_in_python():
 def test_motes_of_their_own_sizes():
     network = Network().add("calls mmem-avail", mmem=64).add("calls mmem-avail", count=2)
     network.start()
-    told = [network.mote(number).transcript[1].text for number in (1, 2, 3)]
-    assert told == ["4 answer num 64 -> wait"] + ["4 answer num 4096 -> wait"] * 2
+    entries = [network.mote(number).transcript[1].text for number in (1, 2, 3)]
+    assert entries == ["4 answer num 64 -> wait"] + ["4 answer num 4096 -> wait"] * 2
     assert network.so_far().script() == "mote 1 --mmem 64 calls mmem-avail\nmote 2..3 calls mmem-avail\n"
 
 
@@ -193,11 +202,11 @@ def test_lines_of_motes_are_numbered_in_the_whole():
     """What an input returns has the numbers and clocks of the whole run."""
     network = Network(["blink", "echo"])
     network.tick(10)
-    told = network.serial_text(2, "on")
-    assert [(entry.line, entry.clock, entry.entry.line, entry.entry.clock) for entry in told] == [
+    entries = network.serial_text(2, "on")
+    assert [(entry.line, entry.clock, entry.entry.line, entry.entry.clock) for entry in entries] == [
         (9, 10, 2, 10), (10, 10, 3, 10), (11, 10, 4, 10), (12, 10, 5, 10)]
-    assert told.mote(2)[1].line == 3 and told.motes == [2] and len(told.mote(1)) == 0
-    assert texts(told) == ["2 > tick 10", "2 > serial 6f6e0a", "2 4 event 138 x6f6e -> print 6f6e", "2 4 answer done -> wait"]
+    assert entries.mote(2)[1].line == 3 and entries.motes == [2] and len(entries.mote(1)) == 0
+    assert texts(entries) == ["2 > tick 10", "2 > serial 6f6e0a", "2 4 event 138 x6f6e -> print 6f6e", "2 4 answer done -> wait"]
     assert network.mote(2).clock == 10 and network.mote(2).transcript == network.so_far().mote(2).transcript
 
 
@@ -232,8 +241,8 @@ def test_the_next_timer_of_a_mote(application):
 
 def test_a_mote_goes_on_until_something_holds():
     mote = Mote(["blink"])
-    told = mote.until(lambda mote: mote.printed().count(b"off") == 2)
-    assert (mote.clock, told.printed(), [entry.ticks for entry in told.inputs()]) == (40, b"on\noff\non\noff\n", [10, 10, 10, 10])
+    entries = mote.until(lambda mote: mote.printed().count(b"off") == 2)
+    assert (mote.clock, entries.printed(), [entry.ticks for entry in entries.inputs()]) == (40, b"on\noff\non\noff\n", [10, 10, 10, 10])
     assert texts(mote.until(lambda mote: True)) == [] and mote.clock == 40
     with pytest.raises(NotReached, match="what was awaited doesn't hold after 25 ticks, at clock 65"):
         mote.until(lambda mote: False, most=25)
@@ -247,9 +256,9 @@ def test_a_mote_goes_on_until_something_holds():
 def test_a_network_goes_on_until_something_holds():
     network = Network(["relay", "relay", "blink"]).link(1, 2, delay=3).link(2, 1, delay=4, every=2)
     network.frame(1, b"a")
-    told = network.until(lambda network: len(network.sent()) == 4)
+    entries = network.until(lambda network: len(network.sent()) == 4)
     assert network.frames() == [Frame(0, 1, b"a"), Frame(3, 2, b"a"), Frame(7, 1, b"a"), Frame(10, 2, b"a")]
-    assert [entry.text for entry in told if entry.kind is NetworkKind.CLOCK] == ["= 3", "= 7", "= 10"] and network.clock == 10
+    assert [entry.text for entry in entries if entry.kind is NetworkKind.CLOCK] == ["= 3", "= 7", "= 10"] and network.clock == 10
     # The last frame is lost: only the timer of mote 3 is left.
     assert network.until(lambda network: network.printed(3) == b"on\noff\n").mote(3).printed() == b"off\n" and network.clock == 20
     with pytest.raises(NotReached):
@@ -321,19 +330,19 @@ def test_a_closed_network():
 
 
 def test_a_network_at_work_is_used_by_nobody_else():
-    told, goes_on = threading.Event(), threading.Event()
+    reached, goes_on = threading.Event(), threading.Event()
 
     class Dawdles:
         def turn(self, stimulus):
             if stimulus == Event(EventCode.SERIAL_LINE, b"on"):
-                told.set()
+                reached.set()
                 goes_on.wait(60)
             return Wait()
 
     network = Network([Dawdles])
     thread = threading.Thread(target=network.serial_text, args=(1, "on"))
     thread.start()
-    assert told.wait(60)
+    assert reached.wait(60)
     for use in (network.close, network.tick, network.start):
         with pytest.raises(MoteError, match="the network is at work"):
             use()
@@ -428,8 +437,8 @@ def test_what_a_network_did_goes_on_from_where_it_was():
 def test_the_front_of_a_part():
     """Its lines have the numbers and clocks that they have in the part, of the network and of the mote."""
     part = NetworkTranscript("1 > tick 2\n1 > tick 3\n= 20\n", lines_before=5, clock_before=9, before={1: Place(3, 4)})
-    told = [(it.line, it.clock, it.entry.line, it.entry.clock) for it in part.front(2)]
-    assert told == [(6, 9, 4, 6), (7, 9, 5, 9)] and part.front(9) == part and len(part.front(0)) == 0
+    numbers = [(it.line, it.clock, it.entry.line, it.entry.clock) for it in part.front(2)]
+    assert numbers == [(6, 9, 4, 6), (7, 9, 5, 9)] and part.front(9) == part and len(part.front(0)) == 0
 
 
 def test_many_inputs_are_taken_as_fast_as_few():
@@ -492,14 +501,14 @@ def test_an_application_reads_the_network_it_is_in():
     class Reads:
         def turn(self, stimulus):
             if isinstance(stimulus, Event) and stimulus.code == EventCode.SERIAL_LINE:
-                told.append((network.printed(), network.mote(1).clock))
+                seen.append((network.printed(), network.mote(1).clock))
             return Wait()
 
-    told = []
+    seen = []
     network = Network([Reads, "blink", "hello"])
     network.tick(20)
     entries = network.serial_text(1, "on")
-    assert told == [(b"hi\non\noff\n", 20)] and [entry.entry.line for entry in entries] == [2, 3, 4]
+    assert seen == [(b"hi\non\noff\n", 20)] and [entry.entry.line for entry in entries] == [2, 3, 4]
     assert texts(network.tick(10))[1:3] == ["2 > tick 10", "2 4 event 136 0 -> print 6f6e0a"]
 
 
@@ -586,14 +595,14 @@ def test_both_readers_of_a_line_agree():
         for number in range(4000):
             line = script_line(random.Random(f"line {number}"))
             try:
-                told = read_input(line, 3)
+                line_read = read_input(line, 3)
             except BadInput:
                 with pytest.raises(BadInput, match="is not an input of a network of 3 motes"):
                     network.feed(line)
                 continue
             before = len(network.so_far().inputs) if number % 100 == 0 else None
             network.feed(line)
-            assert before is None or len(network.so_far().inputs) == before + (told is not None)
+            assert before is None or len(network.so_far().inputs) == before + (line_read is not None)
 
 
 def test_a_script_for_the_program():
@@ -774,8 +783,8 @@ def test_a_file_of_packets(tmp_path):
     network.pcap(place)
     fields = ["frame.time_epoch", "frame.len", "wpan.seq_no", "wpan.dst_pan", "wpan.dst16", "wpan.src16"]
     words = ["tshark", "-r", place, "-T", "fields", *(word for field in fields for word in ("-e", field))]
-    told = subprocess.run(words, capture_output=True, text=True, check=True).stdout
-    assert told == "".join(f"{time}00000000\t11\t7\t0xabcd\t0xffff\t0x0001\n" for time in ("0.0", "0.5"))
+    output = subprocess.run(words, capture_output=True, text=True, check=True).stdout
+    assert output == "".join(f"{time}00000000\t11\t7\t0xabcd\t0xffff\t0x0001\n" for time in ("0.0", "0.5"))
 
 
 # What can't be.
@@ -886,6 +895,6 @@ def test_wrong_arguments_are_told(make, fault, reason):
 def test_lines_of_a_script():
     assert read_input("", 2) is None and read_input("# 5", 2) is None
     for line in ("tick 0", "tick 4294967295", "1 serial 0a", "2 frame ff", "2 serial " + "00" * 256):
-        told = read_input(line, 2)
-        assert told is not None and told.text == line
+        line_read = read_input(line, 2)
+        assert line_read is not None and line_read.text == line
     assert Transcript(pair().start().mote(1).data) == pair().start().mote(1)

@@ -58,8 +58,8 @@ def test_the_third_frame_is_lost():
 
 def test_a_machine_finds_the_fault_and_makes_it_smaller():
     machine = machine_of(deliver.sender)
-    fault, told = failure_of(machine)
-    assert isinstance(fault, AssertionError) and machine.found[-1] in told
+    fault, output = failure_of(machine)
+    assert isinstance(fault, AssertionError) and machine.found[-1] in output
     network, inputs = read_network(machine.found[-1])
     # The smallest: one link loses frames, and the clock goes on once.
     assert [link.loss for link in network.setup.links] == [Loss(every=2), Loss()] and len(inputs) == 1
@@ -103,10 +103,10 @@ def test_a_machine_tells_of_an_application_that_raises(applications, words):
         def make(self):
             return Network(["blink", applications])
 
-    fault, told = failure_of(Raises)
+    fault, output = failure_of(Raises)
     assert isinstance(fault, toarmuts.ApplicationError) and fault.mote == 2
     for word in words:
-        assert word in Raises.found[-1] and word in told
+        assert word in Raises.found[-1] and word in output
 
 
 def test_a_machine_without_a_network():
@@ -168,8 +168,8 @@ WORDS = ("deliver.py:Delivery", "--seeds", "0:4", "--count", "20")
 def test_a_campaign_finds_the_fault_with_any_number_of_processes(tmp_path):
     found = [campaign(tmp_path / str(jobs), *WORDS, "--jobs", jobs) for jobs in (1, 2)]
     assert found[0] == found[1]
-    status, told, files = found[0]
-    assert status == 1 and "4 seeds, 80 runs" in told and list(files) == ["a-letter-is-left-out.net"]
+    status, output, files = found[0]
+    assert status == 1 and "4 seeds, 80 runs" in output and list(files) == ["a-letter-is-left-out.net"]
     (text,) = files.values()
     network, inputs = read_network(text)
     assert len(inputs) == 1 and [link.loss == Loss() for link in network.setup.links] == [False, True]
@@ -185,8 +185,8 @@ def test_dask_changes_nothing(tmp_path):
 
 def test_a_campaign_finds_nothing_where_nothing_is_wrong(tmp_path):
     words = ("deliver.py:RepairedDelivery", "--seeds", "0:2", "--count", "20", "--jobs", 1, "--coverage")
-    status, told, files = campaign(tmp_path / "none", *words)
-    assert status == 0 and files == {} and "2 seeds, 40 runs" in told and re.search("packet-send +done [0-9]+", told)
+    status, output, files = campaign(tmp_path / "none", *words)
+    assert status == 0 and files == {} and "2 seeds, 40 runs" in output and re.search("packet-send +done [0-9]+", output)
 
 
 def test_a_case_is_made_smaller():

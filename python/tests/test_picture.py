@@ -46,7 +46,7 @@ def test_what_the_program_is_told(tmp_path, monkeypatch):
     assert quiet.svg(first=0, last=0, unfolded=True) == "--mmem 64 --quota 20 --from 0 --to 0 --unfolded hello blink "
     waits = [Wait()]
     named = toarmuts.run([waits]).named[0]
-    run = dataclasses.replace(toarmuts.run([waits]), named=(dataclasses.replace(named, told="-x"),))
+    run = dataclasses.replace(toarmuts.run([waits]), named=(dataclasses.replace(named, shown="-x"),))
     assert run.svg() == "-- -x "
     stub.write_text("#!/bin/sh\necho why >&2\nexit 2\n")
     with pytest.raises(NoPicture, match="ended with 2: why"):

@@ -219,11 +219,11 @@ class NoLineOff(MoteMachine):
 
 def test_a_machine_shows_the_line_and_the_run():
     NoLineOff.found.clear()
-    fault, told = failure_of(NoLineOff)
-    assert isinstance(fault, AssertionError) and "state.serial_text(line='off')" in told
+    fault, output = failure_of(NoLineOff)
+    assert isinstance(fault, AssertionError) and "state.serial_text(line='off')" in output
     smallest = read_scenarios(NoLineOff.found[-1])[0]
     assert smallest.script == "serial 6f66660a\n" and smallest.carry_out().fault is None
-    assert "serial 6f66660a" in told and "5 event" not in told
+    assert "serial 6f66660a" in output and "5 event" not in output
 
 
 def raises_on_tick():
@@ -255,10 +255,10 @@ def test_a_machine_tells_of_an_application_that_raises(application, words):
         found = []
         on_failure = found.append
 
-    fault, told = failure_of(Raises)
+    fault, output = failure_of(Raises)
     assert isinstance(fault, toarmuts.ApplicationError)
     for word in words:
-        assert word in Raises.found[-1] and word in told
+        assert word in Raises.found[-1] and word in output
     assert read_scenarios(Raises.found[-1])[0].transcript == ""
 
 

@@ -18,10 +18,10 @@ def told_by(*words):
 @pytest.mark.parametrize("what, least", [("run", 288), ("step", 192), ("mote", 192), ("network", 192)])
 def test_each_size_of_a_stack_has_an_answer(what, least):
     """docs/python.md promises what is done with so many KiB. What is refused for a small stack is refused for each smaller one."""
-    told = {int(size): answer for size, answer in told_by("sizes", what)}
-    refused = [size for size, answer in told.items() if answer == "too small"]
+    answers = {int(size): answer for size, answer in told_by("sizes", what)}
+    refused = [size for size, answer in answers.items() if answer == "too small"]
     assert refused == list(range(32, refused[-1] + 1, 16)) and refused[-1] < least
-    assert {told[size] for size in told if size not in refused} == {"b'hi\\n'"}
+    assert {answers[size] for size in answers if size not in refused} == {"b'hi\\n'"}
 
 
 @pytest.mark.parametrize("what, least", [("run", 288), ("step", 192)])

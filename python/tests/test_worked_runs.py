@@ -78,11 +78,12 @@ def test_the_lines_before_a_difference_and_its_clock_are_told():
     ticks = [f"> tick {number}" for number in range(1, 6)]
     for place in range(5):
         wanted = "\n".join([*ticks[:place], "> tick 9", *ticks[place + 1:]])
-        told = toarmuts.first_difference(wanted, "\n".join(ticks))
-        assert (told.line, told.clock) == (place + 1, sum(range(place + 1))) and told.before == tuple(ticks[max(0, place - 3):place])
+        difference = toarmuts.first_difference(wanted, "\n".join(ticks))
+        assert (difference.line, difference.clock) == (place + 1, sum(range(place + 1)))
+        assert difference.before == tuple(ticks[max(0, place - 3):place])
     run = toarmuts.run(["hello"])
-    told = run.difference("4 synch 129 - -> wait\n")
-    assert (told.wanted, told.found) == ("4 synch 129 - -> wait", "4 synch 129 - -> print 68690a")
+    difference = run.difference("4 synch 129 - -> wait\n")
+    assert (difference.wanted, difference.found) == ("4 synch 129 - -> wait", "4 synch 129 - -> print 68690a")
 
 
 def test_what_is_written_of_a_run(tmp_path):
@@ -108,8 +109,8 @@ def test_another_end_is_told():
 
 
 def test_an_end_of_the_transcript_is_told():
-    told = str(toarmuts.first_difference("> tick 1\n", "> tick 1\n> tick 2\n"))
-    assert "wanted:   the transcript ends" in told and "found:    > tick 2" in told
+    difference = str(toarmuts.first_difference("> tick 1\n", "> tick 1\n> tick 2\n"))
+    assert "wanted:   the transcript ends" in difference and "found:    > tick 2" in difference
     assert toarmuts.first_difference("> tick 1\n", b"> tick 1\n") is None
 
 

@@ -10,7 +10,7 @@ from retarget.compiler import kit_folder
 from retarget.refusal import Refused
 
 ROOT = Path(__file__).resolve().parent.parent.parent
-PRODUCTS = ("toarmuts", "mote_picture", "scenario", "network", "network_picture")
+PRODUCTS = ("toarmuts", "mote_picture", "scenario", "network")
 COPYRIGHT = Path("/usr/share/doc")
 
 

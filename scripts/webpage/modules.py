@@ -40,7 +40,6 @@ MODULES = {
     "picture": Module("mote_picture", ("memory.c", "program.c"), ()),
     "scenario": Module("scenario", ("memory.c", "program.c"), ()),
     "network": Module("network", ("memory.c", "program.c"), ()),
-    "chart": Module("network_picture", ("memory.c", "program.c"), ()),
 }
 
 

@@ -115,7 +115,7 @@ main(int count, char **words)
   if(length == 0 || toarmuts_open(&sizes, count_applications(length), &mote) != TOARMUTS_DONE) {
     return 98;
   }
-  while(toarmuts_next(&mote, &step, &turn) == TOARMUTS_DONE && step != TOARMUTS_HALT) {
+  while(toarmuts_next(&mote, &step, &turn) == TOARMUTS_DONE && step != TOARMUTS_STEP_HALTED) {
     uint64_t told = 0;
     if(step == TOARMUTS_REST && (next >= transcript + length || toarmuts_feed(&mote, (const uint8_t *)next + 2, strlen(next) - 2) != 0)) {
       break;

@@ -71,7 +71,7 @@ static uint32_t
 step_of(struct toarmuts_mote *mote, const struct toarmuts_call *call, const char *input, uint8_t *line, uint64_t *length)
 {
   struct toarmuts_turn turn;
-  uint32_t step = TOARMUTS_HALT;
+  uint32_t step = TOARMUTS_STEP_HALTED;
   toarmuts_next(mote, &step, &turn);
   if(step == TOARMUTS_TURN) {
     toarmuts_submit(mote, call);

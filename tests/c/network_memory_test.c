@@ -59,7 +59,8 @@ take_turns(long count)
   struct toarmuts_turn turn;
   uint8_t line[660];
   uint64_t length;
-  while(count-- > 0 && toarmuts_network_next(&network, &happening, &turn) == TOARMUTS_DONE && happening.step != TOARMUTS_NETWORK_HALT) {
+  while(count-- > 0 && toarmuts_network_next(&network, &happening, &turn) == TOARMUTS_DONE &&
+        happening.step != TOARMUTS_NETWORK_EXHAUSTED) {
     if(happening.step == TOARMUTS_NETWORK_TURN) {
       struct toarmuts_call call = random_call();
       struct toarmuts_application application = any_application();

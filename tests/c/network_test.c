@@ -120,10 +120,12 @@ check_halt(void)
   check("timer runs out", toarmuts_network_tick(&network, 9) == TOARMUTS_DONE && tells(&network, TOARMUTS_NETWORK_CLOCK, 0, 0, 5, "= 5") &&
                             tells(&network, TOARMUTS_NETWORK_ENTRY, 2, 0, 5, "2 > tick 5") &&
                             takes_turn(&network, 2, 5, wait_call, "2 4 event 136 0 -> wait"));
-  check("halt", tells(&network, TOARMUTS_NETWORK_HALT, 0, 0, 5, "halt") && tells(&network, TOARMUTS_NETWORK_HALT, 0, 0, 5, "halt") &&
-                  toarmuts_network_tick(&network, 1) == TOARMUTS_HALTED &&
-                  toarmuts_network_feed(&network, 2, TOARMUTS_FRAME, (const uint8_t *)"a", 1) == TOARMUTS_HALTED &&
+  check("halt", tells(&network, TOARMUTS_NETWORK_EXHAUSTED, 0, 0, 5, "halt") &&
+                  tells(&network, TOARMUTS_NETWORK_EXHAUSTED, 0, 0, 5, "halt") &&
+                  toarmuts_network_tick(&network, 1) == TOARMUTS_EXHAUSTED &&
+                  toarmuts_network_feed(&network, 2, TOARMUTS_FRAME, (const uint8_t *)"a", 1) == TOARMUTS_EXHAUSTED &&
                   toarmuts_network_submit(&network, &wait_call) == TOARMUTS_NO_TURN);
+  check("old names", TOARMUTS_NETWORK_HALT == TOARMUTS_NETWORK_EXHAUSTED && TOARMUTS_HALT == TOARMUTS_STEP_HALTED);
   toarmuts_network_close(&network);
 }
 
@@ -231,7 +233,7 @@ check_due(void)
 /* A network, and what is known of it. */
 struct known {
   struct toarmuts_network network;
-  bool is_open, is_fresh, awaits, rests, is_spent;
+  bool is_open, is_fresh, awaits, rests, is_exhausted;
   uint32_t motes, links;
 };
 
@@ -252,7 +254,7 @@ opens(struct known *known)
     return status == TOARMUTS_IS_OPEN;
   }
   known->is_open = known->is_fresh = fits;
-  known->awaits = known->rests = known->is_spent = false;
+  known->awaits = known->rests = known->is_exhausted = false;
   known->motes = count;
   known->links = sizes.links;
   return status == (fits ? TOARMUTS_DONE : TOARMUTS_BAD_SIZES);
@@ -288,10 +290,10 @@ goes_on(struct known *known)
   known->is_fresh = false;
   known->awaits = happening.step == TOARMUTS_NETWORK_TURN;
   known->rests = happening.step == TOARMUTS_NETWORK_REST;
-  bool was_spent = known->is_spent;
-  known->is_spent = happening.step == TOARMUTS_NETWORK_HALT;
-  return status == TOARMUTS_DONE && happening.step <= TOARMUTS_NETWORK_HALT && happening.mote <= known->motes &&
-         happening.from <= known->motes && (!was_spent || known->is_spent) && (known->awaits ? turn.process >= 4 : is_same);
+  bool was_exhausted = known->is_exhausted;
+  known->is_exhausted = happening.step == TOARMUTS_NETWORK_EXHAUSTED;
+  return status == TOARMUTS_DONE && happening.step <= TOARMUTS_NETWORK_EXHAUSTED && happening.mote <= known->motes &&
+         happening.from <= known->motes && (!was_exhausted || known->is_exhausted) && (known->awaits ? turn.process >= 4 : is_same);
 }
 
 static bool
@@ -325,11 +327,11 @@ submits_bundled(struct known *known)
 static uint32_t
 due_for(const struct known *known, uint32_t by_itself)
 {
-  return !known->is_open   ? TOARMUTS_CLOSED
-         : known->awaits   ? TOARMUTS_AWAITS_CALL
-         : known->is_spent ? TOARMUTS_HALTED
-         : !known->rests   ? TOARMUTS_NOT_AT_REST
-                           : by_itself;
+  return !known->is_open       ? TOARMUTS_CLOSED
+         : known->awaits       ? TOARMUTS_AWAITS_CALL
+         : known->is_exhausted ? TOARMUTS_EXHAUSTED
+         : !known->rests       ? TOARMUTS_NOT_AT_REST
+                               : by_itself;
 }
 
 static bool
@@ -388,7 +390,7 @@ closes(struct known *known)
     return holds;
   }
   holds = holds && toarmuts_network_close(&known->network) == (known->is_open ? TOARMUTS_DONE : TOARMUTS_CLOSED);
-  known->is_open = known->is_fresh = known->awaits = known->rests = known->is_spent = false;
+  known->is_open = known->is_fresh = known->awaits = known->rests = known->is_exhausted = false;
   return holds && !known->network.is_open;
 }
 
@@ -558,7 +560,7 @@ write_lines(FILE *file, struct toarmuts_network *network, struct drawn *drawn)
       fwrite(line, 1, length, file);
       fputc('\n', file);
     }
-    if(happening.step == TOARMUTS_NETWORK_HALT) {
+    if(happening.step == TOARMUTS_NETWORK_EXHAUSTED) {
       break;
     }
   }

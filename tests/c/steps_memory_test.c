@@ -12,7 +12,7 @@ take_turns(struct toarmuts_mote *mote, long count)
   uint8_t line[640];
   uint64_t length;
   uint32_t step;
-  while(count-- > 0 && toarmuts_next(mote, &step, &turn) == TOARMUTS_DONE && step != TOARMUTS_HALT) {
+  while(count-- > 0 && toarmuts_next(mote, &step, &turn) == TOARMUTS_DONE && step != TOARMUTS_STEP_HALTED) {
     if(step == TOARMUTS_TURN) {
       struct toarmuts_call call = random_call();
       struct toarmuts_application application = any_application();

@@ -165,7 +165,7 @@ check_halt(void)
   }
   check("ten thousand turns", holds);
   check("halt", toarmuts_next(&mote, &step, &turn) == TOARMUTS_DONE && step == TOARMUTS_ENTRY && line_is(&mote, "halt") &&
-                  toarmuts_next(&mote, &step, &turn) == TOARMUTS_DONE && step == TOARMUTS_HALT);
+                  toarmuts_next(&mote, &step, &turn) == TOARMUTS_DONE && step == TOARMUTS_STEP_HALTED);
   check("halted", feed(&mote, "tick 1") == TOARMUTS_HALTED && toarmuts_submit(&mote, &clock) == TOARMUTS_NO_TURN);
   toarmuts_close(&mote);
 }
@@ -244,7 +244,7 @@ static bool
 takes_turn(struct toarmuts_mote *mote, struct toarmuts_application *application, const char *line)
 {
   struct toarmuts_turn turn;
-  uint32_t step = TOARMUTS_HALT;
+  uint32_t step = TOARMUTS_STEP_HALTED;
   return toarmuts_next(mote, &step, &turn) == TOARMUTS_DONE && step == TOARMUTS_TURN &&
          toarmuts_submit_bundled(mote, application) == TOARMUTS_DONE && line_is(mote, line);
 }
@@ -346,10 +346,10 @@ goes_on(struct known *known)
   known->awaits = step == TOARMUTS_TURN;
   known->rests = step == TOARMUTS_REST;
   known->is_halted = known->is_halted || (step == TOARMUTS_ENTRY && line_is(&known->mote, "halt"));
-  if(known->is_halted ? step != TOARMUTS_HALT && step != TOARMUTS_ENTRY : step == TOARMUTS_HALT) {
+  if(known->is_halted ? step != TOARMUTS_STEP_HALTED && step != TOARMUTS_ENTRY : step == TOARMUTS_STEP_HALTED) {
     return false;
   }
-  return status == TOARMUTS_DONE && step <= TOARMUTS_HALT &&
+  return status == TOARMUTS_DONE && step <= TOARMUTS_STEP_HALTED &&
          (step != TOARMUTS_TURN || (turn.process >= 4 && turn.process <= 19 && turn.length <= 127));
 }
 

@@ -37,7 +37,7 @@ are_rows(const struct transcript_row *rows, size_t count, size_t length)
   for(size_t i = 0; i < count; i++) {
     const struct transcript_row *row = &rows[i];
 
-    if(row->begin != next || row->begin + row->length > length || row->told > row->length || row->call > row->length ||
+    if(row->begin != next || row->begin + row->length > length || row->content > row->length || row->call > row->length ||
        row->answer > count || row->asked > i || row->kind > TRANSCRIPT_NO_FORM || row->call_kind > 50) {
       return 0;
     }

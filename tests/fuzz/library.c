@@ -165,7 +165,7 @@ next_of_mote(struct toarmuts_mote *mote, uint32_t *step)
   *step = UNCHANGED;
   bool is_done = note(3, toarmuts_next(mote, step, &turn));
   see(2100 + (is_done ? *step : 7));
-  WANT(is_done ? *step <= TOARMUTS_HALT : *step == UNCHANGED);
+  WANT(is_done ? *step <= TOARMUTS_STEP_HALTED : *step == UNCHANGED);
   if(is_done && *step == TOARMUTS_TURN) {
     check_turn(&turn);
   } else {

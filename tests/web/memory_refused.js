@@ -1,5 +1,5 @@
 // The library and the programs with the least memory that a page gives: what they tell, and that a later run is right.
-const { library, picture, scenario, network, chart } = await compile(), least = LEAST_PAGES * PAGE_BYTES;
+const { library, picture, scenario, network } = await compile(), least = LEAST_PAGES * PAGE_BYTES;
 const sizes = { ...DEFAULT_SIZES, quiet: false }, long = utf8.encode("tick 1\n".repeat(300000));
 const small = new Library(library, least), told = [];
 
@@ -32,5 +32,5 @@ told.push(outcomeOf(() => run(picture, "mote_picture", ["--page"], transcript)))
 told.push(outcomeOf(() => run(scenario, "scenario", ["run"], new Uint8Array())));
 told.push(outcomeOf(() => run(network, "network", [], utf8.encode("mote 1..100000 relay\ntick 1\n"))));
 const charted = utf8.encode(`mote 1 relay\n${"1 > tick 1\n".repeat(300000)}`);
-told.push(outcomeOf(() => run(chart, "network_picture", [], charted)));
+told.push(outcomeOf(() => run(picture, "network_picture", [], charted)));
 return { told, usuals, motes: motes.length };

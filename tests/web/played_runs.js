@@ -4,7 +4,7 @@ const goOn = (mote, lists, told) => {
   for (;;) {
     const { status, step, turn } = mote.next();
     if (status !== 0) throw new Error(`next: ${STATUS[status]}`);
-    if (step === "REST" || step === "HALT") return step;
+    if (step === "REST" || step === "HALTED") return step;
     if (step === "TURN") {
       const answered = mote.answer(readCall(lists[turn.process - 4].shift() ?? "wait"));
       if (answered !== 0) throw new Error(`answer: ${STATUS[answered]}`);
@@ -19,7 +19,7 @@ return CASES.map(({ configuration, lists, script }) => {
   const mote = new Mote(library, configuration, lists.length), told = [];
   let step = goOn(mote, lists, told);
   for (const [place, line] of script.entries()) {
-    if (step === "HALT") break;
+    if (step === "HALTED") break;
     const fed = mote.feed(line);
     if (STATUS[fed] === "BAD_LINE" || STATUS[fed] === "NO_INPUT") {
       told.push(`bad line ${place + 1}`);

@@ -1,4 +1,22 @@
 // The editors, by CodeMirror: lines with numbers, and messages at malformed lines.
+
+// The lines of a network's script, and what each does.
+const NETWORK_LINES = [
+  ["mote N WORD..", "The next mote, or motes N..M: names of applications, sizes as --mmem 64, and at the end calls and a list of calls."],
+  ["link A B delay D", "What mote A sends, mote B hears D ticks later; D is at least 1."],
+  ["line N..M delay D", "Links both ways between each mote and the next."],
+  ["ring N..M delay D", "The same, and between the last and the first; at least three motes."],
+  ["mesh N..M delay D", "Links both ways between each two motes."],
+  ["grid N..M width W delay D", "Rows of W motes, with links both ways between neighbours."],
+  ...RULES.losses.map(({ form, about }) => [`.. ${form}`, `After a delay: ${about}.`]),
+  ["room N", "The number of frames that can be in flight (default: 1,024)."],
+  ["rounds N", "The number of rounds that one line can take (default: 16,777,216)."],
+  ["tick N", "The clock goes on by N ticks."],
+  ["N serial HEX", "Bytes arrive on the serial line of mote N."],
+  ["N frame HEX", "A frame from outside arrives at mote N."],
+];
+
+const LOSS_WORDS = RULES.losses.flatMap(({ form }) => form.match(/\b[a-z]+\b/g));
 const CALL_NAMES = new RegExp(`(?:${RULES.calls.map(({ name }) => name).sort((a, b) => b.length - a.length).join("|")})(?![\\w-])`);
 const GUTTERS = ["CodeMirror-linenumbers", "mistakes"];
 
@@ -27,7 +45,7 @@ CodeMirror.defineSimpleMode("network", {
   start: [
     { regex: /#.*/, sol: true, token: "comment" },
     { regex: new RegExp(`(?:${SETUP_WORDS.join("|")}|tick)\\b`), sol: true, token: "keyword" },
-    { regex: /(?:delay|every|lot|seed|width|calls|serial|frame)\b|--\w+/, token: "keyword" },
+    { regex: new RegExp(`(?:delay|${LOSS_WORDS.join("|")}|width|calls|serial|frame)\\b|--\\w+`), token: "keyword" },
     { regex: CALL_NAMES, token: "builtin" },
     { regex: /\bx?[0-9a-fA-F]+\b/, token: "number" },
     { regex: /[\w-]+/, token: null },

@@ -72,8 +72,8 @@ const SCRIPT_FORMS = {
 // Why the program scenario refuses a file: { message, line }, where line is 0 if the reason is in no line.
 function refusalOf({ status, errors }) {
   if (status === SCENARIO.OUT_OF_MEMORY) return { message: "The mote ran out of memory.", line: 0 };
-  const told = textOf(errors).trim().replace(`scenario: ${FILE_NAME}: `, ""), placed = /^line (\d+): ([^]*)$/.exec(told);
-  if (status !== SCENARIO.MALFORMED || !placed) return { message: told || `The program scenario ended with ${status}.`, line: 0 };
+  const said = textOf(errors).trim().replace(`scenario: ${FILE_NAME}: `, ""), placed = /^line (\d+): ([^]*)$/.exec(said);
+  if (status !== SCENARIO.MALFORMED || !placed) return { message: said || `The program scenario ended with ${status}.`, line: 0 };
   const form = SCRIPT_FORMS[/^(?:\d+ )?(tick|serial|frame) .* is no line of a script$/.exec(placed[2])?.[1]];
   return { message: form ? `${placed[2]}: ${form}` : placed[2], line: Number(placed[1]) };
 }

@@ -57,7 +57,7 @@ class HandView {
     if (!hand) return "No mote is running.";
     const clock = `Clock ${hand.clock.toLocaleString("en")}. `;
     if (hand.turn) return `${clock}It is process ${hand.turn.process}'s turn.`;
-    if (hand.step === "HALT") return `${clock}The mote halted: one input led to too much work.`;
+    if (hand.step === "HALTED") return `${clock}The mote halted: one input led to too much work.`;
     return `${clock}The mote rests: nothing happens until an input arrives.`;
   }
 
@@ -71,7 +71,7 @@ class HandView {
     byId("state").textContent = this.stateInWords();
     byId("ask").hidden = !isTurn;
     if (isTurn) byId("turn").textContent = this.turnInWords();
-    for (const button of byId("hand-inputs").querySelectorAll("button")) button.disabled = !hand || isTurn || hand.step === "HALT";
+    for (const button of byId("hand-inputs").querySelectorAll("button")) button.disabled = !hand || isTurn || hand.step === "HALTED";
     byId("undo").disabled = !hand || hand.actions.length === 0;
     byId("take").disabled = !hand || hand.actions.length === 0;
     this.showHelp();
@@ -79,24 +79,24 @@ class HandView {
   }
 
   showHelp() {
-    const help = byId("call-help"), told = aboutCall(byId("call").value);
+    const help = byId("call-help"), call = aboutCall(byId("call").value);
     help.replaceChildren();
-    if (!told) {
+    if (!call) {
       help.textContent = "Type a call, for example timer-set 0 10, or print \"hello\". An empty box lists all calls.";
       return;
     }
-    element("code", "", told.form, help);
-    element("span", "", ` ${told.about}`, help);
+    element("code", "", call.form, help);
+    element("span", "", ` ${call.about}`, help);
     const list = element("ul", "", undefined, help);
-    for (const [name, about] of told.arguments) element("li", "", `${name}: ${about}`, list);
+    for (const [name, about] of call.arguments) element("li", "", `${name}: ${about}`, list);
   }
 
   // The words come from the worker: of several drawings only the last one is shown. Lines whose words were stopped are shown without.
   async showLines() {
     const drawn = ++this.drawn, lines = this.hand ? [...this.hand.lines] : [];
-    const told = await this.tell(lines, this.hand?.sizes).catch(() => ({ words: [], clocks: [], answers: [] }));
+    const found = await this.tell(lines, this.hand?.sizes).catch(() => ({ words: [], clocks: [], answers: [] }));
     if (drawn !== this.drawn) return;
-    this.view.show({ ...told, lines, rows: null, names: [] });
+    this.view.show({ ...found, lines, rows: null, names: [] });
     if (lines.length > 0) this.view.choose(lines.length - 1);
   }
 }

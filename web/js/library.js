@@ -4,7 +4,7 @@ const STATUS = {
   19: "BAD_SIZES", 20: "NO_ROOM", 21: "OUT_OF_MEMORY", 22: "CLOSED", 23: "IS_OPEN", 24: "AWAITS_CALL", 25: "NO_TURN", 26: "NOT_AT_REST",
   27: "NO_CALL", 28: "NO_INPUT", 29: "TOO_MANY_INPUTS", 30: "NO_LINE",
 };
-const STEPS = ["TURN", "ENTRY", "REST", "HALT"];
+const STEPS = ["TURN", "ENTRY", "REST", "HALTED"];
 const LAST_STATUS_OF_A_RUN = 4;
 const FIRST_ROOM = 2 ** 20;
 const LONGEST_LINE = 639;
@@ -46,8 +46,8 @@ class Library {
       this.putConfiguration(numbers, configuration);
       const [textLength, scriptLength, roomLength] = [text.length, script.length, size].map(BigInt);
       this.instance.calls.toarmuts_run(numbers, names, textLength, inputs, scriptLength, transcript, roomLength, answer);
-      const told = this.readAnswer(answer);
-      return { ...told, transcript: told.status <= LAST_STATUS_OF_A_RUN ? this.instance.bytes(transcript, told.length).slice() : null };
+      const ran = this.readAnswer(answer);
+      return { ...ran, transcript: ran.status <= LAST_STATUS_OF_A_RUN ? this.instance.bytes(transcript, ran.length).slice() : null };
     });
   }
 
@@ -68,7 +68,7 @@ class Mote {
     this.instance = instance;
     this.calls = instance.calls;
     this.held = instance.allocateZeros(MOTE_SIZE);
-    const sizes = { turn: TURN.size, call: CALL.size, line: LONGEST_LINE + 1, told: 8 };
+    const sizes = { turn: TURN.size, call: CALL.size, line: LONGEST_LINE + 1, result: 8 };
     this.blocks = Object.fromEntries(Object.entries(sizes).map(([name, size]) => [name, instance.allocateZeros(size)]));
     instance.within(({ zeros }) => {
       const numbers = zeros(CONFIGURATION.size);
@@ -87,9 +87,9 @@ class Mote {
 
   // Works to the next turn, entry or rest: { status, step, turn }.
   next() {
-    const { told, turn } = this.blocks, status = this.calls.toarmuts_next(this.held, told, turn);
+    const { result, turn } = this.blocks, status = this.calls.toarmuts_next(this.held, result, turn);
     if (status !== 0) return { status, step: null, turn: null };
-    const step = STEPS[this.instance.view(told, 4).getUint32(0, true)];
+    const step = STEPS[this.instance.view(result, 4).getUint32(0, true)];
     return { status, step, turn: step === "TURN" ? this.readTurn() : null };
   }
 
@@ -120,15 +120,15 @@ class Mote {
 
   // The transcript's line of the last entry, or null.
   line() {
-    const { line, told } = this.blocks;
-    if (this.calls.toarmuts_line(this.held, line, BigInt(LONGEST_LINE), told) !== 0) return null;
-    return textOf(this.instance.bytes(line, Number(this.instance.view(told, 8).getBigUint64(0, true))));
+    const { line, result } = this.blocks;
+    if (this.calls.toarmuts_line(this.held, line, BigInt(LONGEST_LINE), result) !== 0) return null;
+    return textOf(this.instance.bytes(line, Number(this.instance.view(result, 8).getBigUint64(0, true))));
   }
 
   // The ticks since boot, as a BigInt.
   clock() {
-    this.calls.toarmuts_clock(this.held, this.blocks.told);
-    return this.instance.view(this.blocks.told, 8).getBigUint64(0, true);
+    this.calls.toarmuts_clock(this.held, this.blocks.result);
+    return this.instance.view(this.blocks.result, 8).getBigUint64(0, true);
   }
 
   close() {

@@ -4,21 +4,6 @@ const NETWORK = { DONE: 0, BAD_LINE: 2, HALTED: 3, TOO_LONG: 4, NO_MOTE: 64 };
 const NETWORK_ENDS = {
   [NETWORK.DONE]: "FINISHED", [NETWORK.BAD_LINE]: "BAD_LINE", [NETWORK.HALTED]: "EXHAUSTED", [NETWORK.TOO_LONG]: "TOO_LONG",
 };
-const NETWORK_LINES = [
-  ["mote N WORD..", "The next mote, or motes N..M: names of applications, sizes as --mmem 64, and at the end calls and a list of calls."],
-  ["link A B delay D", "What mote A sends, mote B hears D ticks later; D is at least 1."],
-  ["line N..M delay D", "Links both ways between each mote and the next."],
-  ["ring N..M delay D", "The same, and between the last and the first; at least three motes."],
-  ["mesh N..M delay D", "Links both ways between each two motes."],
-  ["grid N..M width W delay D", "Rows of W motes, with links both ways between neighbours."],
-  [".. every N", "After a delay: each N-th frame on the link is lost."],
-  [".. lot C seed S", "After a delay: about C of 65,536 frames are lost."],
-  ["room N", "The number of frames that can be in flight (default: 1,024)."],
-  ["rounds N", "The number of rounds that one line can take (default: 16,777,216)."],
-  ["tick N", "The clock goes on by N ticks."],
-  ["N serial HEX", "Bytes arrive on the serial line of mote N."],
-  ["N frame HEX", "A frame from outside arrives at mote N."],
-];
 const SETUP_WORDS = ["mote", "link", "line", "ring", "mesh", "grid", "room", "rounds"];
 const SETUP_LINE = new RegExp(`^(?:${SETUP_WORDS.join("|")})(?: |$)`);
 const INPUT_LINE = /^(?:tick|\d+ (?:serial|frame)) /;
@@ -84,8 +69,8 @@ function runScript(program, script, { only, quiet }) {
 
 // A script with hex in place of quotes, and numbers in place of names, by the program scenario: { script }, or { fault }.
 function plainScript(program, lines) {
-  const told = lines.map((line) => (isForScenario(line) ? line : `script ${line}`));
-  const bytes = utf8.encode(["network", ...told].map((line) => `${line}\n`).join(""));
+  const shown = lines.map((line) => (isForScenario(line) ? line : `script ${line}`));
+  const bytes = utf8.encode(["network", ...shown].map((line) => `${line}\n`).join(""));
   const ran = program.run(["--json", FILE_NAME], new Uint8Array(), { name: FILE_NAME, bytes });
   if (ran.status === SCENARIO.DONE) return { script: JSON.parse(textOf(ran.output)).script };
   const { message, line } = refusalOf(ran);

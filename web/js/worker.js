@@ -11,7 +11,7 @@ function makeTools() {
   const { library, most } = modules, program = (module, name) => new Program(modules[module], name, most);
   tools = {
     library: new Library(library, most), picture: program("picture", "mote_picture"), scenario: program("scenario", "scenario"),
-    network: program("network", "network"), chart: program("chart", "network_picture"),
+    network: program("network", "network"), chart: program("picture", "network_picture"),
   };
 }
 
@@ -41,10 +41,10 @@ const bytesOfLines = (lines) => utf8.encode(lines.map((line) => `${line}\n`).joi
 function tellNetwork(motes, lines) {
   const words = lines.map((line) => (LINE_OF_A_MOTE.test(line) ? undefined : networkWords(line))), answers = lines.map(() => null);
   for (const [number, { places, texts }] of [...linesOfMotes(lines)].slice(0, MOST_MOTES_IN_WORDS)) {
-    const told = tellLines(moteNumbered(motes, number), bytesOfLines(texts));
+    const found = tellLines(moteNumbered(motes, number), bytesOfLines(texts));
     for (const [at, place] of places.entries()) {
-      words[place] = told.words[at];
-      answers[place] = places[told.answers[at]] ?? null;
+      words[place] = found.words[at];
+      answers[place] = places[found.answers[at]] ?? null;
     }
   }
   return { words, answers, clocks: networkClocks(lines) };
@@ -66,8 +66,8 @@ const TASKS = {
     if (!ran.transcript) return ran;
     const lines = linesIn(textOf(ran.transcript));
     tell(`Putting ${lines.length.toLocaleString("en")} lines into words`);
-    const told = tellRun(experiment, ran.transcript, lines);
-    return { ...ran, took, lines, rows: lines.length > MOST_UNFOLDED ? foldedRows(lines) : null, ...told };
+    const found = tellRun(experiment, ran.transcript, lines);
+    return { ...ran, took, lines, rows: lines.length > MOST_UNFOLDED ? foldedRows(lines) : null, ...found };
   },
 
   // The lines of one mote of a network, for a picture.

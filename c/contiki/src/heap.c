@@ -54,8 +54,8 @@ taken_by(size_t size)
 static size_t
 heap_size(void)
 {
-  const struct toarmuts_heap_stats *told = &MOTE_ASK(TOARMUTS_CALL_HEAP_STATS, 0)->stats;
-  return (size_t)told->allocated + told->overhead + told->available;
+  const struct toarmuts_heap_stats *known = &MOTE_ASK(TOARMUTS_CALL_HEAP_STATS, 0)->stats;
+  return (size_t)known->allocated + known->overhead + known->available;
 }
 
 heapmem_zone_t
@@ -357,13 +357,13 @@ count_parts(const struct heap_block *parts, heapmem_stats_t *stats)
 void
 heapmem_stats(heapmem_stats_t *stats)
 {
-  const struct toarmuts_heap_stats *told = &MOTE_ASK(TOARMUTS_CALL_HEAP_STATS, 0)->stats;
+  const struct toarmuts_heap_stats *known = &MOTE_ASK(TOARMUTS_CALL_HEAP_STATS, 0)->stats;
   check_late(true);
-  stats->allocated = told->allocated;
-  stats->overhead = told->overhead;
-  stats->available = told->available;
-  stats->footprint = told->footprint;
-  stats->chunks = told->chunks;
+  stats->allocated = known->allocated;
+  stats->overhead = known->overhead;
+  stats->available = known->available;
+  stats->footprint = known->footprint;
+  stats->chunks = known->chunks;
   for(unsigned i = 0; i < process_count; i++) {
     count_parts(&tables[i].blocks[SHARED_BLOCK], stats);
   }

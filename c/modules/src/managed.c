@@ -1,7 +1,7 @@
 /* Managed memory by handles over the proved calls: sizes are rounded up so that blocks are aligned, and places made pointers. */
 #include "toarmuts/managed.h"
 
-/* The multiple of 16 that is asked for; what can't be told is more than any memory has. */
+/* The multiple of 16 that is asked for; one that no number has is more than any memory has. */
 static size_t
 rounded(size_t size)
 {

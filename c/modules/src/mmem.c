@@ -1,5 +1,5 @@
 /*
- * mmem.h over managed memory by handles. A block's handle is the number of its row, and beside the rows stands whose it is: so
+ * mmem.h over managed memory by handles. A block's handle is the number of its row, and a table beside the rows has its owner: so
  * the pointers of all can be made anew when blocks slid.
  */
 #include "guard.h"

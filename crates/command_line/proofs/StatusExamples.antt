@@ -7,7 +7,7 @@ use Rattle.command_line.specs.declared.refusal.ParserText.{ParserText}
 use Rattle.command_line.specs.declared.refusal.Refusal.{Refusal}
 use Rattle.command_line.specs.Statuses.{IsShown, IsStatusOf, failure_in_words, failure_text, reported_text, status_of_outcome, stream_of_failure}
 use Rattle.command_line.specs.declared.failure.Failure.{Failure}
-use Rattle.command_line.specs.declared.telling.Stream.{Stream}
+use Rattle.command_line.specs.declared.report.Stream.{Stream}
 
 statuses : map status_of_outcome (
     Ok End.Finished ∷ Ok (End.BadLine 7) ∷ Ok End.Halted ∷ Ok End.TooLong ∷ Err Failure.Read ∷ Err Failure.Write ∷ Err Failure.BadSizes
@@ -15,25 +15,25 @@ statuses : map status_of_outcome (
     ≡ 0 ∷ 2 ∷ 3 ∷ 4 ∷ 5 ∷ 6 ∷ 64 ∷ 70 ∷ 64 ∷ 64 ∷ []
 statuses = refl
 
-sizes_told : reported_text (codes "mote") Failure.BadSizes ≡ Some (codes "mote: bad sizes\n")
-sizes_told = refl
+bad_sizes_text : reported_text (codes "mote") Failure.BadSizes ≡ Some (codes "mote: bad sizes\n")
+bad_sizes_text = refl
 
 -- the parser writes its own texts
-told : map failure_text (Failure.Read ∷ Failure.Write ∷ Failure.NotText ∷ Failure.TooManyApplications ∷ Failure.OutOfMemory ∷ [])
+failure_texts : map failure_text (Failure.Read ∷ Failure.Write ∷ Failure.NotText ∷ Failure.TooManyApplications ∷ Failure.OutOfMemory ∷ [])
     ≡ map (λ text. Some text) (codes "read failed" ∷ codes "write failed" ∷ codes "a word is not text" ∷ codes "too many applications"
     ∷ codes "out of memory" ∷ [])
-told = refl
+failure_texts = refl
 
-name_told : (name : Bor (List ℕ)) → name.now ≡ codes "hullo"
+name_text : (name : Bor (List ℕ)) → name.now ≡ codes "hullo"
     → failure_text (Failure.NoApplication name) ≡ Some (codes "no application hullo")
-name_told name is = grind arith
+name_text name is = grind arith
 
 halt_stays : IsShown (Ok End.Halted) (Err Failure.Write) ⊎ IsStatusOf (Ok End.Halted) 0 → ⊥
 halt_stays is = grind arith
 
 module _ (text : ParserText) where
-  nothing_told : map failure_text (Failure.Request text ∷ Failure.Words text ∷ []) ≡ None ∷ None ∷ []
-  nothing_told = refl
+  no_text : map failure_text (Failure.Request text ∷ Failure.Words text ∷ []) ≡ None ∷ None ∷ []
+  no_text = refl
 
   -- only a requested text goes to standard output
   streams : map stream_of_failure (Failure.Request text ∷ Failure.Words text ∷ Failure.BadSizes ∷ Failure.OutOfMemory ∷ [])

@@ -3,7 +3,7 @@ use Rattle.std.specs.Prelude.{◌≡◌, ◌⊎◌, ℕ, List, [], ◌∷◌, �
 use Rattle.mote_text.specs.declared.script.End.{End}
 use Rattle.command_line.specs.declared.refusal.Refusal.{Refusal}
 use Rattle.command_line.specs.declared.failure.Failure.{Failure}
-use Rattle.command_line.specs.declared.telling.Stream.{Stream}
+use Rattle.command_line.specs.declared.report.Stream.{Stream}
 
 abbrev pub status_of_end : End → ℕ
 status_of_end End.Finished = 0

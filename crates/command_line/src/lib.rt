@@ -7,7 +7,7 @@ mod named;
 mod options;
 mod program;
 mod refusal;
-mod telling;
+mod report;
 mod words;
 
 pub use failure::{Failure, status_of};
@@ -15,5 +15,5 @@ pub use named::{Applications, MOST_APPLICATIONS, Named, read_words, sizes_in};
 pub use options::{flag, names_argument, number_option, with_sizes};
 pub use program::Program;
 pub use refusal::{ParserText, Refusal};
-pub use telling::{Report, Stream, exit_code, finish};
+pub use report::{Report, Stream, exit_code, finish};
 pub use words::{texts_of, words_of};

@@ -9,10 +9,9 @@ ghost use Rattle.command_line.specs.Code.Names.{application_of, refusal_of};
 use crate::options::{is_quiet, number_in, parse, size_in};
 use crate::program::Program;
 use crate::refusal::Refusal;
-use app_kit::FromName;
 use arrayvec::ArrayVec;
 use clap::ArgMatches;
-use mote_types::event;
+use mote_types::{FromName, event};
 use node_memory::Sizes;
 use std::alloc::Global;
 

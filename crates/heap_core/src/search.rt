@@ -133,7 +133,7 @@ impl Region {
     }
 
     /// The length of the gap below the top gap that is directly after a chunk, 0 where there is none.
-    pub(crate) fn gap_behind(&self, arena: &Arena, chunk: Chunk) -> u32
+    pub(crate) fn gap_after(&self, arena: &Arena, chunk: Chunk) -> u32
         requires chunks { HasChunks self.now arena.now.bytes }
         requires stands { Stands chunk (chunks_of self.now arena.now.bytes) }
         ensures { result ≡ front_gap (chunks_behind self.now arena.now.bytes (chunk.at + chunk.len)) }
@@ -142,13 +142,13 @@ impl Region {
         if end == self.footprint {
             return 0;
         }
-        let behind = self.chunk_at(arena, end);
-        if is_gap(behind) { behind.len } else { 0 }
+        let following = self.chunk_at(arena, end);
+        if is_gap(following) { following.len } else { 0 }
     }
 
     /// The position of the lowest gap from the end of the free bytes after a live chunk on. `next` is that of the lowest
     /// gap after the chunk.
-    pub(crate) fn link_behind(
+    pub(crate) fn link_after(
         &self,
         arena: &Arena,
         chunk: Chunk,
@@ -161,11 +161,11 @@ impl Region {
         requires next { next ≡ gap_from chunk.at (gaps_among (chunks_of self.now arena.now.bytes)) }
         ensures { result ≡ gap_from end (gaps_among (chunks_of self.now arena.now.bytes)) }
     {
-        let behind = chunk.at + chunk.len;
-        if behind == end {
+        let following = chunk.at + chunk.len;
+        if following == end {
             return next;
         }
-        self.chunk_at(arena, behind).link
+        self.chunk_at(arena, following).link
     }
 
     /// The room that a live chunk has once it is resized to `n` bytes where it is. `None` where it can't be.
@@ -187,7 +187,7 @@ impl Region {
                 None
             };
         }
-        let most = room + self.gap_behind(arena, chunk);
+        let most = room + self.gap_after(arena, chunk);
         if least <= most as u64 {
             Some(room_taken(least as u32, most))
         } else {

@@ -232,9 +232,9 @@ impl Region {
     {
         let beside = self.gaps_beside(arena, chunk.at);
         let from = self.free_before(arena, chunk, beside.below);
-        let gap = self.gap_behind(arena, chunk);
+        let gap = self.gap_after(arena, chunk);
         let end = chunk.at + chunk.len + gap;
-        let link = self.link_behind(arena, chunk, end, beside.next);
+        let link = self.link_after(arena, chunk, end, beside.next);
         self.merge(arena, chunk, from, end, link, beside.below);
         self.gaps -= gap_count(chunk.at - from) + gap_count(gap);
     }
@@ -318,9 +318,9 @@ impl Region {
             return;
         }
         let beside = self.gaps_beside(arena, chunk.at);
-        let gap = self.gap_behind(arena, chunk);
+        let gap = self.gap_after(arena, chunk);
         let end = chunk.at + chunk.len + gap;
-        let link = self.link_behind(arena, chunk, end, beside.next);
+        let link = self.link_after(arena, chunk, end, beside.next);
         let live = Chunk {
             at: chunk.at,
             len: self.header + room,

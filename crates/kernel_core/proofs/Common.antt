@@ -27,7 +27,7 @@ pub use Rattle.kernel_core.specs.Laws.TimerLaws.{clock_after, is_timer_event, ri
 pub use Rattle.kernel_core.specs.Machine.{Machine, booted, free_places, is_bootable, mark, scheduled, shown_first, sizes_of, with_event, with_serial, with_timers}
 pub use Rattle.kernel_core.specs.PacketProcess.{announce, announce_next, has_news}
 unfoldable pub use Rattle.kernel_core.specs.Repeating.{times}
-pub use Rattle.kernel_core.specs.Run.{Answers, ComesToRest, Running, Runs, StepMade, after_step, after_steps, answers_after, at_start, gone_on, heard, is_at_rest, is_still, job_done, one_step, silent, with_input, with_more_work, within_limit, work_limit}
+pub use Rattle.kernel_core.specs.Run.{Choices, ComesToRest, Running, Runs, StepMade, after_step, after_steps, choices_after, at_start, gone_on, heard, is_at_rest, is_still, job_done, one_step, silent, with_input, with_more_work, within_limit, work_limit}
 pub use Rattle.kernel_core.specs.SerialProcess.{broadcast_line, line_served, post_continue, serial_line, serve_line}
 pub use Rattle.kernel_core.specs.TimerProcesses.{exited_application, expiry_of, is_any_due, post_due, post_expiry, post_first_due}
 pub use Rattle.kernel_core.specs.declared.config.Config.{Config}

@@ -1,6 +1,6 @@
 -- Kernel processes that ignore an event are passed without an entry.
 use Rattle.std.proofs.Common.{◌≡◌, ℕ, ◌≤◌, Bool, true, false, List, ◌∷◌, refl, ap, arith}
-use Rattle.kernel_core.proofs.Common.{decide, Event, Origin, Stimulus, Item, is_any_marked, is_kernel_process, Scheduler, KernelFields, starts, present, draws, machine_of, no_pending_entries, IsInOrder, serve, Machine, scheduled, Answers, silent, GoesSilently}
+use Rattle.kernel_core.proofs.Common.{decide, Event, Origin, Stimulus, Item, is_any_marked, is_kernel_process, Scheduler, KernelFields, starts, present, draws, machine_of, no_pending_entries, IsInOrder, serve, Machine, scheduled, Choices, silent, GoesSilently}
 use Rattle.process_core.specs.Code.KernelReceivers.{behind_kernel_receivers, is_other_than, kernel_receivers_passed}
 use Rattle.kernel_core.specs.Code.IdleReceivers.{kernel_events}
 use Rattle.kernel_core.proofs.Silent.{goes_on, silent_step, silently_here}
@@ -17,10 +17,10 @@ abbrev receiver_first : ℕ → Origin → Event → List Item → List Item
 receiver_first p origin event items = Item.Polls ∷ Item.Give p origin (Stimulus.Event event) ∷ items
 
 -- neither the poll round before a receiver nor the event does anything
-module _ (answers : Answers) (m : Machine) (running : m.is_halted ≡ false)
+module _ (choices : Choices) (m : Machine) (running : m.is_halted ≡ false)
     (unmarked : is_any_marked m.scheduler.processes ≡ false) where
   abbrev IsPassed : List Item → Type 0
-  IsPassed items = GoesSilently answers (with_agenda items m) (with_agenda (behind_kernel_receivers kernel_events items) m)
+  IsPassed items = GoesSilently choices (with_agenda items m) (with_agenda (behind_kernel_receivers kernel_events items) m)
 
   passed_silently : (items : List Item) → IsPassed items
   passed_silently (Item.Polls ∷ Item.Give p origin (Stimulus.Event event) ∷ items) =
@@ -41,15 +41,15 @@ module _ (answers : Answers) (m : Machine) (running : m.is_halted ≡ false)
 abbrev passed : KernelFields → KernelFields
 passed k = record k { scheduler = record k.scheduler { state = kernel_receivers_passed kernel_events k.scheduler.state } }
 
-pub receivers_passed : (answers : Answers) (k : KernelFields) → k.halted ≡ false → k.pending ≡ no_pending_entries
-    → GoesSilently answers (machine_of k) (machine_of (passed k))
-receivers_passed answers k running shown = split (is_any_marked k.scheduler.state.processes) refl
+pub receivers_passed : (choices : Choices) (k : KernelFields) → k.halted ≡ false → k.pending ≡ no_pending_entries
+    → GoesSilently choices (machine_of k) (machine_of (passed k))
+receivers_passed choices k running shown = split (is_any_marked k.scheduler.state.processes) refl
   where
     split : (b : Bool) → is_any_marked k.scheduler.state.processes ≡ b
-        → GoesSilently answers (machine_of k) (machine_of (passed k))
+        → GoesSilently choices (machine_of k) (machine_of (passed k))
     split true e = rw e (silently_here (machine_of k))
     split false e =
-        rw (e, shown) (passed_silently answers (machine_of (record k { pending = no_pending_entries })) running e k.scheduler.state.agenda)
+        rw (e, shown) (passed_silently choices (machine_of (record k { pending = no_pending_entries })) running e k.scheduler.state.agenda)
 
 module _ (codes : List ℕ) where
   -- passing receivers starts no process and draws no more

@@ -1,6 +1,6 @@
 -- A round in which only etimer acts, and finds no due timer.
 use Rattle.std.proofs.Common.{◌≡◌, ℕ, ◌+◌, ◌==◌, Bool, true, false, refl, ap, arith, subst, is_some}
-use Rattle.kernel_core.proofs.Common.{decide, IsInOrder, length-map, POLL, plain_event, Job, is_idle, unmarked, IsLonePoll, Scheduler, carrying, awaiting_nothing, first_due, KernelFields, machine_of, no_pending_entries, is_cancelled, serve, Machine, free_places, Answers, silent, work_limit, ComesTo, GoesSilently, polled_alone, post_first_due, is_any_due, Entry}
+use Rattle.kernel_core.proofs.Common.{decide, IsInOrder, length-map, POLL, plain_event, Job, is_idle, unmarked, IsLonePoll, Scheduler, carrying, awaiting_nothing, first_due, KernelFields, machine_of, no_pending_entries, is_cancelled, serve, Machine, free_places, Choices, silent, work_limit, ComesTo, GoesSilently, polled_alone, post_first_due, is_any_due, Entry}
 use Rattle.kernel_core.specs.Code.IdleRound.{RestsAfter}
 use Rattle.kernel_core.specs.Inputs.{effect}
 use Rattle.mote_types.specs.declared.entry.Input.{Input}
@@ -32,19 +32,19 @@ order_polled k order room = record {
   draws = omega arith;
 }
 
-module _ (answers : Answers) where
+module _ (choices : Choices) where
   -- such a round is passed: only the delivery is left
   pub poll_passed : (k : KernelFields) → k.halted ≡ false → k.pending ≡ no_pending_entries → (k.work == work_limit) ≡ false
       → is_some (first_due k.clock k.timers.value.timers) ≡ false → IsLonePoll 0 k.scheduler.state
-      → GoesSilently answers (machine_of k)
+      → GoesSilently choices (machine_of k)
       (machine_of (record k { work = k.work + 1; scheduler = awaiting_nothing (polled_alone 0 k.scheduler.state) }))
   poll_passed k running shown room none lone =
       let counted = record (record k { scheduler = awaiting_nothing lone.begun }) { work = k.work + 1 } in
       let served = record counted { scheduler = awaiting_nothing lone.served } in
-      goes_on (job_silently (then_job (job_silently (fields_reach answers k
+      goes_on (job_silently (then_job (job_silently (fields_reach choices k
       (awaiting_nothing lone.begun) Job.Round running shown lone.round) (rw room refl))
-      (fields_reach answers counted (awaiting_nothing lone.served) (Job.Serve 0 (plain_event POLL)) running shown lone.poll))
-      (ap silent (nothing_posted (machine_of served) none))) (fields_go answers served
+      (fields_reach choices counted (awaiting_nothing lone.served) (Job.Serve 0 (plain_event POLL)) running shown lone.poll))
+      (ap silent (nothing_posted (machine_of served) none))) (fields_go choices served
       (awaiting_nothing (polled_alone 0 k.scheduler.state)) running shown lone.over)
 
   -- a tick at rest that makes no timer due: its entry, then such a round
@@ -52,7 +52,7 @@ module _ (answers : Answers) where
       → is_some (first_due (k.clock + n) k.timers.value.timers) ≡ false → IsLonePoll 0 (marked 0 k.scheduler.state)
       → ComesTo (polled_alone 0 (marked 0 k.scheduler.state)) Job.Rest (unmarked 0 (marked 0 k.scheduler.state))
       → unmarked 0 (marked 0 k.scheduler.state) ≡ k.scheduler.state → is_idle k.scheduler.state ≡ true
-      → RestsAfter answers (Input.Tick n) (machine_of k) (machine_of (record k { clock = k.clock + n; work = 1; inputs = k.inputs + 1 }))
+      → RestsAfter choices (Input.Tick n) (machine_of k) (machine_of (record k { clock = k.clock + n; work = 1; inputs = k.inputs + 1 }))
   idle_tick k n running shown none lone rest same idle =
       let handed = record k { clock = k.clock + n; work = 0; scheduler = awaiting_nothing (marked 0 k.scheduler.state) } in
       record {
@@ -63,7 +63,7 @@ module _ (answers : Answers) where
         rest = record {
           before =
               job_silently (then_job (poll_passed handed running shown refl none lone)
-              (fields_reach answers (record handed { work = 1; scheduler = awaiting_nothing (polled_alone 0 (marked 0 k.scheduler.state)) })
+              (fields_reach choices (record handed { work = 1; scheduler = awaiting_nothing (polled_alone 0 (marked 0 k.scheduler.state)) })
               (awaiting_nothing k.scheduler.state) Job.Rest running shown
               (subst (λ s. ComesTo (polled_alone 0 (marked 0 k.scheduler.state)) Job.Rest s) same rest))) refl;
           at_rest = rw (running, shown) (idle_carrying (is_cancelled k.timers.value.armings) k.scheduler.state idle);

@@ -17,8 +17,8 @@ use Rattle.kernel_core.specs.Calls.{after_call}
 use Rattle.kernel_core.specs.Inputs.{fed}
 
 -- the call of an application on a stimulus, by its number
-abbrev pub Answers : Type 0
-Answers = ProcessNumber → Stimulus → Call
+abbrev pub Choices : Type 0
+Choices = ProcessNumber → Stimulus → Call
 
 -- a machine, and the entry that its last step made
 abbrev pub StepMade : Type 0
@@ -42,19 +42,19 @@ with_more_work m = record m { work = m.work + 1 }
 abbrev pub turn_taken : ProcessNumber → Origin → Stimulus → Call → Machine → StepMade
 turn_taken p origin stimulus call m = (after_call call p (with_more_work m), Some (Entry.Turn (record { 0 = p }) origin stimulus call))
 
-abbrev pub job_done : Answers → Option (Job Bool) → Machine → StepMade
-job_done answers (Some (Job.TakeTurn p origin stimulus)) m = within_limit m (turn_taken p origin stimulus (answers p stimulus) m)
-job_done answers (Some (Job.Serve p event)) m = silent (serve p event m)
-job_done answers (Some (Job.CallBack p c is_cancelled)) m =
+abbrev pub job_done : Choices → Option (Job Bool) → Machine → StepMade
+job_done choices (Some (Job.TakeTurn p origin stimulus)) m = within_limit m (turn_taken p origin stimulus (choices p stimulus) m)
+job_done choices (Some (Job.Serve p event)) m = silent (serve p event m)
+job_done choices (Some (Job.CallBack p c is_cancelled)) m =
     silent (if is_cancelled then m else scheduled (in_front (Item.Give p Origin.Callback (Stimulus.Callback c) ∷ [])) m)
-job_done answers (Some (Job.ShowEntry entry)) m = (m, Some entry)
-job_done answers (Some Job.Round) m = within_limit m (silent (with_more_work m))
-job_done answers (Some Job.Rest) m = silent m
-job_done answers None m = silent m
+job_done choices (Some (Job.ShowEntry entry)) m = (m, Some entry)
+job_done choices (Some Job.Round) m = within_limit m (silent (with_more_work m))
+job_done choices (Some Job.Rest) m = silent m
+job_done choices None m = silent m
 
 -- one item of the agenda is executed
-abbrev pub one_step : Answers → Machine → StepMade
-one_step answers m = if m.is_halted then silent m else job_done answers (job m.scheduler) (scheduled after_front m)
+abbrev pub one_step : Choices → Machine → StepMade
+one_step choices m = if m.is_halted then silent m else job_done choices (job m.scheduler) (scheduled after_front m)
 
 -- no activation is open, no process is marked, and no event waits. After Halt there is no rest
 abbrev pub is_at_rest : Machine → Bool
@@ -73,8 +73,8 @@ abbrev pub heard : ProcessNumber → List Entry → List Stimulus
 heard p entries = filter_map (stimulus_of p) entries
 
 -- each application makes its call on all that it received, and on this
-abbrev pub answers_after : Applications → List Entry → Answers
-answers_after says entries p stimulus = says p (heard p entries ++ stimulus ∷ [])
+abbrev pub choices_after : Applications → List Entry → Choices
+choices_after says entries p stimulus = says p (heard p entries ++ stimulus ∷ [])
 
 -- how far a run has got
 pub record Running : Type 0 where
@@ -85,7 +85,7 @@ abbrev pub gone_on : List Entry → StepMade → Running
 gone_on entries step = record { machine = step.0; entries = entries ++ option_to_list step.1 }
 
 abbrev pub after_step : Applications → Running → Running
-after_step says r = gone_on r.entries (one_step (answers_after says r.entries) r.machine)
+after_step says r = gone_on r.entries (one_step (choices_after says r.entries) r.machine)
 
 abbrev pub after_steps : Applications → ℕ → Running → Running
 after_steps says zero r = r

@@ -12,7 +12,7 @@ ghost use Rattle.kernel_core.specs.Inputs.{fed};
 ghost use Rattle.kernel_core.specs.Code.Conditions.{has_bytes, ticks_of};
 ghost use Rattle.kernel_core.specs.Machine.{is_bootable, booted};
 ghost use Rattle.kernel_core.specs.Code.Conditions.{TakesEntry};
-ghost use Rattle.kernel_core.specs.Run.{Answers, heard, is_at_rest};
+ghost use Rattle.kernel_core.specs.Run.{Choices, heard, is_at_rest};
 ghost use Rattle.timer_core.specs.Deadlines.{next_deadline};
 
 use crate::boot::{Tables, tables_at_boot};
@@ -103,13 +103,13 @@ impl AwaitingKernel {
     pub fn next(&mut self, turn: &mut Turn, other: &mut Entry) -> StepOutcome
         requires closed { self.old.turn ≡ None }
         ensures opens { result ≡ StepOutcome.Turn → self.new.turn ≡ Some turn.new.pid }
-        ensures awaits { result ≡ StepOutcome.Turn → (answers : Answers) →
-            AwaitsCall answers self.old.mote.machine turn.new.pid turn.new.origin turn.new.stimulus self.new.mote.machine }
+        ensures awaits { result ≡ StepOutcome.Turn → (choices : Choices) →
+            AwaitsCall choices self.old.mote.machine turn.new.pid turn.new.origin turn.new.stimulus self.new.mote.machine }
         ensures application { result ≡ StepOutcome.Turn → IsApplication self.old.mote.machine.scheduler.applications turn.new.pid.0 }
         ensures room { result ≡ StepOutcome.Turn → self.new.mote.entries_left + 2 ≤ self.old.mote.entries_left }
         ensures closed { result ≢ StepOutcome.Turn → self.new.turn ≡ None }
-        ensures goes { result ≢ StepOutcome.Turn → (answers : Answers) →
-            GoesOn answers self.old.mote.machine (stepped result turn.new other.new) self.new.mote.machine }
+        ensures goes { result ≢ StepOutcome.Turn → (choices : Choices) →
+            GoesOn choices self.old.mote.machine (stepped result turn.new other.new) self.new.mote.machine }
         ensures untold { result ≢ StepOutcome.Turn → (p : ℕ) → heard p (made_by (stepped result turn.new other.new)) ≡ [] }
         ensures halted { self.new.mote.machine.is_halted
             ≡ (self.old.mote.machine.is_halted || list_any is_halt (made_by (stepped result turn.new other.new))) }
@@ -138,11 +138,11 @@ impl AwaitingKernel {
         ensures inputs { self.new.mote.inputs ≡ self.old.mote.inputs }
         ensures left { self.new.mote.entries_left ≤ self.old.mote.entries_left + 1 }
     {
-        self.fields.answer_turn(pid, call);
+        self.fields.execute_call(pid, call);
         self.turn = None;
     }
 
-    /// Submits an input to a mote at rest. The work follows in `next`, which makes the input's entry first.
+    /// Feeds an input to a mote at rest. The work follows in `next`, which makes the input's entry first.
     ///
     /// A frame has at least one byte.
     pub fn feed(&mut self, input: Input)
@@ -155,7 +155,7 @@ impl AwaitingKernel {
         ensures inputs { self.new.mote.inputs ≡ self.old.mote.inputs + 1 }
         ensures closed { self.new.turn ≡ None }
     {
-        self.fields.hand_in(input);
+        self.fields.feed(input);
     }
 
     /// The application whose call is awaited.
@@ -181,7 +181,7 @@ impl AwaitingKernel {
         self.fields.timers.next_deadline()
     }
 
-    /// The number of submitted inputs.
+    /// The number of inputs that were fed.
     pub fn inputs(&self) -> u64
         ensures { result ≡ self.now.mote.inputs }
     {

@@ -35,7 +35,7 @@ pub struct Tables {
 /// The memory of a mote at boot.
 ///
 /// # Errors
-/// As `NodeMemory::new`, and `Memory` where it has no place on the heap.
+/// As `NodeMemory::new`, and `Memory` where it has no room on the heap.
 #[inline(never)]
 fn memory_on_heap(alloc: Global, config: Config) -> Result<Box<NodeMemory>, BootFault>
     requires { config.apps ≤ 16 }

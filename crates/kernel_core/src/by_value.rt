@@ -4,7 +4,7 @@ ghost use Rattle.std.specs.Prelude.{◌≡◌, ◌<◌, ◌≤◌, ◌+◌, ◌-
 ghost use Rattle.std.specs.List.{list_any};
 ghost use Rattle.mote_types.specs.Applications.{says_of};
 ghost use Rattle.mote_types.specs.Entries.{is_halt};
-ghost use Rattle.mote_types.specs.declared.event.Stimulus.{Stimulus as ToldStimulus};
+ghost use Rattle.mote_types.specs.declared.event.Stimulus.{Stimulus as Received};
 ghost use Rattle.kernel_core.specs.Inputs.{fed};
 ghost use Rattle.kernel_core.specs.Code.Conditions.{TakesEntry, has_bytes, ticks_of};
 ghost use Rattle.kernel_core.specs.Run.{heard, is_at_rest};
@@ -35,7 +35,7 @@ fn entry_of_turn(turn: Turn) -> Entry
 }
 
 impl Kernel {
-    /// Submits an input to a mote at rest: the work of the last one no longer counts, and the next entries are the input's own
+    /// Feeds an input to a mote at rest: the work of the last one no longer counts, and the next entries are the input's own
     /// and, where its frame is lost, a note. `step` returns them, and then what follows.
     ///
     /// A frame has at least one byte. The clock may reach 2^62, and a mote takes at most 2^40 inputs.
@@ -47,7 +47,7 @@ impl Kernel {
         ensures machine { self.new.machine ≡ fed input self.old.machine }
         ensures inputs { self.new.inputs ≡ self.old.inputs + 1 }
     {
-        self.fields.hand_in(input);
+        self.fields.feed(input);
     }
 
     /// Works until an entry is made or nothing is left to do. At most one application takes a turn; there is a box for each.
@@ -56,7 +56,7 @@ impl Kernel {
     pub fn step(&mut self, apps: &mut [Box<dyn App>]) -> Step
         requires boxes { length apps.old ≡ self.old.machine.scheduler.applications }
         ensures machine { GoesOn (λ p stimulus. says_of says apps.old p (stimulus ∷ [])) self.old.machine result self.new.machine }
-        ensures law { (p : ℕ) (next : ToldStimulus) (later : List ToldStimulus) →
+        ensures law { (p : ℕ) (next : Received) (later : List Received) →
             says_of says apps.new p (next ∷ later) ≡ says_of says apps.old p (heard p (made result) ++ (next ∷ later)) }
         ensures others { (p : ℕ) → 4 ≤ p → heard p (made result) ≡ [] → slice_get apps.new (p - 4) ≡ slice_get apps.old (p - 4) }
         ensures halted { self.new.machine.is_halted ≡ (self.old.machine.is_halted || list_any is_halt (made result)) }

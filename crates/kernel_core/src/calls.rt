@@ -64,8 +64,8 @@ impl KernelFields {
         }
     }
 
-    /// Executes the call of the application that has the turn.
-    pub fn carry_out(&mut self, pid: Pid, call: &Call)
+    /// Passes the call of the application that has the turn to the part that executes it.
+    pub fn dispatch(&mut self, pid: Pid, call: &Call)
         requires at_turn { IsAtTurn pid self.old }
         ensures machine { machine_of self.new ≡ after_call call.now pid.0 (machine_of self.old) }
         ensures kept { IsCarriedOut self.old self.new }

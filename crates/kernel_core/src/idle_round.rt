@@ -5,7 +5,7 @@ ghost use Rattle.timer_core.specs.Timers.{first_due};
 ghost use Rattle.kernel_core.specs.Code.View.{machine_of, IsAtWork, IsInOrder, StepsSilently};
 ghost use Rattle.kernel_core.specs.Code.IdleRound.{is_idle_tick, RestsAfter};
 ghost use Rattle.kernel_core.specs.Code.Conditions.{ticks_of};
-ghost use Rattle.kernel_core.specs.Run.{Answers, is_at_rest};
+ghost use Rattle.kernel_core.specs.Run.{Choices, is_at_rest};
 
 use crate::kernel_fields::{KernelFields, WORK_LIMIT};
 use mote_types::entry::Input;
@@ -49,7 +49,7 @@ impl KernelFields {
         requires clock { self.old.clock + ticks_of input.now ≤ 2 ^ 62 }
         requires few { self.old.inputs < 2 ^ 40 }
         ensures value { result ≡ is_idle_tick input.now (machine_of self.old) }
-        ensures passed { result ≡ true → (answers : Answers) → RestsAfter answers input.now (machine_of self.old) (machine_of self.new) }
+        ensures passed { result ≡ true → (choices : Choices) → RestsAfter choices input.now (machine_of self.old) (machine_of self.new) }
         ensures order { IsInOrder self.new }
         ensures halted { self.new.halted ≡ self.old.halted }
         ensures scheduler { self.new.scheduler ≡ self.old.scheduler }

@@ -70,8 +70,8 @@ impl KernelFields {
         }
     }
 
-    /// Advances the clock, or takes the bytes of the serial line or a frame.
-    pub fn take_in(&mut self, input: &Input)
+    /// Applies an input: advances the clock, or takes the bytes of the serial line or a frame.
+    pub fn apply_input(&mut self, input: &Input)
         requires clock { self.old.clock + ticks_of input.now ≤ 2 ^ 62 }
         requires bytes { has_bytes input.now ≡ true }
         requires frames { HoldsFrames self.old.memory.value.contents self.old.packets.frames }
@@ -95,8 +95,8 @@ impl KernelFields {
         }
     }
 
-    /// Submits an input at rest. Its entry is first.
-    pub fn hand_in(&mut self, input: Input)
+    /// Feeds an input at rest. Its entry is first.
+    pub fn feed(&mut self, input: Input)
         requires order { IsInOrder self.old }
         requires rest { is_at_rest (machine_of self.old) ≡ true }
         requires clock { self.old.clock + ticks_of input ≤ 2 ^ 62 }
@@ -107,7 +107,7 @@ impl KernelFields {
         ensures order { IsInOrder self.new }
     {
         self.work = 0;
-        self.take_in(&input);
+        self.apply_input(&input);
         self.inputs += 1;
         self.pending.put_input(input);
     }

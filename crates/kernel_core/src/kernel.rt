@@ -4,12 +4,12 @@ ghost use Rattle.std.specs.Prelude.{◌≡◌, ◌≢◌, ◌<◌, ◌≤◌, �
 ghost use Rattle.std.specs.List.{list_any};
 ghost use Rattle.mote_types.specs.Applications.{says_of};
 ghost use Rattle.mote_types.specs.Entries.{is_halt};
-ghost use Rattle.mote_types.specs.declared.event.Stimulus.{Stimulus as ToldStimulus};
+ghost use Rattle.mote_types.specs.declared.event.Stimulus.{Stimulus as Received};
 ghost use Rattle.kernel_core.specs.Machine.{is_bootable, booted};
 ghost use Rattle.kernel_core.specs.Code.IdleRound.{is_idle_tick, RestsAfter};
 ghost use Rattle.kernel_core.specs.Inputs.{fed};
 ghost use Rattle.kernel_core.specs.Code.Conditions.{has_bytes, ticks_of};
-ghost use Rattle.kernel_core.specs.Run.{Answers, heard, is_at_rest};
+ghost use Rattle.kernel_core.specs.Run.{Choices, heard, is_at_rest};
 ghost use Rattle.kernel_core.specs.Code.Steps.{GoesOn, made as made_by, stepped};
 ghost use Rattle.kernel_core.specs.Code.Conditions.{TakesEntry};
 
@@ -89,7 +89,7 @@ impl Kernel {
         !self.fields.halted && self.fields.pending.is_empty() && self.fields.scheduler.at_rest()
     }
 
-    /// Submits an input, which the caller keeps, to a mote at rest, and makes the step that makes the input's entry. `step_to`
+    /// Feeds an input, which the caller keeps, to a mote at rest, and makes the step that makes the input's entry. `step_to`
     /// does the rest.
     ///
     /// A frame has at least one byte.
@@ -98,19 +98,19 @@ impl Kernel {
         requires clock { self.old.machine.clock + ticks_of input.now ≤ 2 ^ 62 }
         requires bytes { has_bytes input.now ≡ true }
         requires few { self.old.inputs < 2 ^ 40 }
-        ensures machine { (answers : Answers)
-            → GoesOn answers (fed input.now self.old.machine) (Step.Entry (Entry.Input input.now)) self.new.machine }
+        ensures machine { (choices : Choices)
+            → GoesOn choices (fed input.now self.old.machine) (Step.Entry (Entry.Input input.now)) self.new.machine }
         ensures running { self.new.machine.is_halted ≡ false }
         ensures clock { self.new.machine.clock ≡ self.old.machine.clock + ticks_of input.now }
         ensures applications { self.new.machine.scheduler.applications ≡ self.old.machine.scheduler.applications }
         ensures inputs { self.new.inputs ≡ self.old.inputs + 1 }
     {
         self.fields.work = 0;
-        self.fields.take_in(input);
+        self.fields.apply_input(input);
         self.fields.inputs += 1;
     }
 
-    /// Submits a tick, which the caller keeps, to a mote at rest, as `accept`, and makes the one round that follows, where no
+    /// Feeds a tick, which the caller keeps, to a mote at rest, as `accept`, and makes the one round that follows, where no
     /// timer is due then: the mote rests again. Where one is due, or the input is no tick, does nothing.
     #[inline]
     pub fn accept_idle_tick(&mut self, input: &Input) -> bool
@@ -118,7 +118,7 @@ impl Kernel {
         requires clock { self.old.machine.clock + ticks_of input.now ≤ 2 ^ 62 }
         requires few { self.old.inputs < 2 ^ 40 }
         ensures value { result ≡ is_idle_tick input.now self.old.machine }
-        ensures machine { result ≡ true → (answers : Answers) → RestsAfter answers input.now self.old.machine self.new.machine }
+        ensures machine { result ≡ true → (choices : Choices) → RestsAfter choices input.now self.old.machine self.new.machine }
         ensures halted { self.new.machine.is_halted ≡ self.old.machine.is_halted }
         ensures applications { self.new.machine.scheduler.applications ≡ self.old.machine.scheduler.applications }
         ensures clock { result ≡ true → self.new.machine.clock ≡ self.old.machine.clock + ticks_of input.now }
@@ -141,7 +141,7 @@ impl Kernel {
         requires boxes { length apps.old ≡ self.old.machine.scheduler.applications }
         ensures machine { GoesOn (λ p stimulus. says_of says apps.old p (stimulus ∷ [])) self.old.machine
             (stepped result turn.new other.new) self.new.machine }
-        ensures law { (p : ℕ) (next : ToldStimulus) (later : List ToldStimulus) →
+        ensures law { (p : ℕ) (next : Received) (later : List Received) →
             says_of says apps.new p (next ∷ later) ≡ says_of says apps.old p (heard p (made_by (stepped result turn.new other.new)) ++ (next ∷ later)) }
         ensures others { (p : ℕ) → 4 ≤ p → heard p (made_by (stepped result turn.new other.new)) ≡ []
             → slice_get apps.new (p - 4) ≡ slice_get apps.old (p - 4) }
@@ -156,7 +156,7 @@ impl Kernel {
         let outcome = self.fields.next(turn, other);
         if let StepOutcome::Turn = outcome {
             ask(apps, turn.pid, &turn.stimulus, &mut turn.call);
-            self.fields.answer_turn(turn.pid, &turn.call);
+            self.fields.execute_call(turn.pid, &turn.call);
         }
         outcome
     }

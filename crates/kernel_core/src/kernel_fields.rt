@@ -1,7 +1,7 @@
 //! The fields of a kernel, and how they change.
 
 ghost use Rattle.std.specs.Prelude.{◌≡◌, ◌<◌, ◌≤◌, ◌+◌, ℕ, true, false, Some};
-ghost use Rattle.mote_types.specs.declared.call.Call.{Call as ToldCall};
+ghost use Rattle.mote_types.specs.declared.call.Call.{Call as AnyCall};
 ghost use Rattle.mote_types.specs.declared.event.Pid.{Pid as Process};
 ghost use Rattle.kernel_core.specs.Code.Pending.{no_pending_entries};
 ghost use Rattle.kernel_core.specs.Code.View.{ComesToJob, HasTakenJob, machine_of, entries_left_in, IsAtWork, IsInOrder};
@@ -10,7 +10,7 @@ ghost use Rattle.process_core.specs.Code.SchedulerView.{job_of};
 ghost use Rattle.kernel_core.specs.Code.Draws.{IsFitJob};
 ghost use Rattle.kernel_core.specs.Code.Cost.{IsPaid, costs, present};
 ghost use Rattle.kernel_core.specs.Calls.{after_call};
-ghost use Rattle.kernel_core.specs.Run.{Answers, silent, within_limit, turn_taken, with_more_work};
+ghost use Rattle.kernel_core.specs.Run.{Choices, silent, within_limit, turn_taken, with_more_work};
 
 use crate::pending_entries::PendingEntries;
 use device_core::packet_queue::PacketQueue;
@@ -57,10 +57,10 @@ impl KernelFields {
         requires running { self.old.halted ≡ false }
         requires nothing_shown { self.old.pending ≡ no_pending_entries }
         requires work { self.old.work ≤ 10000 }
-        ensures begins { result ≡ true → (call : ToldCall) →
+        ensures begins { result ≡ true → (call : AnyCall) →
             within_limit (machine_of self.old) (turn_taken pid.0 origin stimulus.now call (machine_of self.old))
             ≡ (after_call call pid.0 (machine_of self.new), Some (Entry.Turn pid origin stimulus.now call)) }
-        ensures halts { result ≡ false → (call : ToldCall) →
+        ensures halts { result ≡ false → (call : AnyCall) →
             within_limit (machine_of self.old) (turn_taken pid.0 origin stimulus.now call (machine_of self.old)) ≡ (machine_of self.new, Some other.new) }
         ensures more { result ≡ true → (self.new ≡ record self.old { work = self.old.work + 1 }) × (self.old.work < 10000)
             × (other.new ≡ other.old) }
@@ -97,19 +97,19 @@ impl KernelFields {
         true
     }
 
-    /// Takes the next job from the agenda. Writes what a process then receives into `told`.
-    pub fn next_job(&mut self, told: &mut Stimulus) -> NextJob
+    /// Takes the next job from the agenda. Writes what a process then receives into `stimulus`.
+    pub fn next_job(&mut self, stimulus: &mut Stimulus) -> NextJob
         requires at_work { IsAtWork self.old }
-        ensures reached { (answers : Answers)
-            → ComesToJob self.old.timers.value.armings answers (machine_of self.old) (job_of result told.new) (machine_of self.new) }
+        ensures reached { (choices : Choices)
+            → ComesToJob self.old.timers.value.armings choices (machine_of self.old) (job_of result stimulus.new) (machine_of self.new) }
         ensures paid { (bound : ℕ) → present self.old.scheduler.state ≤ bound →
-            IsPaid bound (Some (job_of result told.new)) (costs bound self.old.scheduler.state.agenda) (costs bound self.new.scheduler.state.agenda)
+            IsPaid bound (Some (job_of result stimulus.new)) (costs bound self.old.scheduler.state.agenda) (costs bound self.new.scheduler.state.agenda)
             × (present self.new.scheduler.state ≤ present self.old.scheduler.state) }
         ensures served { (pid : Process) → result ≡ ready.NextJob.Serve pid → (bound : ℕ) → present self.old.scheduler.state ≤ bound →
             costs bound self.new.scheduler.state.agenda + 1 ≤ costs bound self.old.scheduler.state.agenda }
         ensures taken { HasTakenJob result self.old self.new }
-        ensures fit { IsFitJob (job_of result told.new) self.old self.new }
+        ensures fit { IsFitJob (job_of result stimulus.new) self.old self.new }
     {
-        self.scheduler.next_to(told)
+        self.scheduler.next_to(stimulus)
     }
 }

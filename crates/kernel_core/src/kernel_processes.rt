@@ -10,7 +10,7 @@ ghost use Rattle.kernel_core.specs.Code.Draws.{HasQueueableEvents, draws_of_job}
 ghost use Rattle.kernel_core.specs.Code.View.{entries_left_in, machine_of, IsAtWork, IsServed, StepsSilently};
 ghost use Rattle.kernel_core.specs.Code.IdleReceivers.{idle_receivers_passed};
 ghost use Rattle.kernel_core.specs.Code.CallKinds.{kind_of};
-ghost use Rattle.kernel_core.specs.Run.{Answers, job_done, silent};
+ghost use Rattle.kernel_core.specs.Run.{Choices, job_done, silent};
 ghost use Rattle.kernel_core.specs.TimerProcesses.{exited_application};
 
 use crate::call_kind::CallKind;
@@ -59,14 +59,14 @@ impl KernelFields {
     }
 
     /// Serves a kernel process with the event that it receives. Does nothing for another stimulus.
-    pub fn serve(&mut self, pid: Pid, told: &Stimulus)
+    pub fn serve(&mut self, pid: Pid, stimulus: &Stimulus)
         requires few { self.old.timers.value.armings.drawn < 2 ^ 60 }
         requires events { HasQueueableEvents self.old }
-        ensures machine { (answers : Answers) (cancelled : ℕ → ℕ → ℕ → Bool) →
-            job_done answers (Some (job_carrying cancelled (served pid told.now))) (machine_of self.old) ≡ silent (machine_of self.new) }
-        ensures kept { IsServed (draws_of_job (served pid told.now)) self.old self.new }
+        ensures machine { (choices : Choices) (cancelled : ℕ → ℕ → ℕ → Bool) →
+            job_done choices (Some (job_carrying cancelled (served pid stimulus.now))) (machine_of self.old) ≡ silent (machine_of self.new) }
+        ensures kept { IsServed (draws_of_job (served pid stimulus.now)) self.old self.new }
     {
-        let Stimulus::Event(event) = told else {
+        let Stimulus::Event(event) = stimulus else {
             return;
         };
         match (pid, event.code) {

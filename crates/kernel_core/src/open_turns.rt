@@ -33,7 +33,7 @@ impl KernelFields {
 
     /// Executes the call of the application that takes the turn, which ends the turn.
     #[inline]
-    pub fn answer_turn(&mut self, pid: Pid, call: &Call)
+    pub fn execute_call(&mut self, pid: Pid, call: &Call)
         requires open { IsMidTurn pid self.old }
         ensures machine { machine_of self.new ≡ after_call call.now pid.0 (machine_of self.old) }
         ensures order { IsInOrder self.new }
@@ -43,6 +43,6 @@ impl KernelFields {
         ensures inputs { self.new.inputs ≡ self.old.inputs }
         ensures left { entries_left_in self.new ≤ entries_left_in self.old + 1 }
     {
-        self.carry_out(pid, call);
+        self.dispatch(pid, call);
     }
 }

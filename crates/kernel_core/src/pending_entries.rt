@@ -48,7 +48,7 @@ fn take_entry(input: &mut Option<Input>, note: &mut Option<Note>, made: &mut Ent
     }
 }
 
-/// A submitted input, and then a note: that its frame is lost, or that a frame was sent.
+/// An input that was fed, and then a note: that its frame is lost, or that a frame was sent.
 #[derive(Drop)]
 pub struct PendingEntries {
     input: Option<Input>,
@@ -96,7 +96,7 @@ impl PendingEntries {
         self.is_any = true;
     }
 
-    /// Adds the note that a frame is lost, in place of any other.
+    /// Adds the note that a frame is lost, instead of any other.
     pub fn put_lost(&mut self, refusal: Refusal)
         ensures { self.new ≡ record self.old { note = Some (Noted.Lost refusal) } }
     {
@@ -104,7 +104,7 @@ impl PendingEntries {
         self.is_any = true;
     }
 
-    /// Adds the note of a sent frame, in place of any other, where its bytes are put at once.
+    /// Adds the note of a sent frame, instead of any other, where its bytes are put at once.
     pub fn put_sent(&mut self, bytes: &[u8])
         requires { length bytes.now ≤ 127 }
         ensures { self.new ≡ record self.old { note = Some (Noted.Sent (record { items = bytes.now })) } }

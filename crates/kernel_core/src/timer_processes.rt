@@ -13,7 +13,7 @@ ghost use Rattle.kernel_core.specs.TimerProcesses.{exited_application};
 ghost use Rattle.kernel_core.specs.Code.Pending.{no_pending_entries};
 ghost use Rattle.kernel_core.specs.Code.View.{machine_of, is_cancelled, IsExpired, IsServed, PostsOne};
 ghost use Rattle.kernel_core.specs.Code.Carrying.{job_carrying};
-ghost use Rattle.kernel_core.specs.Run.{Answers, job_done, silent};
+ghost use Rattle.kernel_core.specs.Run.{Choices, job_done, silent};
 ghost use Rattle.process_core.specs.Agenda.{Job};
 
 use crate::kernel_fields::KernelFields;
@@ -94,8 +94,8 @@ impl KernelFields {
         requires turn { self.old.scheduler.turn ≡ None }
         requires shown { self.old.pending ≡ no_pending_entries }
         requires events { HasQueueableEvents self.old }
-        ensures machine { (answers : Answers) →
-            job_done answers (Some (job_carrying (is_cancelled self.old.timers.value.armings) (Job.CallBack pid.0 number arming))) (machine_of self.old) ≡ silent (machine_of self.new) }
+        ensures machine { (choices : Choices) →
+            job_done choices (Some (job_carrying (is_cancelled self.old.timers.value.armings) (Job.CallBack pid.0 number arming))) (machine_of self.old) ≡ silent (machine_of self.new) }
         ensures kept { IsExpired self.old self.new }
     {
         if !self.timers.is_present_arming(pid, number, arming) {

@@ -35,7 +35,7 @@ relays : (said 4 8 255 9 9 ≡ Some (Bundled.Relay (record { len = 255; stage = 
 relays = (refl, refl, refl)
 
 -- a churn has no place before its start, then a byte
-churns : (said 5 0 999 0 0 ≡ Some (Bundled.Churn (record { place = 18 }))) × (said 5 1 3 0 0 ≡ Some (Bundled.Churn (record { place = 3 })))
+churns : (said 5 0 999 0 0 ≡ Some (Bundled.Churn (record { made = 18 }))) × (said 5 1 3 0 0 ≡ Some (Bundled.Churn (record { made = 3 })))
     × (said 5 1 256 0 0 ≡ None)
 churns = (refl, refl, refl)
 

@@ -70,13 +70,13 @@ clock_of (Came.Unheard m) clock = refl
 clock_of Came.Rest clock = refl
 clock_of Came.Halt clock = refl
 
-module _ (happening : Happening) (there told : PlainTurn) (old new : StepsView) (goes : NetworkGoesNext happening there told old new) where
+module _ (happening : Happening) (before after : PlainTurn) (old new : StepsView) (goes : NetworkGoesNext happening before after old new) where
   -- the turn is as it was where none awaits a call
-  untold : awaited_turn new.net ≡ None → told ≡ there
+  untold : awaited_turn new.net ≡ None → after ≡ before
   untold none = rw none at goes.turn
 
   -- otherwise it is the one that does
-  of_the_turn : (turn : AwaitedCall) → awaited_turn new.net ≡ Some turn → told.process ≡ turn.process.0
+  of_the_turn : (turn : AwaitedCall) → awaited_turn new.net ≡ Some turn → after.process ≡ turn.process.0
   of_the_turn turn waits = ap (λ (t : PlainTurn). t.process) (rw waits at goes.turn)
 
   -- the clock is reported as it is then, and no link is used up

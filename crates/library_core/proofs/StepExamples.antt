@@ -18,17 +18,17 @@ use Rattle.library_core.specs.Steps.{Goes, GoesNext, GoesOn, IsLastLine, IsOpene
 closed_statuses : (feed_status (codes "tick 5") None ≡ 22) × (next_status None ≡ 22)
 closed_statuses = (refl, refl)
 
-module _ (there told : PlainTurn) (old new : SessionView) where
+module _ (before after : PlainTurn) (old new : SessionView) where
   -- step 3 reports that a mote was halted before
-  told_as_halted : GoesNext 3 there told old new → old.machine.is_halted ≡ true
+  told_as_halted : GoesNext 3 before after old new → old.machine.is_halted ≡ true
   told_as_halted is = halted is.next is.is_step is.advances where
     halted : (next : Next) → 3 ≡ step_number next → Advances next old new → old.machine.is_halted ≡ true
     halted Next.Halted step advances = advances.halted
     halted next step advances = absurd (omega (arith, step))
 
   -- if no call is awaited, the turn is unchanged; the history continues as the step makes it
-  of_the_next : (step : ℕ) (is : GoesNext step there told old new)
-      → (new.turn ≡ None → told ≡ there) × (new.inputs ≡ old.inputs) × GoesOn (with_made is.next new.last) old new
+  of_the_next : (step : ℕ) (is : GoesNext step before after old new)
+      → (new.turn ≡ None → after ≡ before) × (new.inputs ≡ old.inputs) × GoesOn (with_made is.next new.last) old new
   of_the_next step is = (λ none. rw none at is.turn, is.inputs.0, is.history)
 
 module _ (old new : SessionView) where

@@ -8,11 +8,11 @@ use Rattle.library_core.specs.declared.call.PlainCall.{PlainCall}
 -- its parts
 
 abbrev pub number_at : ℕ → PlainCall → ℕ
-number_at place c = slice_index_or c.numbers place 0
+number_at index c = slice_index_or c.numbers index 0
 
 -- a name, or the number of bytes to read: a number that fits in a byte
 abbrev pub byte_at : ℕ → PlainCall → Option ℕ
-byte_at place c = if nat_lt (number_at place c) 256 then Some (number_at place c) else None
+byte_at index c = if nat_lt (number_at index c) 256 then Some (number_at index c) else None
 
 -- the first bytes, if these are not too many
 abbrev pub bytes_within : ℕ → PlainCall → Option (ArrayVec ℕ)

@@ -112,11 +112,11 @@ pub record IsNetworkOpened (sizes : NetworkSizes) (motes : List NetworkMote) (ne
   pub opened : AreOpened motes sessions
   pub steps : new ≡ opened_steps sessions sizes.room sizes.links sizes.rounds
 
-pub record NetworkGoesNext (happening : Happening) (there told : PlainTurn) (old new : StepsView) : Type 0 where
+pub record NetworkGoesNext (happening : Happening) (before after : PlainTurn) (old new : StepsView) : Type 0 where
   pub came : Came
   pub goes : GoesNext came old new
   pub is_happening : happening ≡ happening_of came new.net.air.clock
-  pub turn : TellsTurn (awaited_turn new.net) there told
+  pub turn : TellsTurn (awaited_turn new.net) before after
 
 pub record NetworkTakesCall (plain : PlainCall) (old new : StepsView) : Type 0 where
   pub call : Call

@@ -27,16 +27,16 @@ abbrev pub link_said : PlainLink → Link
 link_said plain =
     record { to = place_of plain.to; delay = plain.delay; loss = loss_said plain.loss plain.number plain.seed; last = Fate.Unused }
 
-abbrev pub told : ℕ → ℕ → ℕ → ℕ → Happening
-told step mote from clock = record { step = step; mote = mote; from = from; clock = clock }
+abbrev pub reported : ℕ → ℕ → ℕ → ℕ → Happening
+reported step mote from clock = record { step = step; mote = mote; from = from; clock = clock }
 
 abbrev pub happening_of : Came → ℕ → Happening
-happening_of (Came.Turn m) clock = told 0 (number_of m) 0 clock
-happening_of (Came.Entry m) clock = told 1 (number_of m) 0 clock
-happening_of Came.Clock clock = told 2 0 0 clock
-happening_of (Came.Lost from to) clock = told 3 (number_of to) (number_of from) clock
-happening_of (Came.Full from to) clock = told 4 (number_of to) (number_of from) clock
-happening_of (Came.Missed from to) clock = told 5 (number_of to) (number_of from) clock
-happening_of (Came.Unheard m) clock = told 5 (number_of m) 0 clock
-happening_of Came.Rest clock = told 6 0 0 clock
-happening_of Came.Halt clock = told 7 0 0 clock
+happening_of (Came.Turn m) clock = reported 0 (number_of m) 0 clock
+happening_of (Came.Entry m) clock = reported 1 (number_of m) 0 clock
+happening_of Came.Clock clock = reported 2 0 0 clock
+happening_of (Came.Lost from to) clock = reported 3 (number_of to) (number_of from) clock
+happening_of (Came.Full from to) clock = reported 4 (number_of to) (number_of from) clock
+happening_of (Came.Missed from to) clock = reported 5 (number_of to) (number_of from) clock
+happening_of (Came.Unheard m) clock = reported 5 (number_of m) 0 clock
+happening_of Came.Rest clock = reported 6 0 0 clock
+happening_of Came.Halt clock = reported 7 0 0 clock

@@ -17,15 +17,15 @@ use Rattle.library_core.specs.declared.application.PlainApplication.{PlainApplic
 -- its parts
 
 abbrev pub number_in : ℕ → PlainApplication → ℕ
-number_in place plain = slice_index_or plain.numbers place 0
+number_in index plain = slice_index_or plain.numbers index 0
 
 -- a truth value: 0 is false
 abbrev pub is_set : ℕ → PlainApplication → Bool
-is_set place plain = not (number_in place plain == 0)
+is_set index plain = not (number_in index plain == 0)
 
 -- a number that fits in a byte
 abbrev pub byte_in : ℕ → PlainApplication → Option ℕ
-byte_in place plain = if nat_lt (number_in place plain) 256 then Some (number_in place plain) else None
+byte_in index plain = if nat_lt (number_in index plain) 256 then Some (number_in index plain) else None
 
 -- this many bytes from the front on, where these are not too many for a print
 abbrev pub rest_in : PlainApplication → Option (ArrayVec ℕ)
@@ -72,7 +72,7 @@ relay_in plain =
 
 -- whether it has begun, and how many of its calls it has made since
 abbrev pub churn_in : PlainApplication → Option Churn
-churn_in plain = option_map (λ place. record { place = place }) (if is_set 0 plain then byte_in 1 plain else Some 18)
+churn_in plain = option_map (λ made. record { made = made }) (if is_set 0 plain then byte_in 1 plain else Some 18)
 
 -- whether it has drawn an event number, and which
 abbrev pub event_in : PlainApplication → Option (Option ℕ)

@@ -128,15 +128,15 @@ step_number Next.Halted = 3
 
 -- the turn that awaits its call is reported; if none does, nothing is
 abbrev pub TellsTurn : Option AwaitedCall → PlainTurn → PlainTurn → Type 0
-TellsTurn None there told = told ≡ there
-TellsTurn (Some turn) there told = told ≡ turn_told turn.process.0 turn.origin turn.stimulus there.bytes
+TellsTurn None before after = after ≡ before
+TellsTurn (Some turn) before after = after ≡ turn_told turn.process.0 turn.origin turn.stimulus before.bytes
 
-pub record GoesNext (step : ℕ) (there told : PlainTurn) (old new : SessionView) : Type 0 where
+pub record GoesNext (step : ℕ) (before after : PlainTurn) (old new : SessionView) : Type 0 where
   pub next : Next
   pub is_step : step ≡ step_number next
   pub advances : Advances next old new
   pub inputs : HasSameInputs old new
-  pub turn : TellsTurn new.turn there told
+  pub turn : TellsTurn new.turn before after
   pub history : GoesOn (with_made next new.last) old new
 
 pub record TakesCall (plain : PlainCall) (old new : SessionView) : Type 0 where

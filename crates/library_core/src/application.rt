@@ -87,18 +87,18 @@ fn ping_number(stage: PingStage) -> u32
 }
 
 impl PlainApplication {
-    fn is_set(&self, place: usize) -> bool
-        requires { place < 4 }
-        ensures { result ≡ is_set place self.now }
+    fn is_set(&self, index: usize) -> bool
+        requires { index < 4 }
+        ensures { result ≡ is_set index self.now }
     {
-        self.numbers[place] != 0
+        self.numbers[index] != 0
     }
 
-    fn byte(&self, place: usize) -> Option<u8>
-        requires { place < 4 }
-        ensures { result ≡ byte_in place self.now }
+    fn byte(&self, index: usize) -> Option<u8>
+        requires { index < 4 }
+        ensures { result ≡ byte_in index self.now }
     {
-        u8::try_from(self.numbers[place]).ok()
+        u8::try_from(self.numbers[index]).ok()
     }
 
     fn relay(&self) -> Option<Relay>
@@ -115,8 +115,8 @@ impl PlainApplication {
         if !self.is_set(0) {
             return Some(Churn::new());
         }
-        let place = self.byte(1)?;
-        Some(Churn { place })
+        let made = self.byte(1)?;
+        Some(Churn { made })
     }
 
     /// The event number that a ping has drawn, if it has.
@@ -197,7 +197,7 @@ impl PlainApplication {
             }
             Bundled::Churn(churn) => {
                 self.kind = 5;
-                self.numbers = [1, u32::from(churn.place), 0, 0];
+                self.numbers = [1, u32::from(churn.made), 0, 0];
             }
             Bundled::Ping(ping) => {
                 self.kind = 6;

@@ -42,19 +42,19 @@ pub(crate) fn front<const N: usize>(bytes: &[u8; 128], len: u32) -> Option<Array
 
 impl PlainCall {
     /// A name, or how many bytes are read: a number that fits in a byte.
-    fn byte(&self, place: usize) -> Option<u8>
-        requires { place < 4 }
-        ensures { result ≡ byte_at place self.now }
+    fn byte(&self, index: usize) -> Option<u8>
+        requires { index < 4 }
+        ensures { result ≡ byte_at index self.now }
     {
-        u8::try_from(self.numbers[place]).ok()
+        u8::try_from(self.numbers[index]).ok()
     }
 
     /// A length, an interval, or an offset in a block.
-    fn size(&self, place: usize) -> u32
-        requires { place < 4 }
-        ensures { result ≡ number_at place self.now }
+    fn size(&self, index: usize) -> u32
+        requires { index < 4 }
+        ensures { result ≡ number_at index self.now }
     {
-        self.numbers[place]
+        self.numbers[index]
     }
 
     /// The bytes of a print or of a write.

@@ -215,7 +215,7 @@ pub fn pass_ticks(steps: &mut NetworkSteps, ticks: u32) -> u32
     }
 }
 
-/// Submits an input from outside for the mote of this number.
+/// Feeds an input from outside for the mote of this number.
 pub fn feed_mote(steps: &mut NetworkSteps, number: u32, input: Input) -> u32
     ensures status { result ≡ network_feed_status number input steps.old }
     ensures waits { result ≡ 0 → TakesFeed (place_of number) input steps.old steps.new }
@@ -232,7 +232,7 @@ pub fn put_network_line(open_network: &mut OpenNetwork, line: &mut [u8], length:
     ensures steps { open_network.new.steps ≡ open_network.old.steps }
     ensures status { result ≡ network_line_status (size_of line.old) open_network.old.steps }
     ensures fits { result ≡ 0 → length.new ≤ size_of line.new }
-    ensures behind { result ≡ 0 → drop length.new line.new ≡ drop length.new line.old }
+    ensures rest { result ≡ 0 → drop length.new line.new ≡ drop length.new line.old }
     ensures front { result ≡ 0 → take length.new line.new
         ≡ take length.new (came_line open_network.old.steps.last open_network.old.steps.net) }
     ensures length { result ≢ 30

@@ -14,7 +14,7 @@ use crate::turn::PlainTurn;
 use mote_session::session::{Next, Session};
 use mote_types::entry::Input;
 
-/// Submits the input of a line of a script.
+/// Feeds the input of a line of a script.
 pub fn feed_line(session: &mut Session, line: &[u8]) -> u32
     ensures status { result ≡ status_if (line_refusal (read_line line.now) session.old) }
     ensures fed { result ≡ 0 → TakesScriptLine line.now session.old session.new }
@@ -26,7 +26,7 @@ pub fn feed_line(session: &mut Session, line: &[u8]) -> u32
     }
 }
 
-/// Submits an input.
+/// Feeds an input.
 pub fn feed_input(session: &mut Session, input: Input) -> u32
     ensures status { result ≡ status_if (input_refusal input session.old) }
     ensures fed { result ≡ 0 → TakesInput input session.old session.new }
@@ -115,7 +115,7 @@ pub fn put_line(text: &[u8], line: &mut [u8], length: &mut usize) -> u32
     ensures status { result ≡ (if nat_lt (size_of line.old + 1) (size_of text.now) then 20 else 0) }
     ensures fits { result ≡ 0 → length.new ≤ size_of line.new }
     ensures front { result ≡ 0 → take length.new line.new ≡ take length.new text.now }
-    ensures behind { result ≡ 0 → drop length.new line.new ≡ drop length.new line.old }
+    ensures rest { result ≡ 0 → drop length.new line.new ≡ drop length.new line.old }
     ensures unchanged { result ≢ 0 → line.new ≡ line.old }
 {
     let size = text.len() - 1;
@@ -132,7 +132,7 @@ pub fn put_sent(session: &Session, bytes: &mut [u8], length: &mut usize) -> u32
     ensures status { result ≡ sent_status_of (size_of bytes.old) (sent_in session.now.last) }
     ensures frame { result ≡ 0 → HasSent (take length.new bytes.new) session.now }
     ensures fits { result ≡ 0 → length.new ≤ size_of bytes.new }
-    ensures behind { result ≡ 0 → drop length.new bytes.new ≡ drop length.new bytes.old }
+    ensures rest { result ≡ 0 → drop length.new bytes.new ≡ drop length.new bytes.old }
     ensures length { result ≡ 20 → IsSomeAnd (sent_in session.now.last) (λ frame. length.new ≡ size_of frame.items) }
     ensures no_bytes { result ≢ 0 → bytes.new ≡ bytes.old }
     ensures no_length { result ≢ 0 → result ≢ 20 → length.new ≡ length.old }
@@ -155,7 +155,7 @@ pub fn put_last_line(open_mote: &mut OpenMote, line: &mut [u8], length: &mut usi
     ensures status { result ≡ line_status_of (size_of line.old) open_mote.old.session.last }
     ensures line { result ≡ 0 → IsLastLine (take length.new line.new) open_mote.old.session }
     ensures fits { result ≡ 0 → length.new ≤ size_of line.new }
-    ensures behind { result ≡ 0 → drop length.new line.new ≡ drop length.new line.old }
+    ensures rest { result ≡ 0 → drop length.new line.new ≡ drop length.new line.old }
     ensures length { result ≡ 20 → IsSomeAnd open_mote.old.session.last (λ entry. length.new + 1 ≡ size_of (entry_line entry)) }
     ensures no_line { result ≢ 0 → line.new ≡ line.old }
     ensures no_length { result ≢ 0 → result ≢ 20 → length.new ≡ length.old }

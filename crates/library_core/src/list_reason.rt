@@ -57,14 +57,14 @@ pub fn list_reason(text: &str) -> LineReason
 {
     // Two of its bytes follow each part but the last, so the parts can be counted.
     let _bytes = text.len();
-    let mut place = 0;
+    let mut index = 0;
     let mut left = Some(text);
     while let Some(parts) = left {
         let (part, others) = cut_at_comma(parts);
         if let Some(reason) = part_reason(part) {
-            return LineReason::NoCall(place, reason);
+            return LineReason::NoCall(index, reason);
         }
-        place += 1;
+        index += 1;
         left = others;
     }
     LineReason::TooManyCalls

@@ -72,7 +72,7 @@ pub fn put_run(ran: Ran, transcript: &mut [u8], outcome: &mut Outcome)
     ensures status { outcome.new.status ≤ 4 → outcome.new.status ≡ status_of ran.end }
     ensures line { outcome.new.status ≤ 4 → outcome.new.line ≡ line_of ran.end }
     ensures fits { outcome.new.status ≤ 4 → outcome.new.length ≤ length transcript.new }
-    ensures behind { outcome.new.status ≤ 4 → drop outcome.new.length transcript.new ≡ drop outcome.new.length transcript.old }
+    ensures rest { outcome.new.status ≤ 4 → drop outcome.new.length transcript.new ≡ drop outcome.new.length transcript.old }
     ensures length { outcome.new.length ≡ length ran.transcript.items }
     ensures full { 4 < outcome.new.status → outcome.new.status ≡ 20 }
     ensures no_line { 4 < outcome.new.status → outcome.new.line ≡ 0 }
@@ -108,7 +108,7 @@ fn refusal_numbers(refusal: Refusal) -> (u32, u32, u32, usize)
 {
     match refusal {
         Refusal::NotText => (16, 0, 0, 0),
-        Refusal::NoApplication(place, reason) => (17, reason.number(), place, reason.call()),
+        Refusal::NoApplication(number, reason) => (17, reason.number(), number, reason.call()),
         Refusal::TooManyApplications => (18, 0, 16, 0),
         Refusal::BadSizes(reason) => (19, reason.number(), 0, 0),
         Refusal::OutOfMemory => (21, 0, 0, 0),
@@ -120,7 +120,7 @@ fn line_number(refusal: Refusal) -> u64
     ensures { result ≡ refusal_line refusal }
 {
     match refusal {
-        Refusal::NoApplication(place, _) => u64::from(place) + 1,
+        Refusal::NoApplication(number, _) => u64::from(number) + 1,
         _ => 0,
     }
 }

@@ -48,8 +48,7 @@ pub struct PlainLink {
 #[repr(C)]
 #[derive(Drop)]
 pub struct Happening {
-    /// 0 a turn, 1 another entry, 2 the clock went on, 3 a frame was lost, 4 it found no room, 5 nobody heard it, 6 rest, 7 all rounds
-    /// are used up.
+    /// 0 a turn, 1 another entry, 2 the clock, 3 lost, 4 full, 5 missed, 6 rest, 7 exhausted.
     pub step: u32,
     /// The mote's number, or the receiver's; otherwise 0.
     pub mote: u32,

@@ -17,7 +17,7 @@ abbrev frame : ℕ → ArrayVec ℕ
 frame byte = record { items = byte ∷ [] }
 
 abbrev flight : ℕ → ℕ → Flight
-flight due byte = record { due = due; from = 0; place = 0; to = 1; bytes = frame byte }
+flight due byte = record { due = due; from = 0; position = 0; to = 1; bytes = frame byte }
 
 -- ---- the generator, and what it loses: seed 42 draws numbers whose upper 16 bits are first 37239 and then 14775
 
@@ -66,10 +66,10 @@ abbrev pair : List (List Link)
 pair = (link 1 3 Loss.Never ∷ link 2 1 Loss.Never ∷ []) ∷ [] ∷ [] ∷ []
 
 abbrev over_first : ℕ → ℕ → Flight
-over_first clock byte = record { due = clock + 3; from = 0; place = 0; to = 1; bytes = frame byte }
+over_first clock byte = record { due = clock + 3; from = 0; position = 0; to = 1; bytes = frame byte }
 
 abbrev over_second : ℕ → ℕ → Flight
-over_second clock byte = record { due = clock + 1; from = 0; place = 1; to = 2; bytes = frame byte }
+over_second clock byte = record { due = clock + 1; from = 0; position = 1; to = 2; bytes = frame byte }
 
 both_fly : (sent 0 (frame 5) (still_air 8 pair)).flights ≡ over_second 0 5 ∷ over_first 0 5 ∷ []
 both_fly = refl

@@ -40,58 +40,58 @@ pub all_with_all : (P : Flight → Type 0) (more flights : List Flight) → AllB
 all_with_all P [] flights new old = old
 all_with_all P (f ∷ more) flights new old = all_with_all P more (with_flight f flights) new.1 (all_with P f flights new.0 old)
 
-module _ (m place : ℕ) where
+module _ (m position : ℕ) where
   -- what is over the link arrives until then
   abbrev pub Near : ℕ → Flight → Type 0
-  Near due f = is_over m place f ≡ true → f.due ≤ due
+  Near due f = is_over m position f ≡ true → f.due ≤ due
 
   -- or just then
   abbrev pub At : ℕ → Flight → Type 0
-  At due f = is_over m place f ≡ true → f.due ≡ due
+  At due f = is_over m position f ≡ true → f.due ≡ due
 
   -- none is over the link where all are later
-  none_later : (due : ℕ) (flights : List Flight) → AllByRecursion (Near due) flights → AllByRecursion (λ (g : Flight). due < g.due) flights → over m place flights ≡ []
+  none_later : (due : ℕ) (flights : List Flight) → AllByRecursion (Near due) flights → AllByRecursion (λ (g : Flight). due < g.due) flights → over m position flights ≡ []
   none_later due [] near later = refl
-  none_later due (g ∷ flights) near later = by_test (is_over m place g) refl (none_later due flights near.1 later.1)
+  none_later due (g ∷ flights) near later = by_test (is_over m position g) refl (none_later due flights near.1 later.1)
     where
-      by_test : (b : Bool) → is_over m place g ≡ b → over m place flights ≡ [] → (if b then g ∷ over m place flights else over m place flights) ≡ []
+      by_test : (b : Bool) → is_over m position g ≡ b → over m position flights ≡ [] → (if b then g ∷ over m position flights else over m position flights) ≡ []
       by_test true e rest = let early = near.0 e in absurd (omega (arith, early, later.0))
       by_test false e rest = rest
 
   pub over_with : (due : ℕ) (f : Flight) (flights : List Flight) → InOrder flights → AllByRecursion (Near due) flights → At due f →
-      over m place (with_flight f flights) ≡ over m place flights ++ over m place (f ∷ [])
+      over m position (with_flight f flights) ≡ over m position flights ++ over m position (f ∷ [])
   over_with due f [] order near at = refl
-  over_with due f (g ∷ flights) order near at = by_tests (nat_lt f.due g.due) (is_over m place f) (is_over m place g) refl refl refl (over_with due f flights order.1 near.1 at)
+  over_with due f (g ∷ flights) order near at = by_tests (nat_lt f.due g.due) (is_over m position f) (is_over m position g) refl refl refl (over_with due f flights order.1 near.1 at)
     where
       tail : List Flight
-      tail = over m place flights
+      tail = over m position flights
 
-      by_tests : (b o p : Bool) → nat_lt f.due g.due ≡ b → is_over m place f ≡ o → is_over m place g ≡ p →
-          over m place (with_flight f flights) ≡ over m place flights ++ over m place (f ∷ []) →
-          over m place (if b then f ∷ g ∷ flights else g ∷ with_flight f flights) ≡ over m place (g ∷ flights) ++ over m place (f ∷ [])
+      by_tests : (b o p : Bool) → nat_lt f.due g.due ≡ b → is_over m position f ≡ o → is_over m position g ≡ p →
+          over m position (with_flight f flights) ≡ over m position flights ++ over m position (f ∷ []) →
+          over m position (if b then f ∷ g ∷ flights else g ∷ with_flight f flights) ≡ over m position (g ∷ flights) ++ over m position (f ∷ [])
       by_tests true true p e h k rest =
           let before : f.due < g.due = grind (arith, nat_tests) in
           let when = at h in
           let later = all_weaker (λ (x : Flight). g.due ≤ x.due) (λ (x : Flight). due < x.due) (λ x le. omega (arith, le, when, before)) flights order.0 in
-          let none : over m place (g ∷ flights) ≡ [] = none_later due (g ∷ flights) near (omega (arith, when, before), later) in
+          let none : over m position (g ∷ flights) ≡ [] = none_later due (g ∷ flights) near (omega (arith, when, before), later) in
           rw h (ap (λ l. f ∷ l) none ∙ sym (ap (λ (l : List Flight). l ++ f ∷ []) none))
-      by_tests true false p e h k rest = rw h (sym (append-nil (over m place (g ∷ flights))))
+      by_tests true false p e h k rest = rw h (sym (append-nil (over m position (g ∷ flights))))
       by_tests false o true e h k rest = rw k (ap (λ l. g ∷ l) rest)
       by_tests false o false e h k rest = rw k rest
 
   pub over_with_all : (due : ℕ) (more flights : List Flight) → InOrder flights → AllByRecursion (Near due) flights → AllByRecursion (At due) more →
-      over m place (with_flights more flights) ≡ over m place flights ++ over m place more
-  over_with_all due [] flights order near at = sym (append-nil (over m place flights))
+      over m position (with_flights more flights) ≡ over m position flights ++ over m position more
+  over_with_all due [] flights order near at = sym (append-nil (over m position flights))
   over_with_all due (f ∷ more) flights order near at =
       let near_f : Near due f = λ h. omega (arith, at.0 h) in
       over_with_all due more (with_flight f flights) (order_with f flights order) (all_with (Near due) f flights near_f near) at.1
-      ∙ (ap (λ (l : List Flight). l ++ over m place more) (over_with due f flights order near at.0)
-      ∙ (append_assoc (over m place flights) (over m place (f ∷ [])) (over m place more)
-      ∙ ap (λ (l : List Flight). over m place flights ++ l) (split f more)))
+      ∙ (ap (λ (l : List Flight). l ++ over m position more) (over_with due f flights order near at.0)
+      ∙ (append_assoc (over m position flights) (over m position (f ∷ [])) (over m position more)
+      ∙ ap (λ (l : List Flight). over m position flights ++ l) (split f more)))
     where
-      split : (f : Flight) (more : List Flight) → over m place (f ∷ []) ++ over m place more ≡ over m place (f ∷ more)
-      split f more = by_test (is_over m place f) refl
+      split : (f : Flight) (more : List Flight) → over m position (f ∷ []) ++ over m position more ≡ over m position (f ∷ more)
+      split f more = by_test (is_over m position f) refl
         where
-          by_test : (b : Bool) → is_over m place f ≡ b → over m place (f ∷ []) ++ over m place more ≡ over m place (f ∷ more)
+          by_test : (b : Bool) → is_over m position f ≡ b → over m position (f ∷ []) ++ over m position more ≡ over m position (f ∷ more)
           by_test true e = rw e refl
           by_test false e = rw e refl

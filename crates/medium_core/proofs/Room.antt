@@ -20,14 +20,14 @@ length_with f (g ∷ flights) = by_test (nat_lt f.due g.due) (length_with f flig
     by_test false rest = omega (arith, rest)
 
 -- no more are put in flight than find room
-pub length_begun : (free clock from : ℕ) (bytes : ArrayVec ℕ) (place : ℕ) (links : List Link) → length (begun free clock from bytes place links) ≤ free
-length_begun free clock from bytes place [] = omega arith
-length_begun free clock from bytes place (link ∷ links) =
-    by_tests (is_lost link) (free == 0) refl (λ k. length_begun k clock from bytes (place + 1) links)
+pub length_begun : (free clock from : ℕ) (bytes : ArrayVec ℕ) (position : ℕ) (links : List Link) → length (begun free clock from bytes position links) ≤ free
+length_begun free clock from bytes position [] = omega arith
+length_begun free clock from bytes position (link ∷ links) =
+    by_tests (is_lost link) (free == 0) refl (λ k. length_begun k clock from bytes (position + 1) links)
   where
-    by_tests : (a b : Bool) → (free == 0) ≡ b → ((k : ℕ) → length (begun k clock from bytes (place + 1) links) ≤ k) →
-        length (if_carried (if a then Fate.Lost else if b then Fate.Crowded else Fate.Carried) (flight_over clock from bytes place link)
-        (begun (if a then free else free - 1) clock from bytes (place + 1) links)) ≤ free
+    by_tests : (a b : Bool) → (free == 0) ≡ b → ((k : ℕ) → length (begun k clock from bytes (position + 1) links) ≤ k) →
+        length (if_carried (if a then Fate.Lost else if b then Fate.Crowded else Fate.Carried) (flight_over clock from bytes position link)
+        (begun (if a then free else free - 1) clock from bytes (position + 1) links)) ≤ free
     by_tests true b e rest = rest free
     by_tests false true e rest = let h = rest (free - 1) in omega (arith, h)
     by_tests false false e rest =
@@ -99,23 +99,23 @@ pub drop_more : (i : ℕ) (links first : List Link) → drop i links ≡ drop i 
 drop_more i links first e = drop_tail i links ∙ (ap tail_of e ∙ sym (drop_tail i first))
 
 -- one link was used
-module _ (clock from : ℕ) (bytes : ArrayVec ℕ) (first links : List Link) (i place : ℕ) (d link new : Link) (old after : Queue) where
+module _ (clock from : ℕ) (bytes : ArrayVec ℕ) (first links : List Link) (i position : ℕ) (d link new : Link) (old after : Queue) where
   pub record OneSent : Type 0 where
     pub within : i < length links
     pub here : link ≡ get_or links i d
     pub left : drop i links ≡ drop i first
-    pub same : place ≡ i
+    pub same : position ≡ i
     pub used : new ≡ after_frame (old.room - length old.flights) link
     pub spread : after ≡ record old {
       flights =
-          with_flights (if_carried (fate (old.room - length old.flights) link) (flight_over clock from bytes place link) []) old.flights;
+          with_flights (if_carried (fate (old.room - length old.flights) link) (flight_over clock from bytes position link) []) old.flights;
     }
 
   pub room_same : OneSent → after.room ≡ old.room
   room_same s = ap (λ (q : Queue). q.room) s.spread
 
   free_is : OneSent → after.room - length after.flights ≡ free_after (old.room - length old.flights) link
-  free_is s = ap (λ (q : Queue). q.room - length q.flights) s.spread ∙ free_spent old.room (flight_over clock from bytes place link) old.flights link
+  free_is s = ap (λ (q : Queue). q.room - length q.flights) s.spread ∙ free_spent old.room (flight_over clock from bytes position link) old.flights link
 
   pub after_sent : OneSent →
       take (suc i) (set links i new) ++ after_frames (after.room - length after.flights) (drop (suc i) (set links i new))

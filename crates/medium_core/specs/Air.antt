@@ -29,7 +29,7 @@ links_from from air = slice_index_or air.links from []
 
 -- the link in this position of the sender's list
 abbrev pub link_at : List (List Link) → ℕ → ℕ → Option Link
-link_at links from place = slice_get (slice_index_or links from []) place
+link_at links from position = slice_get (slice_index_or links from []) position
 
 -- with one more link of this mote, after its other ones
 abbrev pub with_link : ℕ → Link → Air → Air
@@ -45,8 +45,8 @@ free_room air = air.room - length air.flights
 
 -- a frame in flight over the link in this position of the sender's list
 abbrev pub flight_over : ℕ → ℕ → ArrayVec ℕ → ℕ → Link → Flight
-flight_over clock from bytes place link =
-    record { due = clock + link.delay; from = from; place = place; to = link.to; bytes = bytes }
+flight_over clock from bytes position link =
+    record { due = clock + link.delay; from = from; position = position; to = link.to; bytes = bytes }
 
 abbrev pub if_carried : Fate → Flight → List Flight → List Flight
 if_carried Fate.Carried f others = f ∷ others
@@ -56,9 +56,9 @@ if_carried Fate.Crowded f others = others
 
 -- what a frame puts in flight: one over each of these links that carries it
 abbrev pub begun : ℕ → ℕ → ℕ → ArrayVec ℕ → ℕ → List Link → List Flight
-begun free clock from bytes place [] = []
-begun free clock from bytes place (link ∷ links) =
-    if_carried (fate free link) (flight_over clock from bytes place link) (begun (free_after free link) clock from bytes (place + 1) links)
+begun free clock from bytes position [] = []
+begun free clock from bytes position (link ∷ links) =
+    if_carried (fate free link) (flight_over clock from bytes position link) (begun (free_after free link) clock from bytes (position + 1) links)
 
 -- the links after it
 abbrev pub after_frames : ℕ → List Link → List Link

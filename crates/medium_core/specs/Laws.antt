@@ -38,19 +38,19 @@ pub record Landing : Type 0 where
 
 -- the room that is left once a frame was sent over the links before this position
 abbrev pub free_at : ℕ → List Link → ℕ → ℕ
-free_at free [] place = free
+free_at free [] position = free
 free_at free (link ∷ links) zero = free
-free_at free (link ∷ links) (suc place) = free_at (free_after free link) links place
+free_at free (link ∷ links) (suc position) = free_at (free_after free link) links position
 
 abbrev pub sent_in : ℕ → ℕ → Deed → Air → List Frame → List Frame
-sent_in m place (Deed.Sends from bytes) air frames =
-    if from == m then record { at = air.clock; bytes = bytes; free = free_at (free_room air) (links_from m air) place } ∷ frames else frames
-sent_in m place _ air frames = frames
+sent_in m position (Deed.Sends from bytes) air frames =
+    if from == m then record { at = air.clock; bytes = bytes; free = free_at (free_room air) (links_from m air) position } ∷ frames else frames
+sent_in m position _ air frames = frames
 
 -- the frames that m sent, and when, as they reached its link in this position
 abbrev pub sent_by : ℕ → ℕ → List Deed → Air → List Frame
-sent_by m place [] air = []
-sent_by m place (deed ∷ deeds) air = sent_in m place deed air (sent_by m place deeds (done deed air))
+sent_by m position [] air = []
+sent_by m position (deed ∷ deeds) air = sent_in m position deed air (sent_by m position deeds (done deed air))
 
 abbrev pub landing_at : ℕ → Option Flight → List Landing → List Landing
 landing_at clock None landings = landings
@@ -74,30 +74,30 @@ through link (frame ∷ frames) =
 
 -- a frame that got through, as it is in flight over the link in this position of m's list
 abbrev pub flown : ℕ → ℕ → Link → Frame → Flight
-flown m place link frame = flight_over frame.at m frame.bytes place link
+flown m position link frame = flight_over frame.at m frame.bytes position link
 
 abbrev pub is_over : ℕ → ℕ → Flight → Bool
-is_over m place flight = flight.from == m && flight.place == place
+is_over m position flight = flight.from == m && flight.position == position
 
 -- what is in flight, or landed, over the link in this position of m's list
 abbrev pub over : ℕ → ℕ → List Flight → List Flight
-over m place flights = filter (is_over m place) flights
+over m position flights = filter (is_over m position) flights
 
 abbrev pub flights_landed : List Landing → List Flight
 flights_landed landings = map (λ (landing : Landing). landing.flight) landings
 
 -- what the sender's frames become over this link, if there is one
 abbrev pub carried : ℕ → ℕ → Option Link → List Frame → List Flight
-carried m place None frames = []
-carried m place (Some link) frames = map (flown m place link) (through link frames)
+carried m position None frames = []
+carried m position (Some link) frames = map (flown m position link) (through link frames)
 
 -- From still air on, whatever happens:
 pub record KeepsFaith (room : ℕ) (links : List (List Link)) (deeds : List Deed) : Type 0 where
   -- over each link those that landed, and then those in flight, are the frames that its sender sent, in order, each once, except
   -- those that the link's rule loses and those that find no room. Where there is no link nothing flies
-  pub exact : (m place : ℕ) →
-      over m place (flights_landed (landings deeds (still_air room links))) ++ over m place (all_done deeds (still_air room links)).flights
-      ≡ carried m place (link_at links m place) (sent_by m place deeds (still_air room links))
+  pub exact : (m position : ℕ) →
+      over m position (flights_landed (landings deeds (still_air room links))) ++ over m position (all_done deeds (still_air room links)).flights
+      ≡ carried m position (link_at links m position) (sent_by m position deeds (still_air room links))
   -- each frame lands in its moment
   pub punctual : AllByRecursion (λ (landing : Landing). landing.at ≡ landing.flight.due) (landings deeds (still_air room links))
   -- none is in flight that should have landed

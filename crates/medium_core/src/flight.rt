@@ -12,7 +12,7 @@ pub struct Flight {
     /// The number of its sender.
     pub from: usize,
     /// The position of the link in its sender's list.
-    pub place: usize,
+    pub position: usize,
     /// The number of its receiver.
     pub to: usize,
     pub bytes: ArrayVec<u8, 127>,

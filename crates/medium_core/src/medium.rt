@@ -46,14 +46,14 @@ fn send_over_one(
     link: &mut Link,
     clock: u64,
     from: usize,
-    place: usize,
+    position: usize,
     bytes: &ArrayVec<u8, 127>,
 )
     requires { clock ≤ 2 ^ 62 }
     ensures link { link.new ≡ after_frame (flights.old.room - length flights.old.flights) link.old }
     ensures flights { flights.new ≡ record flights.old {
       flights =
-          with_flights (if_carried (fate (flights.old.room - length flights.old.flights) link.old) (flight_over clock from bytes.now place link.old) [])
+          with_flights (if_carried (fate (flights.old.room - length flights.old.flights) link.old) (flight_over clock from bytes.now position link.old) [])
           flights.old.flights;
     } }
 {
@@ -63,7 +63,7 @@ fn send_over_one(
         flights.add(Flight {
             due,
             from,
-            place,
+            position,
             to: link.to,
             bytes: copied(bytes),
         });
@@ -86,10 +86,10 @@ fn send_over(
           with_flights (begun (flights.old.room - length flights.old.flights) clock from bytes.now 0 links.old) flights.old.flights;
     } }
 {
-    let mut place: usize = 0;
+    let mut position: usize = 0;
     for link in links.iter_mut() {
-        send_over_one(flights, link, clock, from, place, bytes);
-        place += 1;
+        send_over_one(flights, link, clock, from, position, bytes);
+        position += 1;
     }
 }
 

@@ -20,7 +20,7 @@ pub record IsMidway (old now : Inside) (before after : Contents) (next : Option 
   pub last : ℕ
   pub entry : IsEntry now.places last
   pub ended : end ≡ end_at now.places last
-  pub next_is : Names (get_or now.order.behind last 0) next
+  pub next_is : Names (get_or now.order.after last 0) next
   pub below : IfSome next (λ number. number < 272)
   pub untouched : (i : ℕ) → end ≤ at_of (place_in now.places i) → place_in now.places i ≡ place_in old.places i
   pub within : now.span.at + now.span.len ≤ length after.bytes
@@ -31,7 +31,7 @@ pub record IsMidway (old now : Inside) (before after : Contents) (next : Option 
 
 pub midway_first : (m : Inside) (arena : Contents) (next : Option ℕ) → IsLaidOut m.places m.order m.used m.span.len
     → LieApart m.places m.span.len → m.span.len ≤ 65536 → m.slid < 2 ^ 64 → m.span.at + m.span.len ≤ length arena.bytes
-    → Names (get_or m.order.behind 272 0) next → IfSome next (λ number. number < 272) → IsMidway m m arena arena next 0
+    → Names (get_or m.order.after 272 0) next → IfSome next (λ number. number < 272) → IsMidway m m arena arena next 0
 midway_first m arena next laid_out lie small slid within next_is below =
     grind (arith, bytes_moved-same, ends (shown laid_out))
 
@@ -40,7 +40,7 @@ module _ {old now : Inside} {before after : Contents} {next : Option ℕ} {numbe
   links : IsLinked now.places now.order
   links = shown midway.laid_out
 
-  named : Names (get_or now.order.behind midway.last 0) (Some number)
+  named : Names (get_or now.order.after midway.last 0) (Some number)
   named = grind arith
 
   next_block : IsNext now.places (end_at now.places midway.last) number
@@ -52,7 +52,7 @@ module _ {old now : Inside} {before after : Contents} {next : Option ℕ} {numbe
   pub is_live : IsSome (place_in now.places number)
   is_live = live_from_room (place_in now.places number) some_live
 
-  pub link_below : get_or now.order.behind number 0 ≤ 272
+  pub link_below : get_or now.order.after number 0 ≤ 272
   link_below = next_below links number (inr some_live)
 
   module _ {place : Place} (live : place_in now.places number ≡ Some place) where
@@ -60,7 +60,7 @@ module _ {old now : Inside} {before after : Contents} {next : Option ℕ} {numbe
     down = grind (arith, next_block)
 
     lowest : (j : ℕ) → 0 < room_of (place_in now.places j) → end ≤ at_of (place_in now.places j) → place.at ≤ at_of (place_in now.places j)
-    lowest j some behind = grind (arith, next_block.lowest j)
+    lowest j some above = grind (arith, next_block.lowest j)
 
     pub inside : place.at + up4 place.len ≤ now.span.len
     inside = grind arith
@@ -72,7 +72,7 @@ module _ {old now : Inside} {before after : Contents} {next : Option ℕ} {numbe
         → slid ≡ min (now.slid + room_moved (Some place) (placed end place.len)) (2 ^ 64 - 1)
         → after' ≡ contents (written after.bytes (now.span.at + end)
         (slice_range after.bytes (now.span.at + place.at) (now.span.at + place.at + place.len))) after.carved
-        → Names (get_or now.order.behind number 0) next' → IfSome next' (λ number. number < 272)
+        → Names (get_or now.order.after number 0) next' → IfSome next' (λ number. number < 272)
         → IsMidway old (record now { places = slice_set now.places number (placed end place.len); slid = slid })
         before after' next' (end + up4 place.len)
     midway_more slid after' next' slid_is after_is next_is below =
@@ -105,7 +105,7 @@ module _ {old now : Inside} {before after : Contents} {next : Option ℕ} {numbe
           ended = grind arith;
           next_is = next_is;
           below = below;
-          untouched = λ i behind. elim (cases_eq i number) [
+          untouched = λ i above. elim (cases_eq i number) [
             | inl e ↦ grind arith
             | inr ne ↦ let same = get_or-set_other now.places number i lowered None ne in grind arith
           ];

@@ -6,11 +6,11 @@ no_entry : (i : ℕ) → IsEntry (replicate 272 None) i → i ≡ 272
 no_entry i (inl e) = e
 no_entry i (inr some) = absurd (omega (arith, ap room_of (place_in-none 272 i)))
 
-pub no_links : IsLinked (replicate 272 None) (record { before = replicate 273 272; behind = replicate 273 272 })
+pub no_links : IsLinked (replicate 272 None) (record { before = replicate 273 272; after = replicate 273 272 })
 no_links = record {
   names = grind arith;
   entries_before = grind arith;
-  entries_behind = grind arith;
+  entries_after = grind arith;
   next = λ i entry. rw (no_entry i entry) (record {
     entry = inl ends;
     lowest = λ j some _. absurd (omega (arith, ap room_of (place_in-none 272 j)));
@@ -39,7 +39,7 @@ module _ {places : List (Option Place)} {order : Order} (linked : IsLinked place
   pub entry_below : (i : ℕ) → IsEntry places i → i ≤ 272
   entry_below i entry = grind (arith, room_below)
 
-  pub next_below : (i : ℕ) → IsEntry places i → get_or order.behind i 0 ≤ 272
+  pub next_below : (i : ℕ) → IsEntry places i → get_or order.after i 0 ≤ 272
   next_below i entry = grind (arith, room_below)
 
   pub last_below : get_or order.before 272 0 ≤ 272
@@ -65,13 +65,13 @@ module _ {xs ys : List (Option Place)} {size size' : ℕ} (lie : LieApart xs siz
     (same : length ys ≡ length xs) (rooms : (i : ℕ) → room_of (place_in ys i) ≡ room_of (place_in xs i))
     (keeps : (i j : ℕ) → 0 < room_of (place_in xs i) → at_of (place_in xs i) < at_of (place_in xs j)
     → at_of (place_in ys i) < at_of (place_in ys j)) where
-  stays_behind : (i j : ℕ) → (place_in ys i ≡ None) ⊎ (0 < room_of (place_in xs i)) → 0 < room_of (place_in xs j)
+  stays_after : (i j : ℕ) → (place_in ys i ≡ None) ⊎ (0 < room_of (place_in xs i)) → 0 < room_of (place_in xs j)
       → end_at xs i ≤ at_of (place_in xs j) → end_at ys i ≤ at_of (place_in ys j)
-  stays_behind i j entry some behind = grind arith
+  stays_after i j entry some after = grind arith
 
-  was_behind : (i j : ℕ) → (place_in xs i ≡ None) ⊎ (0 < room_of (place_in xs i)) → 0 < room_of (place_in xs j)
+  was_after : (i j : ℕ) → (place_in xs i ≡ None) ⊎ (0 < room_of (place_in xs i)) → 0 < room_of (place_in xs j)
       → end_at ys i ≤ at_of (place_in ys j) → end_at xs i ≤ at_of (place_in xs j)
-  was_behind i j entry some behind = grind arith
+  was_after i j entry some after = grind arith
 
   no_higher : (i j : ℕ) → 0 < room_of (place_in xs i) → 0 < room_of (place_in xs j) → at_of (place_in xs i) ≤ at_of (place_in xs j)
       → at_of (place_in ys i) ≤ at_of (place_in ys j)
@@ -85,10 +85,10 @@ module _ {xs ys : List (Option Place)} {size size' : ℕ} (lie : LieApart xs siz
       record {
         names = same ∙ linked.names;
         entries_before = linked.entries_before;
-        entries_behind = linked.entries_behind;
+        entries_after = linked.entries_after;
         next = λ i entry. record {
-          entry = grind (arith, stays_behind, rooms);
-          lowest = λ j some behind. grind (arith, was_behind i j, no_higher, rooms);
+          entry = grind (arith, stays_after, rooms);
+          lowest = λ j some after. grind (arith, was_after i j, no_higher, rooms);
         };
         back = λ i entry. linked.back i (was i entry);
         last = λ i entry. is (get_or order.before i 0) (linked.last i (was i entry));
@@ -125,14 +125,14 @@ module _ {xs : List (Option Place)} {order : Order} (links : IsLinked xs order) 
   place_other : (i : ℕ) → i ≢ x → place_in added i ≡ place_in xs i
   place_other i ne = get_or-set_other xs x i fresh None ne
 
-  behind_x : get_or longer.behind x 0 ≡ 272
-  behind_x = grind (arith, get_or-set_same, length-set)
+  after_x : get_or longer.after x 0 ≡ 272
+  after_x = grind (arith, get_or-set_same, length-set)
 
-  behind_last : get_or longer.behind last 0 ≡ x
-  behind_last = grind (arith, get_or-set_other, get_or-set_same, last_below)
+  after_last : get_or longer.after last 0 ≡ x
+  after_last = grind (arith, get_or-set_other, get_or-set_same, last_below)
 
-  behind_other : (i : ℕ) → i ≢ last → i ≢ x → get_or longer.behind i 0 ≡ get_or order.behind i 0
-  behind_other i ne ne' = grind (arith, get_or-set_other)
+  after_other : (i : ℕ) → i ≢ last → i ≢ x → get_or longer.after i 0 ≡ get_or order.after i 0
+  after_other i ne ne' = grind (arith, get_or-set_other)
 
   before_x : get_or longer.before x 0 ≡ last
   before_x = grind (arith, get_or-set_other, get_or-set_same)
@@ -150,21 +150,21 @@ module _ {xs : List (Option Place)} {order : Order} (links : IsLinked xs order) 
   is_entry i entry = grind (arith, place_other)
 
   -- except for the last one, the next entry is a block's, and not the new one's
-  next_other : (i : ℕ) → IsEntry xs i → i ≢ last → (get_or order.behind i 0 ≢ 272) × (get_or order.behind i 0 ≢ x)
+  next_other : (i : ℕ) → IsEntry xs i → i ≢ last → (get_or order.after i 0 ≢ 272) × (get_or order.after i 0 ≢ x)
   next_other i entry ne = grind arith
 
   -- none is after the last one
-  none_behind : (j : ℕ) → 0 < room_of (place_in xs j) → end_at xs last ≤ at_of (place_in xs j) → ⊥
-  none_behind j room behind = grind arith
+  none_after : (j : ℕ) → 0 < room_of (place_in xs j) → end_at xs last ≤ at_of (place_in xs j) → ⊥
+  none_after j room after = grind arith
 
-  next_added : (i : ℕ) → IsEntry added i → IsNext added (end_at added i) (get_or longer.behind i 0)
+  next_added : (i : ℕ) → IsEntry added i → IsNext added (end_at added i) (get_or longer.after i 0)
   next_added i entry = elim (cases_eq i x) [
-    | inl e ↦ grind (arith, behind_x, place_x, place_other, cases_eq, end_le_last)
+    | inl e ↦ grind (arith, after_x, place_x, place_other, cases_eq, end_le_last)
     | inr ne ↦ elim (cases_eq i last) [
-      | inl e ↦ grind (arith, behind_last, place_x, place_other, cases_eq, end_le_last, none_behind)
+      | inl e ↦ grind (arith, after_last, place_x, place_other, cases_eq, end_le_last, none_after)
       | inr ne' ↦ grind (
         arith,
-        behind_other,
+        after_other,
         place_x,
         place_other,
         cases_eq,
@@ -179,13 +179,13 @@ module _ {xs : List (Option Place)} {order : Order} (links : IsLinked xs order) 
   linked_appended = record {
     names = grind (arith, length-set);
     entries_before = grind (arith, length-set);
-    entries_behind = grind (arith, length-set);
+    entries_after = grind (arith, length-set);
     next = next_added;
     back = λ i entry. elim (cases_eq i x) [
-      | inl e ↦ grind (arith, behind_x, before_ends)
+      | inl e ↦ grind (arith, after_x, before_ends)
       | inr ne ↦ elim (cases_eq i last) [
-        | inl e ↦ grind (arith, behind_last, before_x)
-        | inr ne' ↦ let was = was_entry i entry ne in grind (arith, behind_other, before_other, next_other i was ne')
+        | inl e ↦ grind (arith, after_last, before_x)
+        | inr ne' ↦ let was = was_entry i entry ne in grind (arith, after_other, before_other, next_other i was ne')
       ]
     ];
     last = λ i entry. elim (cases_eq i x) [
@@ -196,12 +196,12 @@ module _ {xs : List (Option Place)} {order : Order} (links : IsLinked xs order) 
       ]
     ];
     forth = λ i entry. elim (cases_eq i x) [
-      | inl e ↦ grind (arith, before_x, behind_last)
+      | inl e ↦ grind (arith, before_x, after_last)
       | inr ne ↦ elim (cases_eq i 272) [
-        | inl e ↦ grind (arith, before_ends, behind_x)
+        | inl e ↦ grind (arith, before_ends, after_x)
         | inr ne' ↦ let was = was_entry i entry ne in let forth = links.forth i was in let lower = get_or order.before i 0 in
-            ap (λ k. get_or longer.behind k 0) (before_other i ne' ne)
-            ∙ behind_other lower (λ e. ne' (sym forth ∙ ap (λ k. get_or order.behind k 0) e ∙ links.forth 272 (inl refl)))
+            ap (λ k. get_or longer.after k 0) (before_other i ne' ne)
+            ∙ after_other lower (λ e. ne' (sym forth ∙ ap (λ k. get_or order.after k 0) e ∙ links.forth 272 (inl refl)))
             (not_new lower (links.last i was)) ∙ forth
       ]
     ];
@@ -217,7 +217,7 @@ module _ {xs : List (Option Place)} {order : Order} {size : ℕ} (chain : IsLink
   lower = get_or order.before x 0
 
   abbrev higher : ℕ
-  higher = get_or order.behind x 0
+  higher = get_or order.after x 0
 
   abbrev shorter : Order
   shorter = removed x order
@@ -231,7 +231,7 @@ module _ {xs : List (Option Place)} {order : Order} {size : ℕ} (chain : IsLink
   place_else : (i : ℕ) → i ≢ x → place_in left i ≡ place_in xs i
   place_else i ne = get_or-set_other xs x i None None ne
 
-  after_lower : get_or order.behind lower 0 ≡ x
+  after_lower : get_or order.after lower 0 ≡ x
   after_lower = chain.forth x (inr live)
 
   lower_entry : IsEntry xs lower
@@ -252,11 +252,11 @@ module _ {xs : List (Option Place)} {order : Order} {size : ℕ} (chain : IsLink
   pub higher_below : higher ≤ 272
   higher_below = next_below chain x (inr live)
 
-  at_lower : get_or shorter.behind lower 0 ≡ higher
+  at_lower : get_or shorter.after lower 0 ≡ higher
   at_lower = grind (arith, get_or-set_same, lower_below)
 
-  behind_else : (i : ℕ) → i ≢ lower → get_or shorter.behind i 0 ≡ get_or order.behind i 0
-  behind_else i ne = grind (arith, get_or-set_other)
+  after_else : (i : ℕ) → i ≢ lower → get_or shorter.after i 0 ≡ get_or order.after i 0
+  after_else i ne = grind (arith, get_or-set_other)
 
   at_higher : get_or shorter.before higher 0 ≡ lower
   at_higher = grind (arith, get_or-set_same, higher_below)
@@ -279,7 +279,7 @@ module _ {xs : List (Option Place)} {order : Order} {size : ℕ} (chain : IsLink
     was : (i ≢ x) × IsEntry xs i
     was = entry_left i entry
 
-    first : IsNext xs (end_at xs i) (get_or order.behind i 0)
+    first : IsNext xs (end_at xs i) (get_or order.after i 0)
     first = chain.next i was.1
 
     same_end : end_at left i ≡ end_at xs i
@@ -291,46 +291,46 @@ module _ {xs : List (Option Place)} {order : Order} {size : ℕ} (chain : IsLink
         → end_at xs i ≤ low → IsNext left (end_at left i) n
     next_of_left low n ne next past le = let there = place_else n ne in record {
       entry = grind (arith, same_end);
-      lowest = λ j some behind. let here = left_live j some in let some' : 0 < room_of (place_in xs j) = grind arith in
-          grind (arith, next.lowest j some' (past j here.0 some' (omega (arith, behind, ap at_of here.1, same_end))));
+      lowest = λ j some after. let here = left_live j some in let some' : 0 < room_of (place_in xs j) = grind arith in
+          grind (arith, next.lowest j some' (past j here.0 some' (omega (arith, after, ap at_of here.1, same_end))));
     }
 
-    next_left : IsNext left (end_at left i) (get_or shorter.behind i 0)
+    next_left : IsNext left (end_at left i) (get_or shorter.after i 0)
     next_left = elim (cases_eq i lower) [
       | inl e ↦
-          let to_x : get_or order.behind i 0 ≡ x = grind arith in
+          let to_x : get_or order.after i 0 ≡ x = grind arith in
           let first' = subst (IsNext xs (end_at xs i)) to_x first in
           let low : end_at xs i ≤ at_of (place_in xs x) =
           elim first'.entry [ inl f ↦ absurd (omega (arith, f, below, chain.names)) | inr h ↦ h.1 ] in
-          rw (ap (λ k. get_or shorter.behind k 0) e ∙ at_lower)
+          rw (ap (λ k. get_or shorter.after k 0) e ∙ at_lower)
           (next_of_left (end_at xs x) higher higher_ne next
-          (λ j ne some behind. lie.apart x j (λ f. ne (sym f)) live some (first'.lowest j some behind).1) (omega (arith, low)))
+          (λ j ne some after. lie.apart x j (λ f. ne (sym f)) live some (first'.lowest j some after).1) (omega (arith, low)))
       | inr ne ↦
-          rw (behind_else i ne)
-          (next_of_left (end_at xs i) (get_or order.behind i 0)
+          rw (after_else i ne)
+          (next_of_left (end_at xs i) (get_or order.after i 0)
           (λ f. ne (sym (chain.back i was.1) ∙ ap (λ k. get_or order.before k 0) f)) first
-          (λ j _ _ behind. behind) (omega arith))
+          (λ j _ _ after. after) (omega arith))
     ]
 
   pub linked_removed : IsLinked left shorter
   linked_removed = record {
     names = length-set xs x None ∙ chain.names;
     entries_before = length-set order.before higher lower ∙ chain.entries_before;
-    entries_behind = length-set order.behind lower higher ∙ chain.entries_behind;
+    entries_after = length-set order.after lower higher ∙ chain.entries_after;
     next = next_left;
     back = λ i entry. let was = entry_left i entry in let back = chain.back i was.1 in elim (cases_eq i lower) [
       | inl e ↦ grind (arith, at_lower, at_higher)
-      | inr ne ↦ grind (arith, behind_else, before_else)
+      | inr ne ↦ grind (arith, after_else, before_else)
     ];
     last = λ i entry. let was = entry_left i entry in elim (cases_eq i higher) [
       | inl e ↦ rw (ap (λ k. get_or shorter.before k 0) e ∙ at_higher) (still_entry lower lower_ne lower_entry)
       | inr ne ↦ rw (before_else i ne) (still_entry (get_or order.before i 0)
-          (λ e. ne (sym (chain.forth i was.1) ∙ ap (λ k. get_or order.behind k 0) e))
+          (λ e. ne (sym (chain.forth i was.1) ∙ ap (λ k. get_or order.after k 0) e))
           (chain.last i was.1))
     ];
     forth = λ i entry. let was = entry_left i entry in let forth = chain.forth i was.1 in elim (cases_eq i higher) [
       | inl e ↦ grind (arith, at_higher, at_lower)
-      | inr ne ↦ ap (λ k. get_or shorter.behind k 0) (before_else i ne)
-          ∙ behind_else (get_or order.before i 0) (λ e. was.0 (sym forth ∙ ap (λ k. get_or order.behind k 0) e ∙ after_lower)) ∙ forth
+      | inr ne ↦ ap (λ k. get_or shorter.after k 0) (before_else i ne)
+          ∙ after_else (get_or order.before i 0) (λ e. was.0 (sym forth ∙ ap (λ k. get_or order.after k 0) e ∙ after_lower)) ∙ forth
     ];
   }

@@ -22,10 +22,10 @@ use std::marker::Model;
 const PROCESSES: usize = 17;
 
 /// The position of a process in a table of those that have names.
-fn place_of_process(pid: Pid) -> usize
+fn process_index(pid: Pid) -> usize
     requires least { 3 ≤ pid.0 }
     requires most { pid.0 ≤ 19 }
-    ensures place { result ≡ pid.0 - 3 }
+    ensures value { result ≡ pid.0 - 3 }
     ensures within { result < PROCESSES }
 {
     (pid.0 - 3) as usize
@@ -207,7 +207,7 @@ impl Mmem {
         self.places[number] = Some(Place { at, len: n });
         self.order.append(number);
         self.used += rounded(n) as u32;
-        self.taken[place_of_process(key.0)] += rounded(n) as u32;
+        self.taken[process_index(key.0)] += rounded(n) as u32;
     }
 
     /// Frees a name's block, which leaves a hole. No block moves.
@@ -226,7 +226,7 @@ impl Mmem {
         self.order.remove(number);
         self.places[number] = None;
         self.used -= rounded(place.len) as u32;
-        self.taken[place_of_process(key.0)] -= rounded(place.len) as u32;
+        self.taken[process_index(key.0)] -= rounded(place.len) as u32;
     }
 
     /// The bytes of a name's block.
@@ -291,7 +291,7 @@ impl Mmem {
             → result ≤ unused (store_of self.now bytes) }
     {
         match self.quotas.each {
-            Some(quota) => quota - self.taken[place_of_process(pid)],
+            Some(quota) => quota - self.taken[process_index(pid)],
             None => self.span.len - self.used,
         }
     }

@@ -5,7 +5,7 @@ ghost use Rattle.mmem_core.specs.Code.Ring.{Names, appended, removed};
 
 use mote_types::block_name::NAMES;
 
-/// One more entry than there are names: it stands for both ends.
+/// One more entry than there are names: it is for both ends.
 const ENTRIES: usize = NAMES + 1;
 
 /// The entry for both ends, as a link names it.
@@ -18,7 +18,7 @@ const ENDS: u16 = NAMES as u16;
 #[derive(Drop)]
 pub(crate) struct Order {
     before: [u16; ENTRIES],
-    behind: [u16; ENTRIES],
+    after: [u16; ENTRIES],
 }
 
 /// The number that a link names, if it isn't an end.
@@ -37,21 +37,21 @@ fn linked(link: u16) -> Option<usize>
 impl Order {
     /// No name has a block.
     pub(crate) fn new() -> Self
-        ensures { result ≡ record { before = replicate ENTRIES ENDS; behind = replicate ENTRIES ENDS } }
+        ensures { result ≡ record { before = replicate ENTRIES ENDS; after = replicate ENTRIES ENDS } }
     {
         Order {
             before: [ENDS; ENTRIES],
-            behind: [ENDS; ENTRIES],
+            after: [ENDS; ENTRIES],
         }
     }
 
     /// The name of the lowest block.
     pub(crate) fn first(&self) -> Option<usize>
-        requires { get_or self.now.behind NAMES 0 ≤ NAMES }
-        ensures number { Names (get_or self.now.behind NAMES 0) result }
+        requires { get_or self.now.after NAMES 0 ≤ NAMES }
+        ensures number { Names (get_or self.now.after NAMES 0) result }
         ensures within { IfSome result (λ number. number < NAMES) }
     {
-        linked(self.behind[NAMES])
+        linked(self.after[NAMES])
     }
 
     /// The name of the highest block.
@@ -66,11 +66,11 @@ impl Order {
     /// The name of the next block after this one's.
     pub(crate) fn next(&self, number: usize) -> Option<usize>
         requires within { number < NAMES }
-        requires link { get_or self.now.behind number 0 ≤ NAMES }
-        ensures number { Names (get_or self.now.behind number 0) result }
+        requires link { get_or self.now.after number 0 ≤ NAMES }
+        ensures number { Names (get_or self.now.after number 0) result }
         ensures within { IfSome result (λ number. number < NAMES) }
     {
-        linked(self.behind[number])
+        linked(self.after[number])
     }
 
     /// A name's block is the highest from now on.
@@ -80,9 +80,9 @@ impl Order {
         ensures { self.new ≡ appended number self.old }
     {
         let last = self.before[NAMES];
-        self.behind[last as usize] = number as u16;
+        self.after[last as usize] = number as u16;
         self.before[number] = last;
-        self.behind[number] = ENDS;
+        self.after[number] = ENDS;
         self.before[NAMES] = number as u16;
     }
 
@@ -90,12 +90,12 @@ impl Order {
     pub(crate) fn remove(&mut self, number: usize)
         requires within { number < NAMES }
         requires lower { get_or self.old.before number 0 ≤ NAMES }
-        requires higher { get_or self.old.behind number 0 ≤ NAMES }
+        requires higher { get_or self.old.after number 0 ≤ NAMES }
         ensures { self.new ≡ removed number self.old }
     {
         let before = self.before[number];
-        let behind = self.behind[number];
-        self.behind[before as usize] = behind;
-        self.before[behind as usize] = before;
+        let after = self.after[number];
+        self.after[before as usize] = after;
+        self.before[after as usize] = before;
     }
 }

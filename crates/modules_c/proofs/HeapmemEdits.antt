@@ -29,12 +29,12 @@ free_inside rows capacity at len lie free = let b = between 0 rows capacity at l
 
 -- a row for a block there keeps the table
 pub table_with : (rows : List Row) (capacity : ℕ) (row : Row) → 1 ≤ room_of row → IsTable rows capacity
-    → IsFree 0 rows capacity row.place (room_of row) → IsTable (with_row row rows) capacity
-table_with rows capacity row some lie free = let b = between 0 rows capacity row.place (room_of row) lie free in
+    → IsFree 0 rows capacity row.offset (room_of row) → IsTable (with_row row rows) capacity
+table_with rows capacity row some lie free = let b = between 0 rows capacity row.offset (room_of row) lie free in
     grind (
       arith,
-      lie_append 0 row.place b.before (row ∷ b.behind) capacity b.front (omega arith, some, b.back),
-      with_row_between 0 b.before b.behind (row.place + room_of row) capacity row b.front b.back (omega arith),
+      lie_append 0 row.offset b.before (row ∷ b.behind) capacity b.front (omega arith, some, b.back),
+      with_row_between 0 b.before b.behind (row.offset + room_of row) capacity row b.front b.back (omega arith),
     )
 
 -- bytes written between the blocks are no block's
@@ -46,8 +46,8 @@ module _ (bytes : List ℕ) (at : ℕ) (ws : List ℕ) (inside : at + length ws 
     arith,
     range-written_apart,
     kept_beside
-        (row.place + room_of row) rows capacity lie.2 (grind arith),
-    lie_le (row.place + room_of row) rows capacity lie.2,
+        (row.offset + room_of row) rows capacity lie.2 (grind arith),
+    lie_le (row.offset + room_of row) rows capacity lie.2,
   )
 
   pub kept : (rows : List Row) (capacity len : ℕ) → IsTable rows capacity → IsFree 0 rows capacity at len → length ws ≤ len
@@ -75,12 +75,12 @@ module _ (bytes : List ℕ) where
   none_named from (row ∷ rows) capacity name lie side =
       grind (
         arith,
-        none_named (row.place + room_of row) rows capacity name lie.2
+        none_named (row.offset + room_of row) rows capacity name lie.2
             (grind arith),
-        lie_le (row.place + room_of row) rows capacity lie.2,
+        lie_le (row.offset + room_of row) rows capacity lie.2,
       )
 
-  pub no_block : (rows : List Row) (at : ℕ) → ((j : ℕ) → j < length rows → (row_of rows j).place ≢ at)
+  pub no_block : (rows : List Row) (at : ℕ) → ((j : ℕ) → j < length rows → (row_of rows j).offset ≢ at)
       → find (has_name at) (map (block_told bytes) rows) ≡ None
   no_block [] at none = refl
   no_block (row ∷ rows) at none =
@@ -96,21 +96,21 @@ module _ (bytes : List ℕ) where
     abbrev behind : List Block
     behind = map (block_told bytes) (among 0 rows capacity i lie below).behind
 
-    none_before : find (has_name row.place) before ≡ None
-    none_before = let a = among 0 rows capacity i lie below in none_named 0 a.before row.place row.place a.front (inr (omega arith))
+    none_before : find (has_name row.offset) before ≡ None
+    none_before = let a = among 0 rows capacity i lie below in none_named 0 a.before row.offset row.offset a.front (inr (omega arith))
 
-    none_behind : find (has_name row.place) behind ≡ None
+    none_behind : find (has_name row.offset) behind ≡ None
     none_behind = let a = among 0 rows capacity i lie below in
-        none_named (row.place + room_of row) a.behind capacity row.place a.rest.2 (inl (omega arith))
+        none_named (row.offset + room_of row) a.behind capacity row.offset a.rest.2 (inl (omega arith))
 
     all_told : map (block_told bytes) rows ≡ before ++ (block_told bytes row ∷ behind)
     all_told = let a = among 0 rows capacity i lie below in
         ap (map (block_told bytes)) a.is ∙ map-append (block_told bytes) a.before (row ∷ a.behind)
 
-    pub block_found : find (has_name row.place) (map (block_told bytes) rows) ≡ Some (block_told bytes row)
+    pub block_found : find (has_name row.offset) (map (block_told bytes) rows) ≡ Some (block_told bytes row)
     block_found = grind (arith, all_told, find-append, none_before)
 
-    pub told_without : filter (λ (block : Block). not (has_name row.place block)) (map (block_told bytes) rows) ≡ map (block_told bytes)
+    pub told_without : filter (λ (block : Block). not (has_name row.offset block)) (map (block_told bytes) rows) ≡ map (block_told bytes)
         (without_row i rows)
     told_without =
         grind (
@@ -118,13 +118,13 @@ module _ (bytes : List ℕ) where
           filter-append,
           map-append,
           eq-eqb,
-          filter_unnamed row.place behind (count_absent row.place behind none_behind),
-          filter_unnamed row.place before (count_absent row.place before none_before),
+          filter_unnamed row.offset behind (count_absent row.offset behind none_behind),
+          filter_unnamed row.offset before (count_absent row.offset before none_before),
         )
 
 module _ (row : Row) where
-  pub with_row_at : (rows : List Row) (i : ℕ) → i ≤ length rows → BeginBelow rows row.place i
-      → (i < length rows → row.place < (row_of rows i).place)
+  pub with_row_at : (rows : List Row) (i : ℕ) → i ≤ length rows → BeginBelow rows row.offset i
+      → (i < length rows → row.offset < (row_of rows i).offset)
       → with_row row rows ≡ take i rows ++ (row ∷ drop i rows)
   with_row_at [] zero le below above = refl
   with_row_at [] (suc i) le below above = absurd (omega arith)
@@ -134,8 +134,8 @@ module _ (row : Row) where
 
   -- the rows from the number on move up by one, and the new one is put there
   pub inserted : (rows : List Row) (i last : ℕ) → length rows ≡ last + 1 → i ≤ length (take last rows)
-      → BeginBelow (take last rows) row.place i
-      → (i < length (take last rows) → row.place < (row_of (take last rows) i).place)
+      → BeginBelow (take last rows) row.offset i
+      → (i < length (take last rows) → row.offset < (row_of (take last rows) i).offset)
       → slice_set (copy_within rows i last (i + 1)) i row ≡ with_row row (take last rows)
   inserted rows i last size le below above =
       let d : Row = grind arith in

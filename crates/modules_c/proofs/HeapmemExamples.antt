@@ -10,7 +10,7 @@ use Rattle.modules_c.specs.Heapmem.Answers.{outcome_numbered, AllocTold, FreeTol
 use Rattle.modules_c.specs.Code.HeapmemRows.{with_row, without_row, next_place, IsFree, HasNoPlace, BeginsAt, BeginBelow}
 
 abbrev block_row : ℕ → ℕ → ℕ → Row
-block_row place room size = record { place = place; extent = size * 32 + (room - size) }
+block_row offset room size = record { offset = offset; extent = size * 32 + (room - size) }
 
 abbrev small : HeapStore
 small = heap_of (block_row 0 2 1 ∷ block_row 4 3 3 ∷ []) (1 ∷ 2 ∷ 3 ∷ 4 ∷ 5 ∷ 6 ∷ 7 ∷ 8 ∷ 9 ∷ 10 ∷ [])

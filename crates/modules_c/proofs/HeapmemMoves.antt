@@ -10,6 +10,6 @@ use Rattle.modules_c.specs.Heapmem.Answers.{ReallocTold}
 use Rattle.modules_c.specs.Code.HeapmemRows.{row_of, HasNoPlace}
 use Rattle.modules_c.proofs.HeapmemEdits.{block_found}
 
-pub found_at : (rows : List Row) (bytes : List ℕ) (i at : ℕ) → IsTable rows (length bytes) → i < length rows → (row_of rows i).place ≡ at
+pub found_at : (rows : List Row) (bytes : List ℕ) (i at : ℕ) → IsTable rows (length bytes) → i < length rows → (row_of rows i).offset ≡ at
     → find_block at (heap_of rows bytes) ≡ Some (block_told bytes (row_of rows i))
 found_at rows bytes i at lie below there = grind (arith, block_found bytes rows (length bytes) i lie below)

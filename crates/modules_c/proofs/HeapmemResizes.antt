@@ -32,13 +32,13 @@ written_behind bytes at xs ys behind e fits =
     grind (arith, written_is, append_assoc, drop-drop, drop_at, take_at)
 
 -- a block's row is replaced
-pub set_is : (rows : List Row) (capacity i : ℕ) (row : Row) → IsTable rows capacity → i < length rows → row.place ≡ (row_of rows i).place
+pub set_is : (rows : List Row) (capacity i : ℕ) (row : Row) → IsTable rows capacity → i < length rows → row.offset ≡ (row_of rows i).offset
     → slice_set rows i row ≡ with_row row (without_row i rows)
 set_is rows capacity i row lie below e = let a = among 0 rows capacity i lie below in let old = row_of rows i in
     grind (
       arith,
       set_at a.before old a.behind row i a.number,
-      with_row_between 0 a.before a.behind (old.place + room_of old) capacity row
+      with_row_between 0 a.before a.behind (old.offset + room_of old) capacity row
           (subst (LieFrom 0 a.before) (sym e) a.front) a.rest.2
           (omega arith),
     )
@@ -67,19 +67,19 @@ free_without rows capacity at len i lie free =
 
 -- a block's range is free without it, up to the next block
 pub own_free : (rows : List Row) (capacity i len : ℕ) → IsTable rows capacity → i < length rows
-    → (row_of rows i).place + len ≤ next_place i rows capacity
-    → IsFree 0 (without_row i rows) capacity (row_of rows i).place len
+    → (row_of rows i).offset + len ≤ next_place i rows capacity
+    → IsFree 0 (without_row i rows) capacity (row_of rows i).offset len
 own_free rows capacity i len lie below le = let a = among 0 rows capacity i lie below in
-    grind (arith, free_between 0 a.before a.behind capacity (row_of rows i).place len a.front (omega arith))
+    grind (arith, free_between 0 a.before a.behind capacity (row_of rows i).offset len a.front (omega arith))
 
 module _ (rows : List Row) (bytes : List ℕ) (i n : ℕ) (lie : IsTable rows (length bytes)) (below : i < length rows) where
   abbrev old : Row
   old = row_of rows i
 
   abbrev ws : List ℕ
-  ws = resized n (range_of old.place (size_of old) bytes)
+  ws = resized n (range_of old.offset (size_of old) bytes)
 
-  module _ (row : Row) (at room : ℕ) (at_is : row.place ≡ at) (room_is : room_of row ≡ room) (size_is : size_of row ≡ n)
+  module _ (row : Row) (at room : ℕ) (at_is : row.offset ≡ at) (room_is : room_of row ≡ room) (size_is : size_of row ≡ n)
       (size : length ws ≡ n) (free : IsFree 0 (without_row i rows) (length bytes) at room) where
     pub moved_is : heap_of (with_row row (without_row i rows)) (written bytes at ws) ≡ with_resized (record { at = at; room = room }) n
         (block_told bytes old) (heap_of rows bytes)
@@ -105,14 +105,14 @@ module _ (bytes : List ℕ) where
       → len_at at (gaps_behind from rows) ≡ 0
   none_there from [] capacity at lie less = refl
   none_there from (row ∷ rows) capacity at lie less =
-      grind (arith, none_there (row.place + room_of row) rows capacity at lie.2 (omega arith))
+      grind (arith, none_there (row.offset + room_of row) rows capacity at lie.2 (omega arith))
 
   -- the gaps below a position
-  gaps_passed : (from : ℕ) (xs : List Row) (row : Row) (ys : List Row) (at : ℕ) → LieFrom from xs row.place → row.place < at
-      → len_at at (gaps_behind from (xs ++ (row ∷ ys))) ≡ len_at at (gaps_behind (row.place + room_of row) ys)
+  gaps_passed : (from : ℕ) (xs : List Row) (row : Row) (ys : List Row) (at : ℕ) → LieFrom from xs row.offset → row.offset < at
+      → len_at at (gaps_behind from (xs ++ (row ∷ ys))) ≡ len_at at (gaps_behind (row.offset + room_of row) ys)
   gaps_passed from [] row ys at lie less = grind arith
   gaps_passed from (x ∷ xs) row ys at lie less =
-      grind (arith, gaps_passed (x.place + room_of x) xs row ys at lie.2 less, lie_le (x.place + room_of x) xs row.place lie.2)
+      grind (arith, gaps_passed (x.offset + room_of x) xs row ys at lie.2 less, lie_le (x.offset + room_of x) xs row.offset lie.2)
 
 -- the room of a block that is resized in place
 module _ (rows : List Row) (bytes : List ℕ) (i n : ℕ) (lie : IsTable rows (length bytes)) (below : i < length rows) where
@@ -123,10 +123,10 @@ module _ (rows : List Row) (bytes : List ℕ) (i n : ℕ) (lie : IsTable rows (l
   least = least_room 0 n
 
   abbrev end : ℕ
-  end = here.place + room_of here
+  end = here.offset + room_of here
 
   abbrev most : ℕ
-  most = next_place i rows (length bytes) - here.place
+  most = next_place i rows (length bytes) - here.offset
 
   abbrev store : HeapStore
   store = heap_of rows bytes
@@ -153,9 +153,9 @@ module _ (rows : List Row) (bytes : List ℕ) (i n : ℕ) (lie : IsTable rows (l
     one_more [] e = absurd (omega (arith, a.more, ap length e))
     one_more (next ∷ l) e =
         let back : LieFrom end (next ∷ l) (length bytes) = subst (λ (k : List Row). LieFrom end k (length bytes)) e a.rest.2 in
-        let same_end : next.place + (0 + room_of next) ≡ next.place + room_of next = omega arith in
-        let up = ended_above bytes (next.place + room_of next) l (length bytes) back.2 in
-        let none = none_there bytes (next.place + room_of next) l (length bytes) end back.2 (omega arith) in
+        let same_end : next.offset + (0 + room_of next) ≡ next.offset + room_of next = omega arith in
+        let up = ended_above bytes (next.offset + room_of next) l (length bytes) back.2 in
+        let none = none_there bytes (next.offset + room_of next) l (length bytes) end back.2 (omega arith) in
         let passed = gaps_passed bytes 0 a.before here a.behind end a.front (omega (arith, a.rest.1)) in (
           λ same. absurd (omega (arith, foot_split, ap (ended bytes end) e, ap (λ k. ended bytes k l) same_end, up, back.0, back.1)),
           grind arith,

@@ -24,8 +24,8 @@ module _ (bytes : List ℕ) where
       → LieInOrder 0 from (map (block_told bytes) rows) capacity
   in_order from [] capacity lie = lie
   in_order from (row ∷ rows) capacity lie =
-      let later = in_order (row.place + room_of row) rows capacity lie.2 in
-      let few : length (range_of row.place (size_of row) bytes) ≤ room_of row = omega (arith, length-take {A = ℕ}) in grind arith
+      let later = in_order (row.offset + room_of row) rows capacity lie.2 in
+      let few : length (range_of row.offset (size_of row) bytes) ≤ room_of row = omega (arith, length-take {A = ℕ}) in grind arith
 
   pub all_is : (from : ℕ) (rows : List Row) (capacity : ℕ) → LieFrom from rows capacity
       → (ended from rows ≤ capacity) × (from + (gap_total from rows + room_total rows) ≡ ended from rows)
@@ -36,13 +36,13 @@ module _ (bytes : List ℕ) where
   ended_above from rows capacity lie = omega (arith, (all_is from rows capacity lie).1)
 
   gap_first : (from : ℕ) (row : Row) (rows : List Row) (capacity : ℕ) → LieFrom from (row ∷ rows) capacity
-      → gap_total from (row ∷ rows) ≡ row.place - from + gap_total (row.place + room_of row) rows
+      → gap_total from (row ∷ rows) ≡ row.offset - from + gap_total (row.offset + room_of row) rows
   gap_first from row rows capacity lie =
-      let e : row.place + (0 + room_of row) ≡ row.place + room_of row = omega arith in
+      let e : row.offset + (0 + room_of row) ≡ row.offset + room_of row = omega arith in
       omega (
         arith,
         (all_is from (row ∷ rows) capacity lie).1,
-        (all_is (row.place + room_of row) rows capacity lie.2).1,
+        (all_is (row.offset + room_of row) rows capacity lie.2).1,
         sum_by-cons
             (λ (block : Block). block.room) (block_told bytes row) (map (block_told bytes) rows),
         ap (λ n. ended n rows) e,
@@ -61,7 +61,7 @@ module _ (rows : List Row) where
     counted_first lie = grind arith
 
     pub counted_more : (free from : ℕ) (row : Row) (left : List Row) → IsCounted free from (row ∷ left)
-        → IsCounted (free + (row.place - from)) (row.place + room_of row) left
+        → IsCounted (free + (row.offset - from)) (row.offset + room_of row) left
     counted_more free from row left counted = grind (arith, gap_first)
 
 pub taken_is : (rows : List Row) (bytes : List ℕ) (capacity free : ℕ) → IsTable rows capacity → length bytes ≡ capacity

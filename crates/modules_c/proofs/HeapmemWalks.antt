@@ -20,11 +20,11 @@ module _ (rows : List Row) where
 module _ (rows : List Row) (capacity need : ℕ) (best : Option Hole) (from : ℕ) (row : Row) (left : List Row)
     (midway : IsMidway rows capacity need best from (row ∷ left)) where
   abbrev end : ℕ
-  end = row.place + room_of row
+  end = row.offset + room_of row
 
-  module _ (less : from < row.place) (new : Option Hole) where
+  module _ (less : from < row.offset) (new : Option Hole) where
     abbrev hole : Hole
-    hole = record { at = from; len = row.place - from }
+    hole = record { at = from; len = row.offset - from }
 
     pub midway_gap : option_map gap_of new ≡ better need (option_map gap_of best) (gap_of hole) → (new ≡ best)
         ⊎ ((new ≡ Some hole) × (need ≤ hole.len)) → IsMidway rows capacity need new end left

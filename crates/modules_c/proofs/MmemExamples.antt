@@ -11,7 +11,7 @@ use Rattle.modules_c.specs.Code.MmemRows.{EndsBefore, IsClear, AreSound, IsNext}
 use Rattle.modules_c.proofs.MmemRows.{table_from}
 
 abbrev block_row : ℕ → ℕ → Block
-block_row place size = record { place = place; size = size }
+block_row offset size = record { offset = offset; size = size }
 
 -- handle 0: 3 bytes from 4 on; handle 1: none; handle 2: two from 0 on
 abbrev table : List Block

@@ -27,26 +27,26 @@ module _ {old now : List Block} {before after : List ℕ} {end : ℕ} (midway : 
     row = row_of now i
 
     abbrev place : Place
-    place = record { at = row.place; len = row.size }
+    place = record { at = row.offset; len = row.size }
 
     live : place_in (places_told now) i ≡ Some place
     live = live_is now i next.1
 
     lowest : (j : ℕ) → 0 < room_of (place_in (places_told now) j) → end ≤ at_of (place_in (places_told now) j)
-        → row.place ≤ at_of (place_in (places_told now) j)
+        → row.offset ≤ at_of (place_in (places_told now) j)
     lowest j some after = grind (arith, room_is, at_is, live_below)
 
-    pub next_inside : row.place + up4 row.size ≤ length before
+    pub next_inside : row.offset + up4 row.size ≤ length before
     next_inside = inside midway.sliding i place live next.2 lowest
 
-    pub midway_more : IsMidway old (slice_set now i (record { place = end; size = row.size })) before
-        (written after end (slice_range after row.place (row.place + row.size))) (end + up4 row.size)
+    pub midway_more : IsMidway old (slice_set now i (record { offset = end; size = row.size })) before
+        (written after end (slice_range after row.offset (row.offset + row.size))) (end + up4 row.size)
     midway_more =
-        let moved : Block = record { place = end; size = row.size } in
-        let ws = slice_range after row.place (row.place + row.size) in
+        let moved : Block = record { offset = end; size = row.size } in
+        let ws = slice_range after row.offset (row.offset + row.size) in
         let told = told-set now i moved ∙ ap (slice_set (places_told now) i) (told_some moved next.1) in
-        let inside : row.place + row.size ≤ length after = omega (arith, next_inside) in
-        let count = length-range after row.place row.size inside in
+        let inside : row.offset + row.size ≤ length after = omega (arith, next_inside) in
+        let count = length-range after row.offset row.size inside in
         let fits : end + length ws ≤ length after = omega arith in
         let size = length-written after end ws in
         record {

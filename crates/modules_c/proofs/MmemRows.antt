@@ -13,28 +13,28 @@ pub number_is : (handle : ℕ) → number_of (process_of handle) (handle_of hand
 number_is handle = omega arith
 
 module _ (row : Block) where
-  pub told_some : 0 < row.size → place_told row ≡ placed row.place row.size
+  pub told_some : 0 < row.size → place_told row ≡ placed row.offset row.size
   told_some some = grind arith
 
 module _ (table : List Block) where
   module _ (i : ℕ) where
     pub place_in-told : place_in (places_told table) i ≡ place_told (row_of table i)
-    place_in-told = get_or-map place_told table i (record { place = 0; size = 0 })
+    place_in-told = get_or-map place_told table i (record { offset = 0; size = 0 })
 
     pub room_is : room_of (place_in (places_told table) i) ≡ up4 (row_of table i).size
     room_is = grind (arith, place_in-told)
 
-    pub at_is : 0 < (row_of table i).size → at_of (place_in (places_told table) i) ≡ (row_of table i).place
+    pub at_is : 0 < (row_of table i).size → at_of (place_in (places_told table) i) ≡ (row_of table i).offset
     at_is some = grind (arith, place_in-told)
 
     pub live_below : 0 < (row_of table i).size → i < length table
     live_below some = elim (cases_lt i (length table)) [
       | inl below ↦ below
-      | inr past ↦ absurd (grind (arith, get_or_past table i (record { place = 0; size = 0 }) past))
+      | inr past ↦ absurd (grind (arith, get_or_past table i (record { offset = 0; size = 0 }) past))
     ]
 
     pub live_is : 0 < (row_of table i).size
-        → place_in (places_told table) i ≡ placed (row_of table i).place (row_of table i).size
+        → place_in (places_told table) i ≡ placed (row_of table i).offset (row_of table i).size
     live_is some = grind (arith, place_in-told)
 
     pub unused_is : (row_of table i).size ≡ 0 → place_in (places_told table) i ≡ None
@@ -54,11 +54,11 @@ module _ (table : List Block) (capacity : ℕ) where
 module _ (table : List Block) where
   -- where the rows' blocks end
   pub row_le_last : (i : ℕ) → 0 < (row_of table i).size
-      → (row_of table i).place + up4 (row_of table i).size ≤ last_end (places_told table)
+      → (row_of table i).offset + up4 (row_of table i).size ≤ last_end (places_told table)
   row_le_last i some = omega (arith, at_is table i some, room_is table i, end_le_last (places_told table) i)
 
   pub last_le_rows : (n : ℕ)
-      → ((j : ℕ) → j < length table → 0 < (row_of table j).size → (row_of table j).place + up4 (row_of table j).size ≤ n)
+      → ((j : ℕ) → j < length table → 0 < (row_of table j).size → (row_of table j).offset + up4 (row_of table j).size ≤ n)
       → last_end (places_told table) ≤ n
   last_le_rows n each = last_le (places_told table) n (λ i. ends i (cases_eq (row_of table i).size 0))
     where
@@ -75,12 +75,12 @@ module _ (table : List Block) where
 
     module _ (i : ℕ) where
       pub row_inside : IsTable table capacity → 0 < (row_of table i).size
-          → (row_of table i).place + up4 (row_of table i).size ≤ capacity
+          → (row_of table i).offset + up4 (row_of table i).size ≤ capacity
       row_inside sound some = omega (arith, at_is table i some, room_is table i, (table_lies table capacity sound).inside i)
 
       -- a block with a position outside ends after n bytes
       pub row_outside : (place : Place) → 0 < (row_of table i).size
-          → capacity < (row_of table i).place + up4 (row_of table i).size → place_in (places_told table) i ≡ Some place
+          → capacity < (row_of table i).offset + up4 (row_of table i).size → place_in (places_told table) i ≡ Some place
           → capacity < place.at + up4 place.len
       row_outside place some outside told =
           omega (arith, at_is table i some, room_is table i, ap at_of told, ap room_of told)

@@ -51,15 +51,15 @@ module _ (table : List Block) (buffer : List ℕ) (i : ℕ) (row : Block) (below
   told_added : places_told added ≡ slice_set xs i fresh
   told_added = told-set table i row ∙ ap (slice_set xs i) (told_some row lies.some_bytes ∙ ap (λ at. placed at row.size) lies.end)
 
-  pub table_added : IsTable added (length (written buffer row.place (zeros row.size)))
+  pub table_added : IsTable added (length (written buffer row.offset (zeros row.size)))
   table_added =
       let long = length-map table place_told in
-      table_of added (length (written buffer row.place (zeros row.size)))
+      table_of added (length (written buffer row.offset (zeros row.size)))
       (rw (told_added, length-written) (LieApart-added xs i row.size (omega arith) (length buffer)
       (table_lies table (length buffer) sound) lies.some_bytes
       (omega arith)))
 
-  pub last_added : last_end (places_told added) ≡ row.place + up4 row.size
+  pub last_added : last_end (places_told added) ≡ row.offset + up4 row.size
   last_added = let long = length-map table place_told in rw told_added ((last_end-added xs i row.size (omega arith)) ∙ ap
       (λ at. at + up4 row.size) (sym lies.end))
 
@@ -67,16 +67,16 @@ module _ (table : List Block) (buffer : List ℕ) (i : ℕ) (row : Block) (below
   added_behind = let last = last_added in let long = length-map table place_told in grind
       (arith, get_or-set_same xs i fresh None (omega arith), told_added)
 
-  pub store_added : stored added (written buffer row.place (zeros row.size))
+  pub store_added : stored added (written buffer row.offset (zeros row.size))
       ≡ allocated (process_of i) (handle_of i) row.size (stored table buffer)
   store_added =
       let ws = zeros row.size in let count : length ws ≡ row.size = length-replicate row.size 0 in
-      let fits : row.place + length ws ≤ length buffer = omega arith in
-      let there = told-set table i row ∙ ap (slice_set xs i) (told_some row lies.some_bytes ∙ ap (placed row.place) (sym count)) in
-      same_store _ _ _ _ (length-written buffer row.place ws)
-      (ap (map (block_in (written buffer row.place ws))) there
-      ∙ blocks-set buffer row.place ws fits xs i (placed row.place (length ws)) (λ j _. inl (omega (arith, end_le_last xs j)))
-      ∙ ap (slice_set (stored table buffer).blocks i) (block_written buffer row.place ws fits)
+      let fits : row.offset + length ws ≤ length buffer = omega arith in
+      let there = told-set table i row ∙ ap (slice_set xs i) (told_some row lies.some_bytes ∙ ap (placed row.offset) (sym count)) in
+      same_store _ _ _ _ (length-written buffer row.offset ws)
+      (ap (map (block_in (written buffer row.offset ws))) there
+      ∙ blocks-set buffer row.offset ws fits xs i (placed row.offset (length ws)) (λ j _. inl (omega (arith, end_le_last xs j)))
+      ∙ ap (slice_set (stored table buffer).blocks i) (block_written buffer row.offset ws fits)
       ∙ ap (λ k. slice_set (stored table buffer).blocks k (Some ws)) (sym (number_is i)))
 
 map-replicate : {X Y : Type 0} (f : X → Y) (n : ℕ) (x : X) → map f (replicate n x) ≡ replicate n (f x)
@@ -85,7 +85,7 @@ map-replicate f (suc n) x = ap (λ l. f x ∷ l) (map-replicate f n x)
 
 -- a row without a block
 abbrev no_row : Block
-no_row = record { place = 0; size = 0 }
+no_row = record { offset = 0; size = 0 }
 
 pub live_some : (table : List Block) (buffer : List ℕ) (i : ℕ) → 0 < (row_of table i).size → is_live i (stored table buffer) ≡ true
 live_some table buffer i some = ap is_some (block_is table buffer i ∙ ap (block_in buffer) (live_is table i some))
@@ -132,11 +132,11 @@ module _ (table : List Block) where
           ∙ ap (λ k. slice_set (stored table buffer).blocks k None) (sym (number_is i)))
 
       pub block_read : (capacity : ℕ) → 0 < (row_of table i).size
-          → (row_of table i).place + up4 (row_of table i).size ≤ capacity → length buffer ≡ capacity
-          → IsSomeAnd (length_of (process_of i) (handle_of i) (stored table buffer)) (λ len. ((row_of table i).place + len ≤ capacity)
-          × (block_of (process_of i) (handle_of i) (stored table buffer) ≡ Some (range_of (row_of table i).place len buffer)))
+          → (row_of table i).offset + up4 (row_of table i).size ≤ capacity → length buffer ≡ capacity
+          → IsSomeAnd (length_of (process_of i) (handle_of i) (stored table buffer)) (λ len. ((row_of table i).offset + len ≤ capacity)
+          × (block_of (process_of i) (handle_of i) (stored table buffer) ≡ Some (range_of (row_of table i).offset len buffer)))
       block_read capacity some room size =
-          let at = (row_of table i).place in let len = (row_of table i).size in
+          let at = (row_of table i).offset in let len = (row_of table i).size in
           let fits : at + len ≤ length buffer = omega arith in
           let long = length-range buffer at len fits in
           let block = block_is table buffer i ∙ ap (block_in buffer) (live_is table i some) in

@@ -85,9 +85,9 @@ pub extern "C" fn toarmuts_heapmem_stats(rows: &[Row], bytes: &[u8], stats: &mut
     ensures chunks { outcome_numbered result ≡ Some Outcome.Done → stats.new.chunks ≡ (stats_of (heap_of rows.now bytes.now)).chunks }
     ensures unchanged { outcome_numbered result ≢ Some Outcome.Done → stats.new ≡ stats.old }
 {
-    let Some(told) = figures(rows, bytes.len()) else {
+    let Some(found) = figures(rows, bytes.len()) else {
         return number_of(Outcome::NoTable);
     };
-    *stats = told;
+    *stats = found;
     number_of(Outcome::Done)
 }

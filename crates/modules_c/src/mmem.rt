@@ -32,7 +32,7 @@ pub use block::Block;
 const MOST_BYTES: usize = u32::MAX as usize;
 
 /// No block.
-const UNUSED: Block = Block { place: 0, size: 0 };
+const UNUSED: Block = Block { offset: 0, size: 0 };
 
 /// Frees the blocks of all handles (`mmem_init`).
 #[unsafe(no_mangle)]
@@ -77,13 +77,13 @@ pub extern "C" fn toarmuts_mmem_alloc(
     if !fits(size, left_over(blocks, buffer.len())) {
         return NO_ROOM;
     }
-    let place = make_room(blocks, buffer, size);
+    let offset = make_room(blocks, buffer, size);
     put_last(
         blocks,
         buffer,
         handle,
         Block {
-            place: place as u32,
+            offset: offset as u32,
             size: size as u32,
         },
     );
@@ -125,7 +125,7 @@ pub extern "C" fn toarmuts_mmem_place(blocks: &[Block], capacity: usize, handle:
     if !has_block(blocks, handle) || !lies_inside(blocks[handle], capacity) {
         return capacity;
     }
-    blocks[handle].place as usize
+    blocks[handle].offset as usize
 }
 
 /// The number of free bytes of `capacity`: what the blocks' lengths, rounded up to multiples of 4, leave. Where the blocks

@@ -2,7 +2,7 @@
 //! bytes and two positions that its owner stores. `lib/ringbuf.h` in `c/modules/include` has these calls under Contiki-NG's
 //! names.
 //!
-//! Each contract is about the queue that bytes and positions stand for. No call requires anything of them: a ring that is none
+//! Each contract is about the queue that bytes and positions mean. No call requires anything of them: a ring that is none
 //! counts as full for a put, and as empty for a get.
 
 ghost use Rattle.std.specs.Prelude.{◌≡◌, ◌+◌, ◌≤◌, ◌<◌, ◌↔◌, [], ◌∷◌, ◌++◌, length, slice_set, true, false, IsTrue};
@@ -17,16 +17,16 @@ fn is_ring(bytes: &[u8], put: u8, get: u8) -> bool
 }
 
 /// The position after this one, around the end.
-fn next(place: u8, size: usize) -> u8
-    requires inside { place < size }
+fn next(index: u8, size: usize) -> u8
+    requires inside { index < size }
     requires size { size ≤ 256 }
-    ensures behind { place + 1 < size → result ≡ place + 1 }
-    ensures around { place + 1 ≡ size → result ≡ 0 }
+    ensures within { index + 1 < size → result ≡ index + 1 }
+    ensures around { index + 1 ≡ size → result ≡ 0 }
 {
-    if place as usize + 1 == size {
+    if index as usize + 1 == size {
         0
     } else {
-        place + 1
+        index + 1
     }
 }
 
@@ -44,12 +44,12 @@ pub extern "C" fn toarmuts_ringbuf_put(bytes: &mut [u8], put: &mut u8, get: u8, 
     if !is_ring(bytes, *put, get) {
         return false;
     }
-    let behind = next(*put, bytes.len());
-    if behind == get {
+    let following = next(*put, bytes.len());
+    if following == get {
         return false;
     }
     bytes[*put as usize] = byte;
-    *put = behind;
+    *put = following;
     true
 }
 

@@ -18,7 +18,7 @@ named word =
     else if bytes_eq word (codes "blink") then Some (Bundled.Blink (record { lit = false; printed = false }))
     else if bytes_eq word (codes "echo") then Some (Bundled.Echo (record { rest = record { items = [] } }))
     else if bytes_eq word (codes "relay") then Some (Bundled.Relay (record { len = 0; stage = RelayStage.Idle }))
-    else if bytes_eq word (codes "churn") then Some (Bundled.Churn (record { place = 18 }))
+    else if bytes_eq word (codes "churn") then Some (Bundled.Churn (record { made = 18 }))
     else if bytes_eq word (codes "ping") then Some (Bundled.Ping (record { number = None; count = 0; stage = Stage.Idle }))
     else None
 

@@ -17,20 +17,20 @@ churn_calls =
 
 -- the call at this position, counted from 0; after the last one, a wait
 abbrev pub call_at : ℕ → Call
-call_at place = slice_index_or churn_calls place Call.Wait
+call_at number = slice_index_or churn_calls number Call.Wait
 
-abbrev pub next_place : ℕ → ℕ
-next_place place = if nat_lt place (length churn_calls) then place + 1 else place
+abbrev pub next_made : ℕ → ℕ
+next_made made = if nat_lt made (length churn_calls) then made + 1 else made
 
--- its start and each answer give the next call, the start the first one
+-- its start and each reply give the next call, the start the first one
 abbrev pub churn_answer : Churn → Stimulus → Call
 churn_answer churn (Stimulus.Event event) = if event.code == INIT then call_at 0 else Call.Wait
-churn_answer churn (Stimulus.Answer reply) = call_at churn.place
+churn_answer churn (Stimulus.Answer reply) = call_at churn.made
 churn_answer churn (Stimulus.Callback timer) = Call.Wait
 
 abbrev pub churn_next : Churn → Stimulus → Churn
-churn_next churn (Stimulus.Event event) = if event.code == INIT then record { place = next_place 0 } else churn
-churn_next churn (Stimulus.Answer reply) = record { place = next_place churn.place }
+churn_next churn (Stimulus.Event event) = if event.code == INIT then record { made = next_made 0 } else churn
+churn_next churn (Stimulus.Answer reply) = record { made = next_made churn.made }
 churn_next churn (Stimulus.Callback timer) = churn
 
 abbrev pub churn_says : Churn → Says

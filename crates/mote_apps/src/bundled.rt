@@ -9,7 +9,7 @@ use crate::echo::Echo;
 use crate::hello::Hello;
 use crate::ping::Ping;
 use crate::relay::Relay;
-use app_kit::FromName;
+use mote_types::FromName;
 use mote_types::app::App;
 use mote_types::call::Call;
 use mote_types::event::Stimulus;
@@ -43,7 +43,7 @@ impl Bundled {
 }
 
 impl Default for Bundled {
-    /// What an unused place of a list of applications holds.
+    /// What an unused slot of a list of applications holds.
     fn default() -> Self {
         Bundled::Hello(Hello)
     }

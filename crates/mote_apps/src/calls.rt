@@ -1,4 +1,4 @@
-//! Calls with bytes, put into a lent place.
+//! Calls with bytes, written into the caller's buffer.
 
 ghost use Rattle.std.specs.Prelude.{◌≡◌, ◌≤◌, length};
 ghost use Rattle.mote_types.specs.declared.call.Call as call_of;
@@ -6,7 +6,7 @@ ghost use Rattle.mote_types.specs.declared.call.Call as call_of;
 use mote_types::call::Call;
 use mote_types::reply::Chunk;
 
-/// Puts the call that prints these bytes into a place, where the bytes are put at once.
+/// Writes the call that prints these bytes into the buffer, with the bytes at once.
 // A function of its own, since it has room for bytes, which is cleared at its entry.
 #[inline(never)]
 pub(crate) fn put_print(call: &mut Call, bytes: &[u8])
@@ -22,7 +22,7 @@ pub(crate) fn put_print(call: &mut Call, bytes: &[u8])
     }
 }
 
-/// Puts the call that writes these bytes into managed block 0, from a place of it on, into a place.
+/// Writes the call that writes these bytes into managed block 0, from an offset on, into the buffer.
 // Likewise.
 #[inline(never)]
 pub(crate) fn put_write(call: &mut Call, at: u32, bytes: &[u8])

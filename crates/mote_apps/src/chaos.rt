@@ -10,7 +10,7 @@ use mote_types::event::{FIRST_APPLICATION, Payload, Stimulus};
 /// The numbers of the generator are below this.
 const MODULUS: u64 = 0x8000_0000;
 
-/// Answers each stimulus, whatever it is, by a call that a generator of numbers chooses, on one of eight processes, timers,
+/// Makes at each stimulus, whatever it is, a call that a generator of numbers chooses, on one of eight processes, timers,
 /// handles, blocks or pools: what a hostile application may do (this project's profile). Only tests run it.
 #[derive(Drop)]
 pub struct Chaos {

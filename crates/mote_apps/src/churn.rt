@@ -1,29 +1,29 @@
 //! An application that goes through all kinds of memory.
 
 ghost use Rattle.std.specs.Prelude.{◌≡◌};
-ghost use Rattle.mote_apps.specs.Churn.{churn_says, call_at, next_place};
+ghost use Rattle.mote_apps.specs.Churn.{churn_says, call_at, next_made};
 
-use app_kit::chunk_of;
 use mote_types::app::App;
 use mote_types::call::Call;
+use mote_types::chunk_of;
 use mote_types::event::{Event, INIT, Stimulus};
 
 /// How many calls it makes.
 const CALLS: u8 = 18;
 
 /// Makes 18 calls on managed memory, heap memory, a pool and a list when it is started, one after another, whatever the
-/// answers are, and waits then (this project's profile).
+/// replies are, and waits then (this project's profile).
 #[derive(Drop)]
 pub struct Churn {
     /// How many of the calls were made.
-    pub place: u8,
+    pub made: u8,
 }
 
-/// The call of this place, counted from 0. Behind the last one it waits.
-fn make_call(place: u8) -> Call
-    ensures { result ≡ call_at place }
+/// The call with this number, counted from 0. After the last one it waits.
+fn make_call(number: u8) -> Call
+    ensures { result ≡ call_at number }
 {
-    match place {
+    match number {
         0 => Call::MmemAlloc(0, 10),
         1 => Call::MmemAlloc(1, 20),
         2 => Call::MmemAlloc(2, 30),
@@ -48,19 +48,19 @@ fn make_call(place: u8) -> Call
 impl Churn {
     /// Its calls are spent until it is started.
     pub fn new() -> Self
-        ensures { result ≡ record { place = 18 } }
+        ensures { result ≡ record { made = 18 } }
     {
-        Churn { place: CALLS }
+        Churn { made: CALLS }
     }
 
     /// Makes the next call.
     fn next_call(&mut self) -> Call
-        ensures call { result ≡ call_at self.old.place }
-        ensures state { self.new ≡ record { place = next_place self.old.place } }
+        ensures call { result ≡ call_at self.old.made }
+        ensures state { self.new ≡ record { made = next_made self.old.made } }
     {
-        let call = make_call(self.place);
-        if self.place < CALLS {
-            self.place += 1;
+        let call = make_call(self.made);
+        if self.made < CALLS {
+            self.made += 1;
         }
         call
     }
@@ -72,7 +72,7 @@ impl App for Churn {
     fn turn(&mut self, stimulus: &Stimulus) -> Call {
         match stimulus {
             Stimulus::Event(Event { code: INIT, .. }) => {
-                self.place = 0;
+                self.made = 0;
                 self.next_call()
             }
             Stimulus::Answer(_) => self.next_call(),

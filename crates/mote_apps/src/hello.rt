@@ -2,9 +2,9 @@
 
 ghost use Rattle.mote_apps.specs.Hello.{hello_says};
 
-use app_kit::chunk_of;
 use mote_types::app::App;
 use mote_types::call::Call;
+use mote_types::chunk_of;
 use mote_types::event::{Event, INIT, Stimulus};
 
 /// Prints `hi` and a line end when it is started, and waits otherwise (this project's profile).

@@ -5,16 +5,16 @@ ghost use Rattle.mote_types.specs.declared.call.Call as call_of;
 ghost use Rattle.mote_apps.specs.Ping.{ping_says, number_text, number_given, asked_answer, asked_next, ring_answer, ring_next};
 ghost use Rattle.mote_apps.specs.declared.ping.Stage.{Stage};
 
-use app_kit::{push_bytes, push_decimal};
 use mote_types::app::App;
 use mote_types::call::Call;
 use mote_types::event::{Event, INIT, Payload, Stimulus, TIMER};
 use mote_types::reply::{Chunk, Reply};
+use mote_types::{push_bytes, push_decimal};
 
 /// The ticks from one broadcast to the next.
 const INTERVAL: u32 = 5;
 
-/// Which answer is awaited.
+/// Which reply is awaited.
 #[derive(Clone, Copy, Drop)]
 pub enum Stage {
     /// None.
@@ -36,7 +36,7 @@ pub struct Ping {
     pub stage: Stage,
 }
 
-/// Puts the call that prints the number in decimal and a line end into a place, where the text is put at once.
+/// Writes the call that prints the number in decimal and a line end into the buffer, with the text at once.
 // A function of its own, since it has room for bytes, which is cleared at its entry.
 #[inline(never)]
 fn put_count(call: &mut Call, n: u32)
@@ -52,7 +52,7 @@ fn put_count(call: &mut Call, n: u32)
     }
 }
 
-/// The event number that an answer gives.
+/// The event number that a reply gives.
 fn given_number(reply: &Reply) -> Option<u8>
     ensures { result ≡ number_given reply.now }
 {
@@ -74,7 +74,7 @@ impl Ping {
         }
     }
 
-    /// The answer to `AllocEvent` has come.
+    /// The reply to `AllocEvent` has come.
     fn begin(&mut self, reply: &Reply, call: &mut Call)
         ensures call { call.new ≡ asked_answer (number_given reply.now) }
         ensures state { self.new ≡ asked_next (number_given reply.now) self.old }

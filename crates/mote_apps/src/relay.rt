@@ -13,7 +13,7 @@ use mote_types::reply::Reply;
 /// The bytes of one read.
 const CHUNK: u8 = 64;
 
-/// Which answer is awaited.
+/// Which reply is awaited.
 #[derive(Clone, Copy, Drop)]
 pub enum Stage {
     /// None that matters.
@@ -56,7 +56,7 @@ impl Relay {
         }
     }
 
-    /// Goes on to the next stage after an answer, by the call that leads to it.
+    /// Goes on to the next stage after a reply, by the call that leads to it.
     fn step(&mut self, reply: &Reply, call: &mut Call)
         ensures call { call.new ≡ (step_at self.old.stage self.old.len reply.now).1 }
         ensures state { self.new ≡ record self.old { stage = (step_at self.old.stage self.old.len reply.now).0 } }

@@ -10,21 +10,21 @@ use mote_types::event::Stimulus;
 use std::marker::Model;
 use std::mem;
 
-/// Answers its calls one after another, one to each stimulus, and waits once they are spent (this project's profile).
+/// Makes its calls one after another, one at each stimulus, and waits once they are spent (this project's profile).
 ///
 /// Contracts see it as the list of the calls that are left.
 #[derive(Drop)]
 pub struct Steps<const N: usize> {
     calls: [Call; N],
-    place: usize,
+    made: usize,
 }
 
 impl<const N: usize> Model for Steps<N> {
     ghost Value = { List Call };
 
-    ghost view = { λ steps. drop steps.place steps.calls };
+    ghost view = { λ steps. drop steps.made steps.calls };
 
-    ghost invariant = { λ steps. steps.place ≤ N };
+    ghost invariant = { λ steps. steps.made ≤ N };
 }
 
 impl<const N: usize> Steps<N> {
@@ -32,7 +32,7 @@ impl<const N: usize> Steps<N> {
     pub fn new(calls: [Call; N]) -> Self
         ensures { result ≡ calls.entry }
     {
-        Steps { calls, place: 0 }
+        Steps { calls, made: 0 }
     }
 }
 
@@ -40,9 +40,9 @@ impl<const N: usize> App for Steps<N> {
     ghost says = { steps_says };
 
     fn turn(&mut self, _stimulus: &Stimulus) -> Call {
-        if self.place < N {
-            let call = mem::replace(&mut self.calls[self.place], Call::Wait);
-            self.place += 1;
+        if self.made < N {
+            let call = mem::replace(&mut self.calls[self.made], Call::Wait);
+            self.made += 1;
             call
         } else {
             Call::Wait

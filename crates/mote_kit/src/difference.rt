@@ -24,9 +24,9 @@ fn common_length(wanted: &[u8], found: &[u8]) -> usize
     ensures found { result ≤ length found.now }
 {
     let most = wanted.len().min(found.len());
-    for place in 0..most {
-        if wanted[place] != found[place] {
-            return place;
+    for index in 0..most {
+        if wanted[index] != found[index] {
+            return index;
         }
     }
     most
@@ -50,10 +50,10 @@ fn line_ends(text: &[u8]) -> usize
 }
 
 /// The line of a text that begins at this offset, with its line end if it has one.
-fn line_at(text: &[u8], place: usize) -> &[u8]
-    requires { place ≤ length text.now }
+fn line_at(text: &[u8], offset: usize) -> &[u8]
+    requires { offset ≤ length text.now }
 {
-    let rest = &text[place..];
+    let rest = &text[offset..];
     match rest.iter().position(|byte| *byte == b'\n') {
         Some(end) => &rest[..=end],
         None => rest,
@@ -73,11 +73,11 @@ pub fn compare<'a>(wanted: &'a [u8], found: &'a [u8]) -> Result<(), Difference<'
         return Ok(());
     }
     let common = common_length(wanted, found);
-    let place = last_line_begins(&wanted[..common]);
+    let start = last_line_begins(&wanted[..common]);
     Err(Difference {
-        before: &wanted[..place],
-        wanted: line_at(wanted, place),
-        found: line_at(found, place),
+        before: &wanted[..start],
+        wanted: line_at(wanted, start),
+        found: line_at(found, start),
     })
 }
 

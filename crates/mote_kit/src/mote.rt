@@ -44,7 +44,7 @@ struct FixedScript<'a, F: Fixed> {
 impl<F: Fixed> ByteSource for FixedScript<'_, F> {
     ghost is_named = { Unit {0} };
 
-    ghost taken = { λ source. take source.script.place source.script.text.now };
+    ghost taken = { λ source. take source.script.position source.script.text.now };
 
     ghost is_ended = { λ source. source.script.ended };
 

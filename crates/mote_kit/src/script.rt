@@ -10,23 +10,23 @@ use mote_types::fault::DeviceFault;
 pub struct Script<'a> {
     text: &'a [u8],
     /// The number of bytes read so far.
-    place: usize,
+    position: usize,
     /// The largest number of bytes of one read.
     width: usize,
     /// The number of reads that succeed before one fails, where one does.
     reads_left: Option<u64>,
     ended: bool,
     failed: u64,
-    ghost within: { place ≤ length text.now },
+    ghost within: { position ≤ length text.now },
     ghost wide: { 0 < width },
-    ghost at_end: { ended ≡ true → place ≡ length text.now },
+    ghost at_end: { ended ≡ true → position ≡ length text.now },
 }
 
 impl<'a> Script<'a> {
     /// A script of these bytes. A read returns as many as there is room for, and none fails.
     pub fn new(text: &'a [u8]) -> Self
         ensures text { result.text.now ≡ text.entry.now }
-        ensures place { result.place ≡ 0 }
+        ensures position { result.position ≡ 0 }
         ensures width { result.width ≡ usize.MAX }
         ensures reads { result.reads_left ≡ None }
         ensures unended { result.ended ≡ false }
@@ -34,7 +34,7 @@ impl<'a> Script<'a> {
     {
         Script {
             text,
-            place: 0,
+            position: 0,
             width: usize::MAX,
             reads_left: None,
             ended: false,
@@ -47,7 +47,7 @@ impl<'a> Script<'a> {
         requires { 0 < width }
         ensures width { result.width ≡ width }
         ensures text { result.text ≡ self.entry.text }
-        ensures place { result.place ≡ self.entry.place }
+        ensures position { result.position ≡ self.entry.position }
         ensures reads { result.reads_left ≡ self.entry.reads_left }
         ensures ended { result.ended ≡ self.entry.ended }
         ensures failed { result.failed ≡ self.entry.failed }
@@ -61,7 +61,7 @@ impl<'a> Script<'a> {
         requires { 0 < k }
         ensures reads { result.reads_left ≡ Some (k - 1) }
         ensures text { result.text ≡ self.entry.text }
-        ensures place { result.place ≡ self.entry.place }
+        ensures position { result.position ≡ self.entry.position }
         ensures width { result.width ≡ self.entry.width }
         ensures ended { result.ended ≡ self.entry.ended }
         ensures failed { result.failed ≡ self.entry.failed }
@@ -74,7 +74,7 @@ impl<'a> Script<'a> {
 impl ByteSource for Script<'_> {
     ghost is_named = { Unit {0} };
 
-    ghost taken = { λ script. take script.place script.text.now };
+    ghost taken = { λ script. take script.position script.text.now };
 
     ghost is_ended = { λ script. script.ended };
 
@@ -94,19 +94,19 @@ impl ByteSource for Script<'_> {
         requires unended { self.old.ended ≡ false }
         requires countable { self.old.failed < 2 ^ 64 - 1 }
         ensures fails { OnErr result (self.old.reads_left ≡ Some 0) }
-        ensures size { IfOk result (λ n. n ≡ min (min (length self.old.text.now - self.old.place) self.old.width) (length buffer.old)) }
+        ensures size { IfOk result (λ n. n ≡ min (min (length self.old.text.now - self.old.position) self.old.width) (length buffer.old)) }
         ensures reads { OnOk result (self.old.reads_left ≡ option_map (λ left. left + 1) self.new.reads_left) }
         ensures same_text { self.new.text ≡ self.old.text }
         ensures same_width { self.new.width ≡ self.old.width }
         ensures still_fails { OnErr result (self.new.reads_left ≡ Some 0) }
         ensures front { IfOk result (λ n. n ≤ length buffer.new) }
         ensures taken { IfOk result
-            (λ n. Unit {0} → take self.new.place self.new.text.now ≡ take self.old.place self.old.text.now ++ take n buffer.new) }
+            (λ n. Unit {0} → take self.new.position self.new.text.now ≡ take self.old.position self.old.text.now ++ take n buffer.new) }
         ensures ended { IfOk result (λ n. self.new.ended ≡ nat_eq n 0) }
         ensures succeeded { OnOk result (self.new.failed ≡ self.old.failed) }
         ensures failed { OnErr result (self.new.failed ≡ self.old.failed + 1) }
-        ensures nothing_taken { OnErr result (Unit {0} → take self.new.place self.new.text.now ≡ take self.old.place self.old.text.now) }
-        ensures same_place { OnErr result (self.new.place ≡ self.old.place) }
+        ensures nothing_taken { OnErr result (Unit {0} → take self.new.position self.new.text.now ≡ take self.old.position self.old.text.now) }
+        ensures same_position { OnErr result (self.new.position ≡ self.old.position) }
         ensures unended { OnErr result (self.new.ended ≡ self.old.ended) }
     {
         let reads_left = match self.reads_left {
@@ -117,11 +117,11 @@ impl ByteSource for Script<'_> {
             Some(left) => Some(left - 1),
             None => None,
         };
-        let rest = &self.text[self.place..];
+        let rest = &self.text[self.position..];
         let size = rest.len().min(self.width).min(buffer.len());
         buffer[..size].copy_from_slice(&rest[..size]);
         self.reads_left = reads_left;
-        self.place += size;
+        self.position += size;
         self.ended = size == 0;
         Ok(size)
     }

@@ -5,7 +5,7 @@ use Rattle.command_line.specs.CommandLine.{names_of}
 use Rattle.command_line.specs.declared.failure.Failure.{Failure}
 use Rattle.mote_picture.specs.declared.undrawn.Undrawn.{Undrawn}
 use Rattle.mote_picture.specs.Data.{has_no_opening, json_string}
-use Rattle.mote_picture.specs.Named.{MayTell, title_of}
+use Rattle.mote_picture.specs.Named.{MayReport, title_of}
 use Rattle.mote_picture.specs.Reading.{parts_of}
 use Rattle.mote_picture.specs.Statuses.{status_of, text_of}
 
@@ -38,8 +38,8 @@ bad_range = refl
 no_sizes : status_of (Undrawn.Program Failure.BadSizes) ≡ 64
 no_sizes = refl
 
-sizes_told : text_of (Undrawn.Program Failure.BadSizes) ≡ Some (codes "bad sizes")
-sizes_told = refl
+sizes_reported : text_of (Undrawn.Program Failure.BadSizes) ≡ Some (codes "bad sizes")
+sizes_reported = refl
 
 -- the last line may have no end, and may be empty
 lines : parts_of (codes "halt\n\ntoo") ≡ codes "halt" ∷ [] ∷ codes "too" ∷ []
@@ -56,11 +56,11 @@ title = refl
 
 -- facts on the words, reported only if they hold
 module _ (rows : List Row) where
-  sixteen : length (names_of rows) ≡ 16 → MayTell rows (Undrawn.Program Failure.TooManyApplications) → ⊥
+  sixteen : length (names_of rows) ≡ 16 → MayReport rows (Undrawn.Program Failure.TooManyApplications) → ⊥
   sixteen is many = omega (arith, is, many)
 
-  no_range : MayTell rows (Undrawn.BadRange 5 9) → ⊥
+  no_range : MayReport rows (Undrawn.BadRange 5 9) → ⊥
   no_range back = omega (arith, back)
 
-  not_for_the_words : MayTell rows Undrawn.QuietRange → ⊥
+  not_for_the_words : MayReport rows Undrawn.QuietRange → ⊥
   not_for_the_words refused = refused

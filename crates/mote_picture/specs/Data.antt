@@ -9,7 +9,7 @@ has_no_opening text = list_all (λ byte. not (byte == 60)) text
 pub record IsHarmless (text : List ℕ) : Type 0 where
   pub no_opening : has_no_opening text ≡ true
 
--- a byte of a text as it stands within a string of JSON (RFC 8259): a control character but line end and tab is told as U+FFFD
+-- a byte of a text as it is written within a string of JSON (RFC 8259): a control character but line end and tab is written as U+FFFD
 abbrev pub string_byte : ℕ → List ℕ
 string_byte byte =
     if byte == 34 then codes "\\\""

@@ -1,4 +1,5 @@
 pub mod Data
+pub mod FrameTables
 pub mod Named
 pub mod Page
 pub mod Reading

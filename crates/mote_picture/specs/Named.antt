@@ -36,9 +36,9 @@ IsBackwards (Undrawn.BadRange from to) = to < from
 IsBackwards undrawn = ⊥
 
 -- what may be reported then
-abbrev pub MayTell : List Row → Undrawn → Type 0
-MayTell rows (Undrawn.Program failure) = MayRefuse (sizes_of rows) (length (names_of rows)) failure
-MayTell rows undrawn = IsBackwards undrawn
+abbrev pub MayReport : List Row → Undrawn → Type 0
+MayReport rows (Undrawn.Program failure) = MayRefuse (sizes_of rows) (length (names_of rows)) failure
+MayReport rows undrawn = IsBackwards undrawn
 
 -- ---- by some of what it may find
 

@@ -1,9 +1,9 @@
 -- The lines of a transcript that comes as bytes.
 use Rattle.std.specs.Prelude.{◌≡◌, ℕ, ◌-◌, ◌<◌, true, List, [], length, take, slice_index, All, if◌then◌else◌, ◌==◌}
 use Rattle.std.specs.List.{slice_split}
-use Rattle.transcript_lines.specs.Forms.{is_line}
-use Rattle.transcript_lines.specs.Lines.{line_text}
-use Rattle.transcript_lines.specs.declared.line.Line.{Line}
+use Rattle.picture_facts.specs.Transcript.Forms.{is_line}
+use Rattle.picture_facts.specs.Transcript.Lines.{line_text}
+use Rattle.picture_facts.specs.declared.transcript.line.Line.{Line}
 use Rattle.mote_picture.specs.Statuses.{out_of_memory}
 use Rattle.mote_picture.specs.declared.undrawn.Undrawn.{Undrawn}
 
@@ -11,13 +11,13 @@ use Rattle.mote_picture.specs.declared.undrawn.Undrawn.{Undrawn}
 abbrev pub without_end : List ℕ → List ℕ
 without_end bytes = if slice_index bytes (length bytes - 1) == 10 then take (length bytes - 1) bytes else bytes
 
--- what stands between the line ends
+-- what is between the line ends
 abbrev pub parts_of : List ℕ → List (List ℕ)
 parts_of bytes = if length bytes == 0 then [] else slice_split (λ byte. byte == 10) (without_end bytes)
 
 -- a line of a transcript
 abbrev pub IsLine : List ℕ → Type 0
-IsLine line = (told : Line) × (line ≡ line_text told) × (is_line told ≡ true)
+IsLine line = (read : Line) × (line ≡ line_text read) × (is_line read ≡ true)
 
 -- why the parts were not read: all before the one of the number are lines of a transcript, or memory was refused
 abbrev pub IsUnread : List (List ℕ) → Undrawn → Type 0

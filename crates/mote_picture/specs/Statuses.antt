@@ -24,9 +24,9 @@ text_of Undrawn.Quiet = Some (codes "a quiet transcript tells no clock: --vcd ne
 text_of Undrawn.QuietRange = Some (codes "a quiet transcript tells no clock for --from and --to")
 
 -- the status of the program that reports this; a text that the arguments ask for may fail to be written
-abbrev pub IsToldWith : Undrawn → ℕ → Type 0
-IsToldWith (Undrawn.Program failure) status = IsStatusOf (Err failure) status
-IsToldWith (Undrawn.NoLine number) status = status ≡ 2
-IsToldWith Undrawn.Quiet status = status ≡ 2
-IsToldWith (Undrawn.BadRange from to) status = status ≡ 64
-IsToldWith Undrawn.QuietRange status = status ≡ 64
+abbrev pub IsReportedWith : Undrawn → ℕ → Type 0
+IsReportedWith (Undrawn.Program failure) status = IsStatusOf (Err failure) status
+IsReportedWith (Undrawn.NoLine number) status = status ≡ 2
+IsReportedWith Undrawn.Quiet status = status ≡ 2
+IsReportedWith (Undrawn.BadRange from to) status = status ≡ 64
+IsReportedWith Undrawn.QuietRange status = status ≡ 64

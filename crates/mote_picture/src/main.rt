@@ -1,53 +1,40 @@
 //! Draws the picture of a run: reads a transcript from standard input, writes one SVG, HTML file or value change dump to standard output.
+//!
+//! Started by the name `network_picture` it draws the run of a network (`network.rt`): one program with two names, since both are made of
+//! nearly the same libraries.
 #![tactic(auto)]
 
 ghost use Rattle.std.specs.Prelude.{◌≡◌, IfErr};
 ghost use Rattle.command_line.specs.declared.failure.Failure.{Failure as Refused};
-ghost use Rattle.mote_picture.specs.Statuses.{IsToldWith};
+ghost use Rattle.mote_picture.specs.Statuses.{IsReportedWith};
 
 mod named;
+mod network;
 mod options;
 mod page;
 mod reading;
+mod streams;
 mod undrawn;
 
 use command_line::{Failure, exit_code, finish, texts_of, words_of};
 use named::{Form, Named, read_words, title_of};
 use options::PROGRAM;
 use page::page_of;
+use picture_facts::transcript::is_quiet;
 use picture_svg::{Settings, draw};
 use reading::lines_of;
 use std::alloc::{AllocError, Global};
+use std::env::Env;
 use std::io;
-use std::io::{Read, Write};
 use std::process::ExitCode;
-use transcript_lines::is_quiet;
+use streams::{read_all, write_all};
 use undrawn::Undrawn;
 
 /// The height of a picture that most viewers still open, in pixels: they store positions in 15 bits.
 const HIGHEST: usize = 32_000;
 
-/// All bytes of standard input.
-fn read_all<R: AllocGlobal + io::Input>(rt: &R) -> Result<Vec<u8>, Undrawn> {
-    let mut bytes = Vec::new(rt.alloc());
-    let mut reader = rt.reader();
-    match reader.read_to_end(&mut bytes) {
-        Ok(_) => Ok(bytes),
-        Err(error) if error.kind() == io::ErrorKind::OutOfMemory => {
-            Err(Undrawn::Program(Failure::OutOfMemory))
-        }
-        Err(_) => Err(Undrawn::Program(Failure::Read)),
-    }
-}
-
-/// Writes a picture to standard output.
-fn write_all<R: Print>(rt: &R, picture: &[u8]) -> Result<(), Undrawn> {
-    let mut writer = io::writer(rt);
-    match writer.write_all(picture) {
-        Ok(()) => Ok(()),
-        Err(_) => Err(Undrawn::Program(Failure::Write)),
-    }
-}
+/// The most bytes of the path by which the program is started.
+const LONGEST_PATH: usize = 4_096;
 
 /// The picture that is asked for. Warns where it is too high for most viewers.
 fn drawn<R: AllocGlobal + Eprint>(
@@ -119,7 +106,7 @@ fn draw_lines<R: AllocGlobal + Print + Eprint>(
     title: &str,
 ) -> Result<(), Undrawn> {
     let written = written(rt, lines, named, title)?;
-    write_all(rt, written.as_slice())
+    Ok(write_all(rt, written.as_slice())?)
 }
 
 /// Draws the transcript on standard input. Nothing is written before all its lines are read.
@@ -144,8 +131,8 @@ fn draw_picture<R: AllocGlobal + io::Input + Print + Eprint>(
 }
 
 /// Reports why nothing is drawn, and returns the status that the program exits with.
-fn tell<R: Print + Eprint>(rt: &R, undrawn: Undrawn) -> u8
-    ensures { IsToldWith undrawn result }
+fn report<R: Print + Eprint>(rt: &R, undrawn: Undrawn) -> u8
+    ensures { IsReportedWith undrawn result }
 {
     match undrawn {
         Undrawn::Program(failure) => finish(rt, PROGRAM, Err(failure)),
@@ -157,10 +144,10 @@ fn tell<R: Print + Eprint>(rt: &R, undrawn: Undrawn) -> u8
 }
 
 /// Draws what the arguments ask for, or reports why nothing is drawn. Returns the status that the program exits with.
-fn draw_or_tell<R: AllocGlobal + io::Input + Print + Eprint>(rt: &R, words: &[&str]) -> u8 {
+fn draw_or_report<R: AllocGlobal + io::Input + Print + Eprint>(rt: &R, words: &[&str]) -> u8 {
     match draw_picture(rt, words) {
         Ok(()) => 0,
-        Err(undrawn) => tell(rt, undrawn),
+        Err(undrawn) => report(rt, undrawn),
     }
 }
 
@@ -176,10 +163,22 @@ fn work<R: AllocGlobal + io::Input + Print + Eprint>(
     ensures { IfErr result (λ failure. failure ≡ Refused.OutOfMemory) }
 {
     let texts = texts_of(rt.alloc(), words)?;
-    Ok(draw_or_tell(rt, texts.as_slice()))
+    Ok(draw_or_report(rt, texts.as_slice()))
+}
+
+/// Whether the program was started by the name for networks.
+fn draws_networks<R: Env>(rt: &R) -> bool {
+    let mut path = [0u8; LONGEST_PATH];
+    match rt.arg(0, &mut path) {
+        Ok(length) => path[..length.min(LONGEST_PATH)].ends_with(b"network_picture"),
+        Err(_) => false,
+    }
 }
 
 fn main(rt: HostRuntime) -> ExitCode {
+    if draws_networks(&rt) {
+        return network::run(&rt);
+    }
     let outcome = match words_of(&rt) {
         Ok(words) => work(&rt, words.as_slice()),
         Err(failure) => Err(failure),

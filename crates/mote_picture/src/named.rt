@@ -6,7 +6,7 @@ ghost use Rattle.clap.specs.Words.{found_of};
 ghost use Rattle.command_line.specs.CommandLine.{sizes_of};
 ghost use Rattle.node_memory.specs.Sizes.{are_sizes};
 ghost use Rattle.mote_picture.specs.Named as spec;
-ghost use Rattle.mote_picture.specs.Named.{IsBackwards, IsFit, IsNamed, IsOfWords, MayTell, title_word};
+ghost use Rattle.mote_picture.specs.Named.{IsBackwards, IsFit, IsNamed, IsOfWords, MayReport, title_word};
 
 use crate::options::parse;
 use crate::undrawn::Undrawn;
@@ -86,7 +86,7 @@ fn range_of(matches: &ArgMatches<'_>) -> Result<(u64, u64), Undrawn>
 /// What the parser's matches name.
 fn named_by<'a>(alloc: Global, matches: &ArgMatches<'a>) -> Result<Named<'a>, Undrawn>
     ensures named { IfOk result (IsNamed (rows_of (found_of matches.now))) }
-    ensures refused { IfErr result (MayTell (rows_of (found_of matches.now))) }
+    ensures refused { IfErr result (MayReport (rows_of (found_of matches.now))) }
 {
     let given = matches.get_strs("APP").unwrap_or(&[]);
     let sizes = sizes_for(matches, given.len())?;

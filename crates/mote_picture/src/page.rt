@@ -1,4 +1,4 @@
-//! The page of a run: one HTML file in which the run's transcript stands as data, beside a script that lays it out.
+//! The page of a run: one HTML file in which the run's transcript is data, beside a script that lays it out.
 //!
 //! The files of `crates/mote_picture/web` are the page without its data; `src/page/template` is made of them by `scripts/page-template`.
 
@@ -9,7 +9,7 @@ ghost use Rattle.mote_picture.specs.Page.{begins_with, IsPage};
 mod data;
 mod members;
 mod template;
-mod told;
+mod words;
 
 use crate::named::Named;
 use data::Data;

@@ -7,14 +7,14 @@ ghost use Rattle.mote_picture.specs.Reading as spec;
 ghost use Rattle.mote_picture.specs.Reading.{IsLine, IsUnread};
 
 use crate::undrawn::Undrawn;
+use picture_facts::transcript::read_line;
 use std::alloc::{AllocError, Global};
 use std::str;
-use transcript_lines::read_line;
 
 /// The text of a line, where it is one of a transcript.
 fn line_of(bytes: &[u8]) -> Option<&str>
     ensures same { IfSome result (λ line. line.now ≡ bytes.now) }
-    ensures told { IfSome result (λ line. IsLine line.now) }
+    ensures read { IfSome result (λ line. IsLine line.now) }
 {
     let text = str::from_utf8(bytes).ok()?;
     match read_line(text) {
@@ -30,7 +30,7 @@ fn without_end(bytes: &[u8]) -> &[u8]
     bytes.strip_suffix(b"\n").unwrap_or(bytes)
 }
 
-/// What stands between the line ends.
+/// What is between the line ends.
 fn split_at_ends(alloc: Global, bytes: &[u8]) -> Result<Vec<&[u8]>, AllocError>
     ensures { IfOk result (λ parts. bytes_of parts.items ≡ slice_split (λ byte. byte == 10) bytes.now) }
 {
@@ -38,7 +38,7 @@ fn split_at_ends(alloc: Global, bytes: &[u8]) -> Result<Vec<&[u8]>, AllocError>
 }
 
 /// The same without a line end after the last part; where there are no bytes there are no parts.
-fn parts_of(alloc: Global, bytes: &[u8]) -> Result<Vec<&[u8]>, AllocError>
+pub(crate) fn parts_of(alloc: Global, bytes: &[u8]) -> Result<Vec<&[u8]>, AllocError>
     ensures { IfOk result (λ parts. bytes_of parts.items ≡ spec.parts_of bytes.now) }
 {
     if bytes.is_empty() {
@@ -50,13 +50,13 @@ fn parts_of(alloc: Global, bytes: &[u8]) -> Result<Vec<&[u8]>, AllocError>
 /// The texts of the parts, which are lines of a transcript.
 fn texts_of<'a>(alloc: Global, parts: &[&'a [u8]]) -> Result<Vec<&'a str>, Undrawn>
     ensures lines { IfOk result (λ lines. bytes_of lines.items ≡ bytes_of parts.now) }
-    ensures told { IfOk result (λ _. All IsLine (bytes_of parts.now)) }
+    ensures read { IfOk result (λ _. All IsLine (bytes_of parts.now)) }
     ensures unread { IfErr result (IsUnread (bytes_of parts.now)) }
 {
     let mut lines = Vec::new(alloc);
-    for place in 0..parts.len() {
-        let Some(line) = line_of(parts[place]) else {
-            return Err(Undrawn::NoLine(place as u64 + 1));
+    for index in 0..parts.len() {
+        let Some(line) = line_of(parts[index]) else {
+            return Err(Undrawn::NoLine(index as u64 + 1));
         };
         lines.push(line)?;
     }
@@ -70,7 +70,7 @@ fn texts_of<'a>(alloc: Global, parts: &[&'a [u8]]) -> Result<Vec<&'a str>, Undra
 /// `NoLine` with the number of the first line that no transcript has, or `OutOfMemory` where memory was refused.
 pub fn lines_of(alloc: Global, bytes: &[u8]) -> Result<Vec<&str>, Undrawn>
     ensures lines { IfOk result (λ lines. bytes_of lines.items ≡ spec.parts_of bytes.now) }
-    ensures told { IfOk result (λ _. All IsLine (spec.parts_of bytes.now)) }
+    ensures read { IfOk result (λ _. All IsLine (spec.parts_of bytes.now)) }
     ensures unread { IfErr result (IsUnread (spec.parts_of bytes.now)) }
 {
     let parts = parts_of(alloc, bytes)?;

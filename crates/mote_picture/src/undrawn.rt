@@ -7,7 +7,7 @@ use command_line::Failure;
 use std::alloc::{AllocError, AllocFailed};
 use std::fmt;
 
-/// What the program reports in place of a picture.
+/// What the program reports instead of a picture.
 #[derive(Drop)]
 pub enum Undrawn {
     /// As other programs report it.

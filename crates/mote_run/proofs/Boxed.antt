@@ -28,8 +28,8 @@ module _ {B A : Type 0} (says : B → Says) (others : A → Says) where
       → AreBoxed boxes yielded rest all →
       grown ≡ boxes ++ box ∷ [] → says box ≡ others application → rest ≡ application ∷ later
       → AreBoxed grown (yielded ++ application ∷ []) later all
-  one_more_boxed boxes grown box yielded rest later all application boxed pushed told next = (
-    rw (pushed, map-append says boxes (box ∷ []), map-append others yielded (application ∷ []), boxed.0, told) refl,
+  one_more_boxed boxes grown box yielded rest later all application boxed pushed same next = (
+    rw (pushed, map-append says boxes (box ∷ []), map-append others yielded (application ∷ []), boxed.0, same) refl,
     rw (append_assoc yielded (application ∷ []) later, ← next) boxed.1,
   )
 

@@ -10,5 +10,4 @@ pub mod ReadOn
 pub mod Steps
 pub mod Ways
 pub mod Windows
-pub mod Writing
 pub mod Common

@@ -1,7 +1,7 @@
 -- What was read and written keeps the promise of a run.
 use Rattle.std.proofs.Common.{arith, ◌≡◌, ℕ, Bool, true, false, if◌then◌else◌, List, ◌++◌, refl, sym, ap, ◌∙◌, append_assoc, Result, Ok, Err, IfOk, IsErr, IsErrOf, []}
 use Rattle.std.proofs.lemmas.List.{append_cancel_left}
-use Rattle.mote_run.proofs.Common.{append-nil, is_halt, list_any, IsErrAnd, Applications, End, Reading, Running, Runs, at_start, inputs, end_of, final_line, text, Config, booted, is_bootable, RunFault, Exchange, Exchanged, IsRunText, OfEachScript, OnWholeLines, GoesOnFrom, LawfulRun, ReadsNoFurther, ReadWhileRunning, RunPromise, Ran, Follows, Place, WritesOn}
+use Rattle.mote_run.proofs.Common.{append-nil, is_halt, list_any, IsErrAnd, Applications, End, Reading, Running, Runs, at_start, inputs, end_of, final_line, text, Config, booted, is_bootable, RunFault, Exchange, Exchanged, IsRunText, OfEachScript, OnWholeLines, GoesOnFrom, LawfulRun, ReadsNoFurther, ReadWhileRunning, RunPromise, Ran, Follows, Moment, WritesOn}
 use Rattle.mote_run.proofs.LoopInvariant.{no_last_line}
 use Rattle.mote_run.proofs.Pieces.{on_err}
 use Rattle.kernel_core.specs.Code.LawfulRuns.{LawfulRuns}
@@ -16,8 +16,8 @@ not_halted : (halted : Bool) → (if halted then End.Halted else End.Finished) �
 not_halted true is = cc
 not_halted false is = refl
 
-abbrev pub booting : List ℕ → Config → Applications → Place
-booting given config says = record { given = given; due = []; says = says; machine = booted config }
+abbrev pub booting : List ℕ → Config → Applications → Moment
+booting given config says = record { given = given; pending = []; says = says; machine = booted config }
 
 module _ {config : Config} {says : Applications} {quiet : Bool} (exchange : Exchange) where
   all_written : (answer : Result End RunFault)
@@ -128,10 +128,10 @@ module _ {config : Config} {says : Applications} {quiet : Bool} {read : List ℕ
     };
   }
 
-module _ {quiet : Bool} {read : List ℕ} {is_ended : Bool} {start : Place} {given : List ℕ} where
+module _ {quiet : Bool} {read : List ℕ} {is_ended : Bool} {start : Moment} {given : List ℕ} where
   -- the last line was written after all pending text
-  pub closed : {due given_later left : List ℕ} {end : End} {answer : Result End RunFault} →
-      Ran quiet read is_ended start given (λ end. due ++ final_line end) (Ok end) → WritesOn given due given_later left (final_line end) →
+  pub closed : {pending given_later left : List ℕ} {end : End} {answer : Result End RunFault} →
+      Ran quiet read is_ended start given (λ end. pending ++ final_line end) (Ok end) → WritesOn given pending given_later left (final_line end) →
       (IsErrOf answer RunFault.Read → ⊥) → IfOk answer (λ answered. (left ≡ []) × (answered ≡ end)) →
       Ran quiet read is_ended start given_later (λ end. []) answer
   closed {left = left} ran w no_read all = record {

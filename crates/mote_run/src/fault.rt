@@ -4,7 +4,6 @@ ghost use Rattle.std.specs.Prelude.{◌≡◌};
 
 use crate::run::RunFault;
 use mote_types::fault::BootFault;
-use std::alloc::AllocFailed;
 use thiserror::Error;
 
 /// Why the run of a mote failed.
@@ -47,15 +46,5 @@ impl From<RunFault> for MoteFault {
             RunFault::Read => MoteFault::Read,
             RunFault::Write => MoteFault::Write,
         }
-    }
-}
-
-impl<T: Drop> From<AllocFailed<T>> for MoteFault {
-    ghost use Rattle.mote_run.specs.declared.fault.MoteFault.TheVariants.{Memory};
-
-    ghost from_gives = { λ _ fault. fault ≡ Memory };
-
-    fn from(_error: AllocFailed<T>) -> Self {
-        MoteFault::Memory
     }
 }

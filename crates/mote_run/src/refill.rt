@@ -1,11 +1,11 @@
 //! The next piece of a script: before it is read, all pending output is written.
 
 ghost use Rattle.std.specs.Prelude.{◌≡◌, ◌<◌, ◌≤◌, ◌+◌, ◌-◌, ◌^◌, ◌++◌, ◌==◌, ◌↔◌, [], ℕ, List, false, length, IsErrOf, OnErr, OnOk};
-ghost use Rattle.mote_run.specs.Code.Writing.{WritesOn};
+ghost use Rattle.mote_text.specs.Code.Writing.{WritesIf, WritesOn};
 
-use crate::pending_text::PendingText;
 use crate::piece::Piece;
 use crate::run::RunFault;
+use mote_text::output_buffer::OutputBuffer;
 use mote_types::device::{ByteSink, ByteSource};
 
 /// If the piece is used up, writes all pending output, and reads the next piece, of at most `most` bytes. If the piece is empty
@@ -13,7 +13,7 @@ use mote_types::device::{ByteSink, ByteSource};
 pub fn refill<S: ByteSource, K: ByteSink>(
     source: &mut S,
     sink: &mut K,
-    due: &mut PendingText,
+    text: &mut OutputBuffer,
     piece: &mut Piece,
     most: usize,
 ) -> Result<(), RunFault>
@@ -27,13 +27,11 @@ pub fn refill<S: ByteSource, K: ByteSink>(
     ensures piece_limit { OnOk result (length piece.new ≤ length piece.old + 4096) }
     ensures left { OnOk result (0 < length piece.old → piece.new ≡ piece.old) }
     ensures ended { OnOk result (S.is_ended source.new ≡ (length piece.new == 0)) }
-    ensures written { OnOk result (K.is_named → WritesOn (K.given sink.old) due.old.text.items (K.given sink.new) due.new.text.items []) }
+    ensures writes { K.is_named → WritesIf result (K.given sink.old) text.old.items (K.given sink.new) text.new.items [] }
     ensures used_up { OnErr result (length piece.old ≡ 0) }
     ensures nothing_taken { OnErr result (S.is_named → S.taken source.new ≡ S.taken source.old) }
-    ensures cut_off { OnErr result
-        (K.is_named → (lost : List ℕ) × WritesOn (K.given sink.old) due.old.text.items (K.given sink.new) lost []) }
     ensures written_first { IsErrOf result RunFault.Read → K.is_named
-        → WritesOn (K.given sink.old) due.old.text.items (K.given sink.new) [] [] }
+        → WritesOn (K.given sink.old) text.old.items (K.given sink.new) [] [] }
     ensures read_succeeded { OnOk result (S.failure_count source.new ≡ S.failure_count source.old) }
     ensures write_succeeded { OnOk result (K.failure_count sink.new ≡ K.failure_count sink.old) }
     ensures read_fault { IsErrOf result RunFault.Read ↔ (S.failure_count source.old < S.failure_count source.new) }
@@ -42,6 +40,6 @@ pub fn refill<S: ByteSource, K: ByteSink>(
     if !piece.is_empty() {
         return Ok(());
     }
-    due.flush(sink)?;
+    text.flush(sink)?;
     piece.read(source, most)
 }

@@ -7,13 +7,15 @@ ghost use Rattle.kernel_core.specs.Machine.{booted};
 ghost use Rattle.mote_run.specs.RunText.{Exchanged, HasRead, WasBooted};
 ghost use Rattle.mote_run.specs.Trace.{RunPromise};
 
+use crate::lines::close;
+use crate::running_mote::RunningMote;
 use crate::take_script::take_script;
-use crate::work::Work;
 use kernel_core::all_runs::runs_keep_laws;
 use kernel_core::kernel::Kernel;
 use mote_text::script::End;
 use mote_types::app::App;
 use mote_types::device::{ByteSink, ByteSource};
+use mote_types::fault::DeviceFault;
 use thiserror::Error;
 
 /// A device that failed during a run.
@@ -25,15 +27,26 @@ pub enum RunFault {
     Write,
 }
 
-/// Runs the applications over a script: reads it in pieces of at most 4,096 bytes, submits each line's input to the mote, and
+/// What `?` makes of a failed write. A failed read is named where the piece is read.
+impl From<DeviceFault> for RunFault {
+    ghost use Rattle.mote_run.specs.declared.run.RunFault.TheVariants.{Write};
+
+    ghost from_gives = { λ _ fault. fault ≡ Write };
+
+    fn from(_fault: DeviceFault) -> Self {
+        RunFault::Write
+    }
+}
+
+/// Runs the applications over a script: reads it in pieces of at most 4,096 bytes, feeds each line's input to the mote, and
 /// writes the text of the run; if `quiet` is true, only the lines of a quiet transcript. All pending output is written
 /// before it reads again. Nothing is read after the end, nor after the piece that ends a malformed line or a line at which
 /// the mote halts (`no_further`).
 ///
-/// What is written is the text of the run that the machine makes with the same inputs and applications, and the answer
+/// What is written is the text of the run that the machine makes with the same inputs and applications, and the result
 /// is how that run ends. Of what that run shows an author of an application can rely on this: a process's managed and heap
 /// blocks are what its own calls made of them (`memory`); the events that are accepted for it arrive in order, and none is
-/// lost (`events`); no timer event comes early or twice, and none is lost (`timers`); with quotas managed memory answers a
+/// lost (`events`); no timer event comes early or twice, and none is lost (`timers`); with quotas managed memory replies to a
 /// process as one of its own would, whatever the others do (`isolation`), so in any two runs with one quota its same calls have
 /// the same replies (`alike`).
 ///
@@ -59,8 +72,8 @@ pub fn run<S: ByteSource, K: ByteSink>(
     ensures write_fault { IsErrOf result RunFault.Write ↔ (K.failure_count sink.old < K.failure_count sink.new) }
 {
     runs_keep_laws();
-    let mut work = Work::new(kernel);
-    let end = take_script(source, sink, &mut work, apps, quiet)?;
-    work.due.close(sink, end)?;
+    let mut mote = RunningMote::new(kernel);
+    let end = take_script(source, sink, &mut mote, apps, quiet)?;
+    close(sink, &mut mote.text, end)?;
     Ok(end)
 }

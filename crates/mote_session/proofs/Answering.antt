@@ -16,12 +16,12 @@ calls_heard : (p : ℕ) (entries : List Entry) → length (heard p entries) ≡ 
 calls_heard p [] = refl
 calls_heard p (entry ∷ entries) = let same = calls_heard p entries in grind (arith, nat_tests, same)
 
-call_behind : (calls : List Call) (call : Call) (later : List Call) → call_at (length calls) (calls ++ call ∷ later) ≡ call
-call_behind [] call later = refl
-call_behind (first ∷ calls) call later = call_behind calls call later
+call_after : (calls : List Call) (call : Call) (later : List Call) → call_at (length calls) (calls ++ call ∷ later) ≡ call
+call_after [] call later = refl
+call_after (first ∷ calls) call later = call_after calls call later
 
-told_one_more : (stimuli : List Stimulus) (stimulus : Stimulus) → length (stimuli ++ stimulus ∷ []) - 1 ≡ length stimuli
-told_one_more stimuli stimulus = grind (arith, length-append)
+one_more_heard : (stimuli : List Stimulus) (stimulus : Stimulus) → length (stimuli ++ stimulus ∷ []) - 1 ≡ length stimuli
+one_more_heard stimuli stimulus = grind (arith, length-append)
 
 own_call : (pid : Pid) (origin : Origin) (stimulus : Stimulus) (call : Call) (later : List Entry) →
     calls_of pid.0 (Entry.Turn pid origin stimulus call ∷ later) ≡ call ∷ calls_of pid.0 later
@@ -34,10 +34,10 @@ replayed_answers entries before later pid origin stimulus call same =
       same,
       filter_map-append (call_of pid.0) before (Entry.Turn pid origin stimulus call ∷ later),
       own_call pid origin stimulus call later,
-      told_one_more (heard pid.0 before) stimulus,
+      one_more_heard (heard pid.0 before) stimulus,
       calls_heard pid.0 before,
     )
-    (call_behind (calls_of pid.0 before) call (calls_of pid.0 later))
+    (call_after (calls_of pid.0 before) call (calls_of pid.0 later))
 
 pub answers_before : (says : Applications) (entries : List Entry) (entry : Entry) →
     AnswersAs says (entries ++ entry ∷ []) → AnswersAs says entries

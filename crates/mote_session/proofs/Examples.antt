@@ -13,7 +13,7 @@ use Rattle.mote_types.specs.declared.reply.Reply.{Reply}
 use Rattle.kernel_core.specs.declared.config.Config.{Config}
 use Rattle.kernel_core.specs.Code.OpenTurns.{AwaitsCall}
 use Rattle.kernel_core.specs.Machine.{booted}
-use Rattle.kernel_core.specs.Run.{Answers, Runs, at_start, heard}
+use Rattle.kernel_core.specs.Run.{Choices, Runs, at_start, heard}
 use Rattle.kernel_core.specs.Laws.RunLaws.{BlocksAreOwn, EventsArriveInOrder, ProcessesAreIsolated, TimersAreKept}
 use Rattle.mote_session.specs.Answered.{AnswersAs, call_at, calls_of, replayed}
 use Rattle.mote_session.specs.History.{History, at_boot, last_entry, with_call, with_said}
@@ -31,11 +31,11 @@ sized mmem applications = record { mmem = mmem; heap = 20; apps = applications; 
 abbrev at_first : ℕ → SessionView
 at_first applications = record { machine = booted (sized 4 applications); inputs = 0; entries_left = 0; turn = None; last = None }
 
-abbrev told_callback : AwaitedCall
-told_callback = record { process = record { 0 = 4 }; origin = Origin.Callback; stimulus = Stimulus.Callback 1 }
+abbrev callback : AwaitedCall
+callback = record { process = record { 0 = 4 }; origin = Origin.Callback; stimulus = Stimulus.Callback 1 }
 
 abbrev asked : SessionView
-asked = record (at_first 0) { turn = Some told_callback }
+asked = record (at_first 0) { turn = Some callback }
 
 abbrev halted : SessionView
 halted = record (at_first 1) { machine = record (at_first 1).machine { is_halted = true } }
@@ -96,7 +96,7 @@ boot = at_boot (sized 4 1)
 -- a comment is no input; coming to rest doesn't repeat the last entry
 histories : (with_said (Some None) boot ≡ boot)
     × (with_said (Some (Some (Input.Tick 5))) boot ≡ record boot { inputs = Input.Tick 5 ∷ [] })
-    × (with_call (Some told_callback) Call.Exit boot
+    × (with_call (Some callback) Call.Exit boot
     ≡ record boot { entries = Entry.Turn (record { 0 = 4 }) Origin.Callback (Stimulus.Callback 1) Call.Exit ∷ [] })
     × (with_made Next.Entry (Some Entry.Halt) boot ≡ record boot { entries = Entry.Halt ∷ [] })
     × (with_made Next.Rest (Some Entry.Halt) boot ≡ boot)
@@ -111,7 +111,7 @@ module _ (old new : SessionView) where
   -- a turn is an application's, is no entry yet, and leaves two entries fewer
   of_a_turn : (is : Advances Next.Turn old new)
       → (is.turn.process.0 ≡ 3 → ⊥) × (old.entries_left ≡ 1 → ⊥) × (new.last ≡ None)
-      × ((answers : Answers) → AwaitsCall answers old.machine is.turn.process is.turn.origin is.turn.stimulus new.machine)
+      × ((choices : Choices) → AwaitsCall choices old.machine is.turn.process is.turn.origin is.turn.stimulus new.machine)
   of_a_turn is = grind arith
 
   -- an entry that is no turn gives no stimulus and leaves one entry fewer; none follows Halt
@@ -156,7 +156,7 @@ still_asked is = cc is.closed
 no_mote : (session : SessionView) → IsHistoryOf (at_boot (sized 6 1)) session → ⊥
 no_mote session is = grind arith
 
--- what wasn't submitted or made is in no history
+-- what wasn't fed, submitted or made is in no history
 one_input_more : IsHistoryOf boot (record (at_first 1) { inputs = 1 }) → ⊥
 one_input_more is = grind arith
 

@@ -6,7 +6,7 @@ use Rattle.mote_types.specs.declared.entry.Entry.{Entry}
 use Rattle.mote_types.specs.declared.entry.Input.{Input}
 use Rattle.kernel_core.specs.Code.Steps.{MakesEntry, Silently}
 use Rattle.kernel_core.specs.Machine.{Machine}
-use Rattle.kernel_core.specs.Run.{ComesToRest, Running, Runs, after_step, after_steps, answers_after, at_start, is_still, one_step, with_input}
+use Rattle.kernel_core.specs.Run.{ComesToRest, Running, Runs, after_step, after_steps, choices_after, at_start, is_still, one_step, with_input}
 use Rattle.kernel_core.proofs.Determined.{rest_from, rest_one, steps_plus, still_rest}
 use Rattle.mote_session.specs.Answered.{AnswersAs}
 use Rattle.mote_session.specs.History.{History}
@@ -39,7 +39,7 @@ module _ (says : Applications) where
   entries_grow : (n : ℕ) (r : Running) → (later : List Entry) × ((after_steps says n r).entries ≡ r.entries ++ later)
   entries_grow zero r = ([], sym (append-nil r.entries))
   entries_grow (suc n) r =
-      let more : List Entry = option_to_list (one_step (answers_after says r.entries) r.machine).1 in
+      let more : List Entry = option_to_list (one_step (choices_after says r.entries) r.machine).1 in
       let grown = entries_grow n (after_step says r) in
       (more ++ grown.0, grown.1 ∙ append_assoc r.entries more grown.0)
 
@@ -78,15 +78,15 @@ module _ (says : Applications) where
         (begun.0, begun.1, λ settled. absurd (cc))
 
   module _ (entries : List Entry) where
-    pub silent_from : (n : ℕ) (a b : Machine) → Silently (answers_after says entries) n a b →
+    pub silent_from : (n : ℕ) (a b : Machine) → Silently (choices_after says entries) n a b →
         after_steps says n (running_at entries a) ≡ running_at entries b
     silent_from zero a b same = ap (running_at entries) same
     silent_from (suc n) a b (next, first, rest) = rw (first, append-nil entries) (silent_from n next b rest)
 
     -- an entry is made after these
-    pub makes_behind : (a b : Machine) (entry : Entry) → MakesEntry (answers_after says entries) a entry b →
+    pub makes_after : (a b : Machine) (entry : Entry) → MakesEntry (choices_after says entries) a entry b →
         Leads says (running_at entries a) [] (running_at (entries ++ entry ∷ []) b)
-    makes_behind a b entry makes =
+    makes_after a b entry makes =
         let n = makes.before.count in
         let first = silent_from n a makes.last makes.before.steps in
         (n + 1, steps_plus says n 1 (running_at entries a) ∙ rw (first, makes.makes) refl)

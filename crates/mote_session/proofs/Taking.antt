@@ -16,7 +16,7 @@ pub makes_call : (old new : AwaitingMote) (turn made taken working : Turn) (othe
     new.mote.machine ≡ after_call made.call pid.0 old.mote.machine → new.turn ≡ None →
     new.mote.machine.clock ≡ old.mote.machine.clock → new.mote.inputs ≡ old.mote.inputs → new.mote.entries_left ≤ old.mote.entries_left + 1 →
     MakesCall (session_view old turn taken other last) (session_view new working made other LastEntry.Turn)
-makes_call old new turn made taken working other last pid opened place kept machine closed clock inputs left = record {
+makes_call old new turn made taken working other last pid opened process kept machine closed clock inputs left = record {
   call = made.call;
   submitted = record {
     turn = record { process = pid; origin = turn.origin; stimulus = turn.stimulus };
@@ -24,7 +24,7 @@ makes_call old new turn made taken working other last pid opened place kept mach
     machine = machine;
     last =
         ap (λ (t : Turn). Some (entry_of t)) kept
-        ∙ ap (λ (p : Pid). Some (Entry.Turn p turn.origin turn.stimulus made.call)) place;
+        ∙ ap (λ (p : Pid). Some (Entry.Turn p turn.origin turn.stimulus made.call)) process;
     closed = rw closed refl;
     left = left;
   };
@@ -33,13 +33,13 @@ makes_call old new turn made taken working other last pid opened place kept mach
 
 pub spoke_last : (m : ℕ) (turn made : Turn) (pid : Pid) (before after : Voices) → turn.pid ≡ pid → made ≡ record turn { call = made.call } →
     IsCall m pid.0 turn.stimulus made.call before after → SpokeLast m (Some (entry_of made)) before after
-spoke_last m turn made pid before after place kept is = record {
+spoke_last m turn made pid before after process kept is = record {
   process = pid;
   origin = turn.origin;
   stimulus = turn.stimulus;
   call = made.call;
   is_last =
       ap (λ (t : Turn). Some (entry_of t)) kept
-      ∙ ap (λ (p : Pid). Some (Entry.Turn p turn.origin turn.stimulus made.call)) place;
+      ∙ ap (λ (p : Pid). Some (Entry.Turn p turn.origin turn.stimulus made.call)) process;
   is_call = is;
 }

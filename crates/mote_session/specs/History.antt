@@ -1,4 +1,4 @@
--- What a session was handed and what it made, from its boot on.
+-- What a session was fed and what it made, from its boot on.
 use Rattle.std.specs.Prelude.{List, [], ◌∷◌, ◌++◌, Option, None, Some}
 use Rattle.mote_types.specs.declared.call.Call.{Call}
 use Rattle.mote_types.specs.declared.entry.Entry.{Entry}

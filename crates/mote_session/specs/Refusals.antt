@@ -8,7 +8,7 @@ use Rattle.kernel_core.specs.Run.{is_at_rest}
 use Rattle.mote_session.specs.SessionView.{SessionView}
 use Rattle.mote_session.specs.declared.refusal.SessionRefusal.{SessionRefusal}
 
--- why no input can be submitted now
+-- why no input can be fed now
 abbrev pub unrest : SessionView → Option SessionRefusal
 unrest session =
     if is_some session.turn then Some SessionRefusal.AwaitsCall
@@ -29,18 +29,18 @@ input_limit = 2 ^ 40
 abbrev pub clock_limit : Ticks
 clock_limit = 2 ^ 62
 
--- all inputs were submitted, or the clock would go further
+-- all inputs were fed, or the clock would go further
 abbrev pub is_beyond : Input → SessionView → Bool
 is_beyond input session = nat_le input_limit session.inputs || nat_lt clock_limit (session.machine.clock + ticks_of input)
 
--- why this input can't be submitted at rest
+-- why this input can't be fed at rest
 abbrev pub unfit : Input → SessionView → Option SessionRefusal
 unfit input session =
     if not (is_input input) then Some SessionRefusal.NoInput
     else if is_beyond input session then Some SessionRefusal.TooManyInputs
     else None
 
--- why what a line says can't be submitted at rest: an input, or nothing; or the line is malformed
+-- why what a line says can't be fed at rest: an input, or nothing; or the line is malformed
 abbrev pub unfit_said : Option (Option Input) → SessionView → Option SessionRefusal
 unfit_said None session = Some SessionRefusal.BadLine
 unfit_said (Some None) session = None

@@ -5,13 +5,13 @@ use Rattle.mote_types.specs.declared.entry.Input.{Input}
 use Rattle.mote_types.specs.Applications.{Applications}
 use Rattle.kernel_core.specs.Code.OpenTurns.{AwaitsCall}
 use Rattle.kernel_core.specs.Machine.{Machine, is_bootable}
-use Rattle.kernel_core.specs.Run.{Answers, ComesToRest, Running, Runs, after_steps, at_start, with_input}
+use Rattle.kernel_core.specs.Run.{Choices, ComesToRest, Running, Runs, after_steps, at_start, with_input}
 use Rattle.kernel_core.specs.Laws.RunLaws.{KeepsLaws}
 use Rattle.mote_session.specs.Answered.{AnswersAs, replayed}
 use Rattle.mote_session.specs.History.{History, last_entry}
 use Rattle.mote_session.specs.SessionView.{AwaitedCall, SessionView, is_settled}
 
--- from old on each of these inputs is submitted at rest, and n steps after the last one lead to new
+-- from old on each of these inputs is fed at rest, and n steps after the last one lead to new
 abbrev pub Leads : Applications → Running → List Input → Running → Type 0
 Leads says old [] new = (n : ℕ) × (after_steps says n old ≡ new)
 Leads says old (input ∷ inputs) new =
@@ -29,16 +29,16 @@ StandsAt history None machine = HasComeTo history machine
 StandsAt history (Some turn) machine =
     (before : Machine)
     × HasComeTo history before
-    × ((answers : Answers) → AwaitsCall answers before turn.process turn.origin turn.stimulus machine)
+    × ((choices : Choices) → AwaitsCall choices before turn.process turn.origin turn.stimulus machine)
 
--- this is what a session was handed and made
+-- this is what a session was fed and made
 pub record IsHistoryOf (history : History) (session : SessionView) : Type 0 where
   pub bootable : is_bootable history.config ≡ true
   pub stands : StandsAt history session.turn session.machine
   pub inputs : session.inputs ≡ length history.inputs
   pub last : session.turn ≡ None → session.last ≡ last_entry history.entries
 
--- The machine's run of these applications on the submitted inputs: the entries are a prefix of its own, all of them at rest
+-- The machine's run of these applications on the inputs that were fed: the entries are a prefix of its own, all of them at rest
 -- and after Halt; and the laws hold of them
 pub record RunSoFar (says : Applications) (history : History) (session : SessionView) : Type 0 where
   pub last : Running

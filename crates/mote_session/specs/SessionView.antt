@@ -15,7 +15,7 @@ pub record AwaitedCall : Type 0 where
 
 pub record SessionView : Type 0 where
   pub machine : Machine
-  -- the number of submitted inputs
+  -- the number of inputs that were fed
   pub inputs : ℕ
   -- the most entries that can still be made before there is rest
   pub entries_left : ℕ

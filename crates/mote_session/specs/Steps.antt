@@ -9,12 +9,12 @@ use Rattle.kernel_core.specs.Calls.{after_call}
 use Rattle.kernel_core.specs.Code.OpenTurns.{AwaitsCall}
 use Rattle.kernel_core.specs.Code.Steps.{GoesToRest, MakesEntry}
 use Rattle.kernel_core.specs.Inputs.{fed}
-use Rattle.kernel_core.specs.Run.{Answers, heard}
+use Rattle.kernel_core.specs.Run.{Choices, heard}
 use Rattle.mote_session.specs.History.{History, with_entry}
 use Rattle.mote_session.specs.SessionView.{AwaitedCall, SessionView}
 use Rattle.mote_session.specs.declared.session.Next.{Next}
 
--- the same number of inputs was submitted
+-- the same number of inputs was fed
 abbrev pub HasSameInputs : SessionView → SessionView → Type 0
 HasSameInputs old new = (new.inputs ≡ old.inputs) × (new.machine.clock ≡ old.machine.clock)
 
@@ -24,7 +24,7 @@ pub record OpensTurn (old new : SessionView) : Type 0 where
   pub opened : new.turn ≡ Some turn
   pub application : IsApplication old.machine.scheduler.applications turn.process.0
   -- whatever the call
-  pub awaits : (answers : Answers) → AwaitsCall answers old.machine turn.process turn.origin turn.stimulus new.machine
+  pub awaits : (choices : Choices) → AwaitsCall choices old.machine turn.process turn.origin turn.stimulus new.machine
   pub last : new.last ≡ None
   -- the turn is an entry less that can be made, and its call makes a note at most
   pub left : new.entries_left + 2 ≤ old.entries_left
@@ -32,7 +32,7 @@ pub record OpensTurn (old new : SessionView) : Type 0 where
 -- an entry is made that is no turn
 pub record MakesOther (old new : SessionView) : Type 0 where
   pub entry : Entry
-  pub made : (answers : Answers) → MakesEntry answers old.machine entry new.machine
+  pub made : (choices : Choices) → MakesEntry choices old.machine entry new.machine
   pub last : new.last ≡ Some entry
   pub untold : (p : ℕ) → heard p (entry ∷ []) ≡ []
   pub halted : new.machine.is_halted ≡ (old.machine.is_halted || is_halt entry)
@@ -41,7 +41,7 @@ pub record MakesOther (old new : SessionView) : Type 0 where
 
 -- the mote reaches rest
 pub record RestsAt (old new : SessionView) : Type 0 where
-  pub goes : (answers : Answers) → GoesToRest answers old.machine new.machine
+  pub goes : (choices : Choices) → GoesToRest choices old.machine new.machine
   pub last : new.last ≡ old.last
   pub closed : new.turn ≡ None
 
@@ -73,14 +73,14 @@ pub record IsSubmitted (call : Call) (old new : SessionView) : Type 0 where
   pub closed : new.turn ≡ None
   pub left : new.entries_left ≤ old.entries_left + 1
 
--- an input is submitted at rest
+-- an input is fed at rest
 pub record IsFed (input : Input) (old new : SessionView) : Type 0 where
   pub machine : new.machine ≡ fed input old.machine
   pub inputs : new.inputs ≡ old.inputs + 1
   pub closed : new.turn ≡ None
   pub last : new.last ≡ old.last
 
--- what a line says is submitted
+-- what a line says is fed
 abbrev pub TakesLine : Option (Option Input) → SessionView → SessionView → Type 0
 TakesLine None old new = ⊥
 TakesLine (Some None) old new = new ≡ old

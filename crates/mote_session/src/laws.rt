@@ -1,4 +1,4 @@
-//! Laws of what a session was handed and made. The functions do nothing; their contracts are the laws.
+//! Laws of what a session was fed and made. The functions do nothing; their contracts are the laws.
 
 ghost use Rattle.std.specs.Prelude.{◌≡◌, None, true};
 ghost use Rattle.mote_types.specs.declared.call.Call.{Call};

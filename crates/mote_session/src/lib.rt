@@ -1,4 +1,4 @@
-//! A mote used step by step: its caller asks for the next step, and submits inputs and the calls of the applications.
+//! A mote used step by step: its caller asks for the next step, feeds inputs, and submits the calls of the applications.
 #![tactic(auto)]
 
 pub mod caller;

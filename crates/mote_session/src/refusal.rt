@@ -14,7 +14,7 @@ pub enum SessionRefusal {
     /// The mote was halted: nothing follows.
     #[error("the mote was halted")]
     Halted,
-    /// There is pending work, which must be done before an input can be submitted.
+    /// There is pending work, which must be done before an input can be fed.
     #[error("the mote does not rest")]
     NotAtRest,
     /// A line of a script is malformed.
@@ -23,7 +23,7 @@ pub enum SessionRefusal {
     /// Serial bytes or a frame of no bytes.
     #[error("an input of no bytes")]
     NoInput,
-    /// 2^40 inputs were submitted, or the clock would exceed 2^62.
+    /// 2^40 inputs were fed, or the clock would exceed 2^62.
     #[error("too many inputs")]
     TooManyInputs,
     /// No entry was made yet, or the last turn still awaits its call.

@@ -50,23 +50,11 @@ const MOST_INPUTS: u64 = 1 << 40;
 /// How far the clock can go, in ticks.
 const MOST_TICKS: u64 = 1 << 62;
 
-/// The result of `next`.
+/// The result of `next` and `next_by`.
 #[derive(Clone, Copy, Debug, PartialEq, Eq, Drop)]
 pub enum Next {
-    /// An application must take a turn: `Session::turn` returns it, and its call is awaited.
-    Turn,
-    /// Another entry was made: of an input, a note, or that the mote was halted.
-    Entry,
-    /// Nothing is left to be done without an input.
-    Rest,
-    /// The mote was halted before: nothing follows.
-    Halted,
-}
-
-/// The result of `next_by`.
-#[derive(Clone, Copy, Debug, PartialEq, Eq, Drop)]
-pub enum Worked {
-    /// An application took a turn, and its call was submitted.
+    /// An application takes a turn. After `next` its call is awaited, and `Session::turn` returns the turn; `next_by` has submitted the
+    /// call.
     Turn,
     /// Another entry was made: of an input, a note, or that the mote was halted.
     Entry,
@@ -187,7 +175,7 @@ fn call_in<H: Caller>(
 
 /// The same, and notes that the turn was the last entry.
 #[inline(always)]
-fn take_in<H: Caller>(
+fn end_turn_in<H: Caller>(
     kernel: &mut AwaitingKernel,
     turn: &mut Turn,
     last: &mut LastEntry,
@@ -196,7 +184,7 @@ fn take_in<H: Caller>(
     caller: &mut H,
 )
     requires open { kernel.old.turn ≡ Some pid }
-    requires place { turn.old.pid ≡ pid }
+    requires process { turn.old.pid ≡ pid }
     ensures submitted { (taken working : Taken) (other : Made) →
         MakesCall (session_view kernel.old turn.old taken other last.old) (session_view kernel.new working turn.new other last.new) }
     ensures speaks { (working : Taken) (other : Made) → SpokeLast mote
@@ -225,7 +213,7 @@ pub struct Session {
     works_in_odd: bool,
     other: Entry,
     last: LastEntry,
-    /// Filled once, since a caller may submit many lines.
+    /// Filled once, since a caller may feed many lines.
     values: DigitValues,
 }
 
@@ -374,9 +362,9 @@ impl Session {
         &mut self,
         mote: usize,
         caller: &mut H,
-    ) -> Result<Worked, SessionRefusal>
-        ensures worked { IfOk result (λ worked. (self.old.turn ≡ None) × WorksBy worked self.old self.new) }
-        ensures speaks { IfOk result (λ worked. SpeaksBy worked mote self.new (H.voices caller.old) (H.voices caller.new)) }
+    ) -> Result<Next, SessionRefusal>
+        ensures worked { IfOk result (λ next. (self.old.turn ≡ None) × WorksBy next self.old self.new) }
+        ensures speaks { IfOk result (λ next. SpeaksBy next mote self.new (H.voices caller.old) (H.voices caller.new)) }
         ensures refused { IfErr result (λ refusal. (refusal ≡ SessionRefusal.AwaitsCall) × (self.old.turn ≢ None) × (self.new ≡ self.old)) }
     {
         if self.kernel.turn().is_some() {
@@ -387,20 +375,16 @@ impl Session {
 
     /// Works as `next_by`, where no turn awaits its call.
     #[inline(always)]
-    fn advance_by<H: Caller>(&mut self, mote: usize, caller: &mut H) -> Worked
+    fn advance_by<H: Caller>(&mut self, mote: usize, caller: &mut H) -> Next
         requires { self.old.turn ≡ None }
         ensures works { WorksBy result self.old self.new }
         ensures speaks { SpeaksBy result mote self.new (H.voices caller.old) (H.voices caller.new) }
     {
-        match self.advance() {
-            Next::Turn => {
-                self.take_turn(mote, caller);
-                Worked::Turn
-            }
-            Next::Entry => Worked::Entry,
-            Next::Rest => Worked::Rest,
-            Next::Halted => Worked::Halted,
+        let next = self.advance();
+        if let Next::Turn = next {
+            self.take_turn(mote, caller);
         }
+        next
     }
 
     /// Has the caller make the call of the turn that awaits it, and executes it.
@@ -423,7 +407,7 @@ impl Session {
         ensures speaks { SpokeLast mote self.new.last (H.voices caller.old) (H.voices caller.new) }
     {
         if self.works_in_odd {
-            take_in(
+            end_turn_in(
                 &mut self.kernel,
                 &mut self.odd,
                 &mut self.last,
@@ -433,7 +417,7 @@ impl Session {
             );
             self.works_in_odd = false;
         } else {
-            take_in(
+            end_turn_in(
                 &mut self.kernel,
                 &mut self.even,
                 &mut self.last,
@@ -445,7 +429,7 @@ impl Session {
         }
     }
 
-    /// Submits what a line of a script says, without its end. An empty line or a comment submits nothing.
+    /// Feeds the input of a line of a script, without its end. An empty line or a comment has none.
     ///
     /// # Errors
     ///
@@ -463,18 +447,18 @@ impl Session {
         self.test_rest()?;
         let mut input = Input::Tick(0);
         match read_input_by(line, &mut input, &self.values) {
-            Ok(true) => self.hand_in(input),
+            Ok(true) => self.feed_at_rest(input),
             Ok(false) => Ok(()),
             Err(BadLine) => Err(SessionRefusal::BadLine),
         }
     }
 
-    /// Submits an input. Its entry is made by `next`.
+    /// Feeds an input. Its entry is made by `next`.
     ///
     /// # Errors
     ///
     /// `AwaitsCall`, `Halted` or `NotAtRest` where the mote doesn't rest; `NoInput` where it is serial bytes or a frame of no
-    /// bytes; `TooManyInputs` where 2^40 inputs were submitted, or the clock would exceed 2^62.
+    /// bytes; `TooManyInputs` where 2^40 inputs were fed, or the clock would exceed 2^62.
     pub fn feed_input(&mut self, input: Input) -> Result<(), SessionRefusal>
         ensures accepted { IfOk result (λ _. (input_refusal input self.old ≡ None) × IsFed input self.old self.new) }
         ensures rested { IfOk result (λ _. rests self.old ≡ true) }
@@ -485,7 +469,7 @@ impl Session {
         histories_go_on();
         histories_keep_promise();
         self.test_rest()?;
-        self.hand_in(input)
+        self.feed_at_rest(input)
     }
 
     /// Refuses where the mote doesn't rest.
@@ -505,8 +489,8 @@ impl Session {
         Ok(())
     }
 
-    /// Submits an input at rest.
-    fn hand_in(&mut self, input: Input) -> Result<(), SessionRefusal>
+    /// Feeds an input at rest.
+    fn feed_at_rest(&mut self, input: Input) -> Result<(), SessionRefusal>
         requires { rests self.old ≡ true }
         ensures accepted { IfOk result (λ _. (unfit input self.old ≡ None) × IsFed input self.old self.new) }
         ensures refused { IfErr result (λ refusal. (unfit input self.old ≡ Some refusal) × (self.new ≡ self.old)) }
@@ -581,7 +565,7 @@ impl Session {
         }
     }
 
-    /// Whether an input can be submitted: no turn awaits its call, nothing is left to do, and the mote wasn't halted.
+    /// Whether an input can be fed: no turn awaits its call, nothing is left to do, and the mote wasn't halted.
     pub fn at_rest(&self) -> bool
         ensures { result ≡ rests self.now }
     {

@@ -27,7 +27,7 @@ OfRun (Err Failure.Read) P = P (Err RunFault.Read)
 OfRun (Err Failure.Write) P = P (Err RunFault.Write)
 OfRun (Err failure) P = ⊤
 
--- what a program reports of a mote that came to no end
+-- what a program reports of a run that failed
 abbrev pub failure_in_mote : MoteFault → Failure
 failure_in_mote MoteFault.BadSizes = Failure.BadSizes
 failure_in_mote MoteFault.Memory = Failure.OutOfMemory

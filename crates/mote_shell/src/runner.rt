@@ -8,11 +8,11 @@ ghost use Rattle.command_line.specs.CommandLine.{texts};
 ghost use Rattle.command_line.specs.declared.failure.Failure.{Failure as Refused};
 ghost use Rattle.mote_shell.specs.NamedRuns.{HasRunAs, HasRunNamed, IsAnswer, IsOutcome, failure_in_mote};
 
-use app_kit::FromName;
 use command_line::{Failure, Program};
 use mote_run::fault::MoteFault;
 use mote_run::mote::{Sizes, run_boxes};
 use mote_text::script::End;
+use mote_types::FromName;
 use mote_types::app::App;
 use mote_types::device::{ByteSink, ByteSource};
 use std::alloc::Global;

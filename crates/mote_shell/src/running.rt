@@ -7,8 +7,8 @@ ghost use Rattle.mote_shell.specs.NamedRuns.{HasRunNamed, IsStatusFor};
 
 use crate::runner::Runner;
 use crate::streams::{Input, Output};
-use app_kit::FromName;
 use command_line::{Failure, Program, finish, texts_of};
+use mote_types::FromName;
 use mote_types::device::{ByteSink, ByteSource};
 use std::io;
 

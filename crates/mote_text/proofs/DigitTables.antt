@@ -25,19 +25,19 @@ encode_with-at table (byte ∷ rest) (suc i) inside =
 -- the table of values, filled digit by digit
 
 -- the digits of both cases, each after a 0, and their values
-abbrev pub digits_behind_zeros : List ℕ
-digits_behind_zeros = codes "000102030405060708090a0b0c0d0e0f0A0B0C0D0E0F"
+abbrev pub digits_after_zeros : List ℕ
+digits_after_zeros = codes "000102030405060708090a0b0c0d0e0f0A0B0C0D0E0F"
 
 abbrev pub digits_worth : List ℕ
 digits_worth = 0 ∷ 1 ∷ 2 ∷ 3 ∷ 4 ∷ 5 ∷ 6 ∷ 7 ∷ 8 ∷ 9 ∷ 10 ∷ 11 ∷ 12 ∷ 13 ∷ 14 ∷ 15 ∷ 10 ∷ 11 ∷ 12 ∷ 13 ∷ 14 ∷ 15 ∷ []
 
-pub digits_read : decode_sized digits_behind_zeros 22 ≡ Ok digits_worth
+pub digits_read : decode_sized digits_after_zeros 22 ≡ Ok digits_worth
 unfolding hex_on_literals
 digits_read = refl
 
 unfoldable pub filled : ℕ → List ℕ
 filled zero = replicate 256 255
-filled (suc n) = set (filled n) (get_or digits_behind_zeros (2 * n + 1) 0) (get_or digits_worth n 0)
+filled (suc n) = set (filled n) (get_or digits_after_zeros (2 * n + 1) 0) (get_or digits_worth n 0)
 
 abbrev is_right : ℕ → Bool
 is_right digit = slice_index (filled 22) digit == value_or_none digit
@@ -53,6 +53,6 @@ pub filled_start : filled 0 ≡ replicate 256 255
 unfolding filled
 filled_start = refl
 
-pub filled_more : (n : ℕ) → filled (n + 1) ≡ set (filled n) (get_or digits_behind_zeros (2 * n + 1) 0) (get_or digits_worth n 0)
+pub filled_more : (n : ℕ) → filled (n + 1) ≡ set (filled n) (get_or digits_after_zeros (2 * n + 1) 0) (get_or digits_worth n 0)
 unfolding filled
 filled_more n = rw add-one refl

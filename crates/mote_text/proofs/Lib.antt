@@ -9,8 +9,10 @@ mod HexPairs
 mod LineEnds
 mod Positions
 pub mod Reading
+pub mod ScriptLines
 mod SmallNumbers
 mod Blanked
 pub mod Ticks
 mod WholeLines
+pub mod Writing
 pub mod Common

@@ -34,11 +34,11 @@ unfolding read_on
 read_on_end number line room = refl
 
 module _ {taken : List ℕ} {earlier : List Input} {number : ℕ} {line : List ℕ} (byte : ℕ) (before : Before taken earlier number line) where
-  abbrev room_behind : ℕ
-  room_behind = script_limit - length (taken ++ byte ∷ [])
+  abbrev room_after : ℕ
+  room_after = script_limit - length (taken ++ byte ∷ [])
 
   next : length taken < script_limit → (rest : List ℕ) →
-      inputs ((taken ++ byte ∷ []) ++ rest) ≡ preceded_by earlier (read_on number line (suc room_behind) (byte ∷ rest))
+      inputs ((taken ++ byte ∷ []) ++ rest) ≡ preceded_by earlier (read_on number line (suc room_after) (byte ∷ rest))
   next room rest = grind (arith, length-append, append_assoc)
 
   -- a byte of the current line
@@ -51,16 +51,16 @@ module _ {taken : List ℕ} {earlier : List Input} {number : ℕ} {line : List �
   line_too_long room other full = grind (arith, read_on_byte, append-nil, next)
 
   line_ends : (read : Option (Option Input)) → length taken < script_limit → byte ≡ 10 → read_line line ≡ read → (rest : List ℕ) →
-      inputs ((taken ++ byte ∷ []) ++ rest) ≡ preceded_by earlier (with_line number read (read_on (number + 1) [] room_behind rest))
+      inputs ((taken ++ byte ∷ []) ++ rest) ≡ preceded_by earlier (with_line number read (read_on (number + 1) [] room_after rest))
   line_ends read room is_end says rest = grind (arith, read_on_byte, next)
 
   whole_at_end : (inputs_so_far : List Input) → length taken < script_limit → byte ≡ 10 →
-      ((rest : List ℕ) → inputs ((taken ++ byte ∷ []) ++ rest) ≡ preceded_by inputs_so_far (read_on (number + 1) [] room_behind rest)) →
+      ((rest : List ℕ) → inputs ((taken ++ byte ∷ []) ++ rest) ≡ preceded_by inputs_so_far (read_on (number + 1) [] room_after rest)) →
       read_lines 1 End.Finished (whole_lines (taken ++ byte ∷ [])) ≡ (inputs_so_far, End.Finished)
   unfolding read_line
   whole_at_end inputs_so_far room is_end onward =
       let whole = lines_end_whole taken byte (eq-eqb byte 10 is_end) in
-      let given = rw (append-nil (taken ++ byte ∷ []), read_on_end (number + 1) [] room_behind, append-nil inputs_so_far) at (onward []) in
+      let given = rw (append-nil (taken ++ byte ∷ []), read_on_end (number + 1) [] room_after, append-nil inputs_so_far) at (onward []) in
       grind (arith, inputs_of_short, length-append)
 
   -- the end of an empty line, or of a comment
@@ -74,8 +74,8 @@ module _ {taken : List ℕ} {earlier : List Input} {number : ℕ} {line : List �
       Before (taken ++ byte ∷ []) (earlier ++ input ∷ []) (number + 1) []
   line_of_input input room is_end says =
       let onward : (rest : List ℕ)
-      → inputs ((taken ++ byte ∷ []) ++ rest) ≡ preceded_by (earlier ++ input ∷ []) (read_on (number + 1) [] room_behind rest) = λ rest.
-      rw (append_assoc earlier (input ∷ []) (read_on (number + 1) [] room_behind rest).0)
+      → inputs ((taken ++ byte ∷ []) ++ rest) ≡ preceded_by (earlier ++ input ∷ []) (read_on (number + 1) [] room_after rest) = λ rest.
+      rw (append_assoc earlier (input ∷ []) (read_on (number + 1) [] room_after rest).0)
       (line_ends (Some (Some input)) room is_end says rest) in
       grind (arith, whole_at_end)
 

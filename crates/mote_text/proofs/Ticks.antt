@@ -69,9 +69,9 @@ module _ (n : ℕ) where
   take_word : (text : List ℕ) → take (5 + n) (codes "tick " ++ text) ≡ codes "tick " ++ take n text
   take_word text = grind arith
 
-tick_behind : (text : List ℕ) (n number : ℕ) → n ≤ 8 → slice_get text n ≡ Some 10 → read_number (take n text) ≡ Some number →
+tick_line : (text : List ℕ) (n number : ℕ) → n ≤ 8 → slice_get text n ≡ Some 10 → read_number (take n text) ≡ Some number →
     IsTickLine (codes "tick " ++ text) (5 + n) (Input.Tick number)
-tick_behind text n number short ended reads =
+tick_line text n number short ended reads =
     let inside : n < length text = slice_get_within text n 10 ended in
     let front = take_word n text in
     let more : 5 + n + 1 ≡ 5 + (n + 1) = omega arith in
@@ -95,4 +95,4 @@ pub tick_at : (piece text : List ℕ) (n number : ℕ) {input : Input} → input
 tick_at piece text n number is begins short ended reads =
     let piece_is : piece ≡ codes "tick " ++ text =
     grind arith in
-    rw (piece_is, is) (tick_behind text n number short ended reads)
+    rw (piece_is, is) (tick_line text n number short ended reads)

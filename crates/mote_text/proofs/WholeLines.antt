@@ -28,26 +28,26 @@ module _ (bytes : List ℕ) where
   unfolding inputs
   inputs_of_short short = grind (arith, take_all, script_limit)
 
-same_behind : (first : ℕ) (xs ys : List ℕ) (is_end : Bool) → (first == 10) ≡ is_end → whole_lines xs ≡ whole_lines ys
+same_after : (first : ℕ) (xs ys : List ℕ) (is_end : Bool) → (first == 10) ≡ is_end → whole_lines xs ≡ whole_lines ys
     → whole_lines (first ∷ xs) ≡ whole_lines (first ∷ ys)
-same_behind first xs ys is_end test same = grind (arith, without_last_cons, some_part, without_last_onto_first)
+same_after first xs ys is_end test same = grind (arith, without_last_cons, some_part, without_last_onto_first)
 
 pub whole_lines_stay : (bytes : List ℕ) (byte : ℕ) → (byte == 10) ≡ false → whole_lines (bytes ++ byte ∷ []) ≡ whole_lines bytes
 whole_lines_stay [] byte other = rw (slice_split-cons_no (λ b. b == 10) byte [] other)
-whole_lines_stay (first ∷ bytes) byte other = grind (arith, same_behind, whole_lines_stay bytes byte other)
+whole_lines_stay (first ∷ bytes) byte other = grind (arith, same_after, whole_lines_stay bytes byte other)
 
 -- a byte that ends a line
 
 onto_first_append : (byte : ℕ) (xs ys : List (List ℕ)) → 0 < length xs → onto_first byte (xs ++ ys) ≡ onto_first byte xs ++ ys
 onto_first_append byte xs ys some = grind arith
 
-part_behind : (first : ℕ) (xs ys : List ℕ) (last : List (List ℕ)) (is_end : Bool) → (first == 10) ≡ is_end → parts ys ≡ parts xs ++ last →
+part_after : (first : ℕ) (xs ys : List ℕ) (last : List (List ℕ)) (is_end : Bool) → (first == 10) ≡ is_end → parts ys ≡ parts xs ++ last →
     parts (first ∷ ys) ≡ parts (first ∷ xs) ++ last
-part_behind first xs ys last is_end test more = grind (arith, onto_first_append, some_part)
+part_after first xs ys last is_end test more = grind (arith, onto_first_append, some_part)
 
 part_ends : (bytes : List ℕ) (byte : ℕ) → (byte == 10) ≡ true → parts (bytes ++ byte ∷ []) ≡ parts bytes ++ [] ∷ []
 part_ends [] byte is_end = rw (slice_split-cons_yes (λ b. b == 10) byte [] is_end)
-part_ends (first ∷ bytes) byte is_end = grind (arith, part_behind, part_ends bytes byte is_end)
+part_ends (first ∷ bytes) byte is_end = grind (arith, part_after, part_ends bytes byte is_end)
 
 all_whole : (lines : List (List ℕ)) → with_last_line true (lines ++ [] ∷ []) ≡ without_last (lines ++ [] ∷ [])
 all_whole [] = refl

@@ -6,3 +6,4 @@ pub mod LineAnswers
 pub mod Lines
 pub mod Reading
 pub mod SmallNumbers
+pub mod Writing

@@ -91,7 +91,7 @@ fn put_pair(page: &mut Page, at: usize, first: u8, second: u8) -> usize
     put_name(page, at, second)
 }
 
-/// Puts a thing, and a length, an interval, or a place in it.
+/// Puts a thing, and a length, an interval, or an offset in it.
 fn put_sized(page: &mut Page, at: usize, name: u8, size: u32) -> usize
     requires { at + 25 ≤ 4096 }
     ensures { Puts page.old.bytes page.new.bytes at result 25 (blanked (decimal name ∷ decimal size ∷ [])) }

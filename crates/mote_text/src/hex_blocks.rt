@@ -28,10 +28,10 @@ fn digits_of(values: u8x16) -> u8x16
 
 /// Writes two lower case digits for each of sixteen bytes.
 #[inline(always)]
-fn write_block(bytes: &[u8], place: &mut [u8])
+fn write_block(bytes: &[u8], buffer: &mut [u8])
     requires bytes { length bytes.now ≡ 16 }
-    requires place { length place.old ≡ 32 }
-    ensures { place.new ≡ encode_lower bytes.now }
+    requires buffer { length buffer.old ≡ 32 }
+    ensures { buffer.new ≡ encode_lower bytes.now }
 {
     let block = u8x16::from_slice(bytes);
     let high = digits_of(block / u8x16::splat(16));
@@ -43,34 +43,34 @@ fn write_block(bytes: &[u8], place: &mut [u8])
             12, 28, 13, 29, 14, 30, 15, 31,
         ],
     );
-    digits.copy_to_slice(place);
+    digits.copy_to_slice(buffer);
 }
 
 /// Writes the digits of sixteen bytes from a position on.
 #[inline(always)]
-fn write_block_at(bytes: &[u8], place: &mut [u8], at: usize)
+fn write_block_at(bytes: &[u8], buffer: &mut [u8], at: usize)
     requires inside { at + 16 ≤ length bytes.now }
-    requires place { length place.old ≡ 2 * length bytes.now }
-    ensures text { take (2 * at + 32) place.new ≡ take (2 * at) place.old ++ encode_lower (take 16 (drop at bytes.now)) }
-    ensures size { length place.new ≡ length place.old }
+    requires buffer { length buffer.old ≡ 2 * length bytes.now }
+    ensures text { take (2 * at + 32) buffer.new ≡ take (2 * at) buffer.old ++ encode_lower (take 16 (drop at bytes.now)) }
+    ensures size { length buffer.new ≡ length buffer.old }
 {
     write_block(
         &bytes[at..at + BLOCK],
-        &mut place[2 * at..2 * at + 2 * BLOCK],
+        &mut buffer[2 * at..2 * at + 2 * BLOCK],
     );
 }
 
 /// Writes two lower case digits for each byte, block by block. The last block may overlap the one before.
 #[inline(always)]
-pub(crate) fn write_blocks(bytes: &[u8], place: &mut [u8])
+pub(crate) fn write_blocks(bytes: &[u8], buffer: &mut [u8])
     requires bytes { 16 ≤ length bytes.now }
-    requires place { length place.old ≡ 2 * length bytes.now }
-    ensures { place.new ≡ encode_lower bytes.now }
+    requires buffer { length buffer.old ≡ 2 * length bytes.now }
+    ensures { buffer.new ≡ encode_lower bytes.now }
 {
     'rows: for row in 0..bytes.len() / BLOCK {
-        write_block_at(bytes, place, BLOCK * row);
+        write_block_at(bytes, buffer, BLOCK * row);
     }
-    write_block_at(bytes, place, bytes.len() - BLOCK);
+    write_block_at(bytes, buffer, bytes.len() - BLOCK);
 }
 
 /// What a byte is worth as a hex digit of either case.
@@ -104,33 +104,33 @@ fn values_of(digits: &[u8], from: usize) -> [u8; 32]
 
 /// Reads sixteen bytes from a position on. Returns the bits of all values, those of the digits before it among them.
 #[inline(always)]
-fn read_block(digits: &[u8], place: &mut [u8], at: usize, before: u8) -> u8
-    requires inside { at + 16 ≤ length place.old }
-    requires digits { length digits.now ≡ 2 * length place.old }
-    requires before { IsReadTo digits.now place.old at before }
-    ensures read { IsReadTo digits.now place.new (at + 16) result }
-    ensures size { length place.new ≡ length place.old }
+fn read_block(digits: &[u8], buffer: &mut [u8], at: usize, before: u8) -> u8
+    requires inside { at + 16 ≤ length buffer.old }
+    requires digits { length digits.now ≡ 2 * length buffer.old }
+    requires before { IsReadTo digits.now buffer.old at before }
+    ensures read { IsReadTo digits.now buffer.new (at + 16) result }
+    ensures size { length buffer.new ≡ length buffer.old }
 {
     let values = values_of(digits, 2 * at);
     let mut bits = before;
     'bytes: for i in 0..BLOCK {
         let (high, low) = (values[2 * i], values[2 * i + 1]);
         bits |= high | low;
-        place[at + i] = high.wrapping_mul(16).wrapping_add(low);
+        buffer[at + i] = high.wrapping_mul(16).wrapping_add(low);
     }
     bits
 }
 
-/// Reads all whole blocks of the place. Returns the bits of all values.
+/// Reads all whole blocks of the buffer. Returns the bits of all values.
 #[inline(never)]
-pub(crate) fn read_blocks(digits: &[u8], place: &mut [u8]) -> u8
-    requires { length digits.now ≡ 2 * length place.old }
-    ensures read { IsReadTo digits.now place.new (length place.old / 16 * 16) result }
-    ensures size { length place.new ≡ length place.old }
+pub(crate) fn read_blocks(digits: &[u8], buffer: &mut [u8]) -> u8
+    requires { length digits.now ≡ 2 * length buffer.old }
+    ensures read { IsReadTo digits.now buffer.new (length buffer.old / 16 * 16) result }
+    ensures size { length buffer.new ≡ length buffer.old }
 {
     let mut bits = 0;
-    'rows: for row in 0..place.len() / BLOCK {
-        bits = read_block(digits, place, BLOCK * row, bits);
+    'rows: for row in 0..buffer.len() / BLOCK {
+        bits = read_block(digits, buffer, BLOCK * row, bits);
     }
     bits
 }

@@ -12,3 +12,4 @@ pub mod script;
 pub mod script_lines;
 pub mod transcript;
 mod words;
+pub mod write;

@@ -1,17 +1,21 @@
 //! The output buffer: lines of a transcript, gathered to be written at once.
 
-ghost use Rattle.std.specs.Prelude.{◌≡◌, ◌≤◌, ◌+◌, ◌++◌, [], length};
+ghost use Rattle.std.specs.Prelude.{◌≡◌, ◌≤◌, ◌<◌, ◌+◌, ◌-◌, ◌^◌, ◌++◌, [], length, OnOk};
 ghost use Rattle.mote_text.specs.Code.Appending.{HasRoom};
+ghost use Rattle.mote_text.specs.Code.Writing.{CountsFailure, WritesIf};
 
 use crate::page::{CAPACITY, Page};
+use crate::write::write_all;
+use mote_types::device::ByteSink;
+use mote_types::fault::DeviceFault;
 use std::marker::Model;
 
 /// No line of a transcript is longer, with its end.
 pub const MOST_OF_LINE: usize = 640;
 
-/// Lines of a transcript that are gathered.
+/// Pending output: lines of a transcript that were made and aren't written yet.
 ///
-/// No `ArrayVec`: that writes blanks over all that it clears, and lends no place for digits before blanks stand there.
+/// No `ArrayVec`: that writes blanks over all that it clears, and lends room for digits only after it has written blanks there.
 #[derive(Drop)]
 pub struct OutputBuffer {
     pub(crate) page: Page,
@@ -69,5 +73,33 @@ impl OutputBuffer {
         ensures { self.new.items ≡ self.old.items ++ bytes.now }
     {
         self.len = self.page.put(self.len, bytes);
+    }
+
+    /// Writes all of it. If a write fails, a prefix was written.
+    pub fn flush<K: ByteSink>(&mut self, sink: &mut K) -> Result<(), DeviceFault>
+        requires countable { K.failure_count sink.old < 2 ^ 64 - 1 }
+        ensures writes { K.is_named → WritesIf result (K.given sink.old) self.old.items (K.given sink.new) self.new.items [] }
+        ensures empty { OnOk result (self.new.items ≡ []) }
+        ensures failures { CountsFailure result (K.failure_count sink.old) (K.failure_count sink.new) }
+    {
+        write_all(sink, self.as_slice())?;
+        self.clear();
+        Ok(())
+    }
+
+    /// Writes all of it, if there is no room for `room` more bytes.
+    // Each line asks for it.
+    #[inline(always)]
+    pub fn make_room<K: ByteSink>(&mut self, sink: &mut K, room: usize) -> Result<(), DeviceFault>
+        requires some { room ≤ 4_096 }
+        requires countable { K.failure_count sink.old < 2 ^ 64 - 1 }
+        ensures writes { K.is_named → WritesIf result (K.given sink.old) self.old.items (K.given sink.new) self.new.items [] }
+        ensures room { OnOk result (HasRoom self.new room) }
+        ensures failures { CountsFailure result (K.failure_count sink.old) (K.failure_count sink.new) }
+    {
+        if self.remaining_capacity() < room {
+            self.flush(sink)?;
+        }
+        Ok(())
     }
 }

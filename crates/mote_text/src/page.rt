@@ -61,12 +61,12 @@ fn small_numbers() -> &'static [u8]
 
 /// Moves the first N bytes of a block, in one load and one store: `copy_from_slice` would ask first whether the two overlap.
 #[inline(always)]
-fn move_block<const N: usize>(place: &mut [u8], block: &[u8])
-    requires place { length place.old ≡ N }
+fn move_block<const N: usize>(buffer: &mut [u8], block: &[u8])
+    requires buffer { length buffer.old ≡ N }
     requires block { N ≤ length block.now }
-    ensures { place.new ≡ take N block.now }
+    ensures { buffer.new ≡ take N block.now }
 {
-    Simd::<u8, N>::from_slice(block).copy_to_slice(place);
+    Simd::<u8, N>::from_slice(block).copy_to_slice(buffer);
 }
 
 /// A buffer into which text is put at a position, which the caller keeps: so it stays in a register. What is after it counts

@@ -1,9 +1,10 @@
-//! The lines of a script, whose bytes come in pieces.
+//! The lines of a script, as a whole or from pieces of its bytes.
 
-ghost use Rattle.std.specs.Prelude.{◌≡◌, ◌≢◌, ◌<◌, ◌≤◌, ◌+◌, ◌↔◌, ◌++◌, [], ◌∷◌, true, length, take, None, IfSome, IsTrue};
+ghost use Rattle.std.specs.Prelude.{◌≡◌, ◌≢◌, ◌<◌, ◌≤◌, ◌+◌, ◌↔◌, ◌++◌, [], ◌∷◌, true, length, take, None, IfNone, IfSome, IsTrue};
 ghost use Rattle.mote_text.specs.Code.LineAnswers.{IsTickLine};
 ghost use Rattle.mote_text.specs.Code.Lines.{nothing_taken, unfinished, unfinished_after, with_end, has_no_end, GoesOnAt};
 ghost use Rattle.mote_text.specs.Script.{line_limit};
+ghost use Rattle.mote_text.specs.ScriptLines.{script_lines};
 ghost use Rattle.mote_text.specs.declared.script_lines.Taken.{Taken as Stopped};
 
 use crate::script::{LINE_LIMIT, put_tick, short_number};
@@ -11,6 +12,21 @@ use arrayvec::ArrayVec;
 use memchr::memchr;
 use mote_types::entry::Input;
 use std::marker::Model;
+
+/// The first line of a whole script, without its end, and what follows it.
+pub fn first_line(script: &[u8]) -> Option<(&[u8], &[u8])>
+    ensures line { IfSome result (λ parts. script_lines script.now ≡ parts.0.now ∷ script_lines parts.1.now) }
+    ensures fewer { IfSome result (λ parts. length parts.1.now < length script.now) }
+    ensures none { IfNone result (script.now ≡ []) }
+{
+    if script.is_empty() {
+        return None;
+    }
+    match memchr(b'\n', script) {
+        Some(end) => Some((&script[..end], &script[end + 1..])),
+        None => Some((script, &script[script.len()..])),
+    }
+}
 
 /// Why a take stopped.
 #[derive(Clone, Copy, Debug, PartialEq, Eq, Drop)]

@@ -1,7 +1,7 @@
 -- A mote that got the time has it until the network rests.
-use Rattle.std.proofs.Common.{◌≡◌, ℕ, ◌+◌, ◌<◌, ◌≤◌, ◌==◌, ◌||◌, List, [], ◌∷◌, length, set, slice_get, refl, ap, sym, subst, ◌∙◌, arith, Bool, true, false, Option, Some, None, IsSomeAnd, nat_lt, if◌then◌else◌, Result, Ok, Err, IfOk}
+use Rattle.std.proofs.Common.{◌≡◌, ℕ, ◌+◌, ◌<◌, ◌≤◌, ◌==◌, ◌||◌, List, [], ◌∷◌, length, set, slice_get, refl, ap, sym, subst, ◌∙◌, arith, Bool, true, false, Option, Some, None, nat_lt, if◌then◌else◌, Result, Ok, Err, IfOk}
 use Rattle.std.proofs.lemmas.Bool.Decides.{nat_tests}
-use Rattle.alarm_core.specs.Alarms.{first_come}
+use Rattle.network_session.specs.Alarms.{first_come}
 use Rattle.kernel_core.specs.Machine.{Machine}
 use Rattle.medium_core.specs.Air.{arrival}
 use Rattle.medium_core.specs.declared.flight.Flight.{Flight}
@@ -15,12 +15,14 @@ use Rattle.network_session.specs.Waking.{due_ticks}
 use Rattle.network_session.specs.declared.outcome.Outcome.{Outcome}
 use Rattle.network_session.proofs.Due.{due_is}
 use Rattle.network_session.proofs.Timely.{fed_clock, landed_clock, none_at_work}
-use Rattle.network_run.specs.Code.Ready.{IsCaught, IsOnTime, IsReady, was_behind}
-use Rattle.network_run.specs.Code.Way.{Goes, Place}
-use Rattle.network_run.specs.Outside.{all_outside, was_halted}
+use Rattle.network_run.specs.Code.Ready.{IsCaught, IsOnTime, IsReady}
+use Rattle.network_run.specs.Code.Way.{Goes, Moment}
+use Rattle.network_run.specs.Outside.{all_outside}
 use Rattle.network_run.specs.declared.fault.RunFault.{RunFault}
 use Rattle.network_run.proofs.Ready.{aired_clock, each_with, move_ready}
-use Rattle.network_text.specs.NetworkRuns.{DoesStep, Leads, Move, TellsTime}
+use Rattle.network_steps.specs.Works.{is_behind}
+use Rattle.network_steps.proofs.GivenInputs.{not_given}
+use Rattle.network_steps.specs.NetworkRuns.{DoesStep, Leads, Move, TellsTime}
 
 -- ---- time is up at rest, and doesn't go on
 
@@ -169,18 +171,11 @@ told_caught m old new ready tells =
 caught_on_time : (m : ℕ) (net : NetworkView) → IsCaught m net → IsOnTime m net
 caught_on_time m net caught mote there up = let same = caught.on_time mote there in grind (arith, nat_tests)
 
-pub caught_after : (result : Result Bool RunFault) (quiet : Bool) (m : ℕ) (from to : Place) → IsCaught m from.net → Goes result quiet [] from to →
+pub caught_after : (result : Result Bool RunFault) (quiet : Bool) (m : ℕ) (from to : Moment) → IsCaught m from.net → Goes result quiet [] from to →
     IfOk result (λ rests. rests ≡ true → IsOnTime m to.net)
 caught_after (Ok rests) quiet m from to caught went = λ yes. caught_on_time m to.net (leads_caught m went.moves from.net to.net caught went.carried went.leads)
 caught_after (Err fault) quiet m from to caught faulted = tt
 
-pub halted_on_time : (m : ℕ) (net : NetworkView) → was_halted (slice_get net.motes m) ≡ true → IsOnTime m net
-halted_on_time m net halted mote there up = let down : mote.machine.is_halted ≡ true = rw there at halted in absurd (cc)
-
-pub not_behind_on_time : (m : ℕ) (net : NetworkView) → was_behind (slice_get net.motes m) net.air.clock ≡ false → IsOnTime m net
-not_behind_on_time m net behind mote there up = rw there at behind
-
-pub untold_on_time : (m : ℕ) (old new : NetworkView) (told : Bool) → new ≡ old → told ≡ false →
-    IsSomeAnd (slice_get old.motes m) (λ (mote : SessionView). told ≡ nat_lt mote.machine.clock old.air.clock) → IsOnTime m new
-untold_on_time m old new told same untold behind =
-    rw same (λ mote there up. let late : told ≡ nat_lt mote.machine.clock old.air.clock = rw there at behind in sym late ∙ untold)
+pub kept_on_time : (m : ℕ) (old new : NetworkView) (given : Bool) → new ≡ old → given ≡ false →
+    ((one : SessionView) → slice_get old.motes m ≡ Some one → given ≡ is_behind old one) → IsOnTime m new
+kept_on_time m old new given same kept behind = rw same (λ mote there up. not_given m old given mote behind kept there up)

@@ -8,8 +8,8 @@ use Rattle.network_session.specs.Network.{NetworkView}
 use Rattle.network_session.specs.Promise.{IsLogOf, NetworkPromise}
 use Rattle.network_session.specs.declared.fault.NetworkFault.{NetworkFault}
 use Rattle.std.proofs.lemmas.List.Elements.{filter_map-append}
-use Rattle.network_run.specs.Code.Way.{ComesWith, Ends, Faulted, Place, Reading, RunFaulted, RunsIf, Stopped, Went, is_write, place}
-use Rattle.network_run.specs.Code.Writing.{WritesOn}
+use Rattle.network_run.specs.Code.Way.{ComesWith, Ends, Faulted, Moment, Reading, RunFaulted, RunsIf, Stopped, Went, is_write, moment}
+use Rattle.mote_text.specs.Code.Writing.{WritesOn}
 use Rattle.network_run.specs.NetworkRunText.{CanStop, Gives, HasRun, IsSpent, NetworkRan, ending_text}
 use Rattle.mote_session.specs.Voices.{Voices}
 use Rattle.network_run.specs.declared.fault.RunFault.{RunFault}
@@ -18,11 +18,11 @@ use Rattle.network_run.proofs.Scripts.{all_given, given_all, given_in_turn, lead
 use Rattle.network_run.proofs.Speaking.{make_the_calls}
 use Rattle.network_run.specs.Outside.{AreInTurn, Outside, all_outside, given_of, givens}
 use Rattle.network_run.proofs.Ways.{faulted_after, faulted_before, stopped_after}
-use Rattle.network_run.proofs.Writing.{nothing_more, then_written}
-use Rattle.network_text.specs.NetworkRuns.{Leads, Move, inputs_of, log_of, moves_text}
-use Rattle.network_text.specs.NetworkScript.{read_network_lines}
-use Rattle.network_text.specs.NetworkText.{last_line}
-use Rattle.network_text.specs.declared.input.NetworkInput.{NetworkInput}
+use Rattle.mote_text.proofs.Writing.{nothing_more, then_written}
+use Rattle.network_steps.specs.NetworkRuns.{Leads, Move, inputs_of, log_of, moves_text}
+use Rattle.network_steps.specs.NetworkScript.{read_network_lines}
+use Rattle.network_steps.specs.NetworkText.{last_line}
+use Rattle.network_steps.specs.declared.input.NetworkInput.{NetworkInput}
 
 -- the inputs that moves execute are those that came
 inputs_given : (moves : List Move) → inputs_of moves ≡ givens (all_outside moves)
@@ -36,7 +36,7 @@ inputs_given (Move.Miss m input new ∷ moves) = ap (λ (v : List NetworkInput).
 
 -- before the lines of a script the motes are started
 module _ (quiet : Bool) where
-  pub runs_after : (result : Result End RunFault) (script : Reading) (from mid to : Place) → Went quiet [] from mid → RunsIf result quiet script mid to →
+  pub runs_after : (result : Result End RunFault) (script : Reading) (from mid to : Moment) → Went quiet [] from mid → RunsIf result quiet script mid to →
       RunsIf result quiet script from to
   runs_after (Ok end) script from mid to first ends = record {
     outside = ends.outside;
@@ -48,7 +48,7 @@ module _ (quiet : Bool) where
   runs_after (Err fault) script from mid to first run =
       record { outside = run.outside; comes = run.comes; faulted = faulted_after quiet first run.faulted }
 
-  pub started : (result : Result End RunFault) (n : ℕ) (lines : List (List ℕ)) (from mid to : Place) → Went quiet [] from mid →
+  pub started : (result : Result End RunFault) (n : ℕ) (lines : List (List ℕ)) (from mid to : Moment) → Went quiet [] from mid →
       RunsIf result quiet (read_network_lines (length mid.net.motes) n lines) mid to → RunsIf result quiet (read_network_lines (length from.net.motes) n lines) from to
   started result n lines from mid to first runs =
       runs_after result (read_network_lines (length from.net.motes) n lines) from mid to first
@@ -57,7 +57,7 @@ module _ (quiet : Bool) where
   all_to_come : (inputs : List NetworkInput) → ComesWith inputs (all_given inputs)
   all_to_come inputs = record { given = sym (given_all inputs); in_turn = given_in_turn inputs }
 
-  pub spent_at_start : (script : Reading) (from to : Place) → Went quiet [] from to → IsSpent to.net → Ends quiet script End.Halted from to
+  pub spent_at_start : (script : Reading) (from to : Moment) → Went quiet [] from to → IsSpent to.net → Ends quiet script End.Halted from to
   spent_at_start script from to went spent = record {
     outside = all_given script.0;
     comes = all_to_come script.0;
@@ -67,7 +67,7 @@ module _ (quiet : Bool) where
   }
 
   -- or there is a fault there
-  pub fault_at_start : (inputs : List NetworkInput) (fault : RunFault) (from to : Place) → Faulted quiet [] fault from to → RunFaulted quiet inputs fault from to
+  pub fault_at_start : (inputs : List NetworkInput) (fault : RunFault) (from to : Moment) → Faulted quiet [] fault from to → RunFaulted quiet inputs fault from to
   fault_at_start inputs fault from to faulted =
       record { outside = all_given inputs; comes = all_to_come inputs; faulted = faulted_before quiet (all_given inputs) faulted }
 
@@ -79,7 +79,7 @@ PromiseLaw = (configs : ℕ → Config) (room : ℕ) (links : List (List Link)) 
 module _ (law : PromiseLaw) (quiet : Bool) (script : Reading) (start net : NetworkView) (voices later_voices : Voices) where
   -- what was done, and the text of that
   ran : (said : Voices) (given now due later lost text : List ℕ) (outside left : List Outside) (ending : Option (Result End NetworkFault)) →
-      ComesWith script.0 outside → Stopped quiet outside left due (place given [] start voices) (place now due net said) →
+      ComesWith script.0 outside → Stopped quiet outside left due (moment given [] start voices) (moment now due net said) →
       IfSome ending (CanStop net left script.1) → WritesOn now due later lost text → text ≡ ending_text ending →
       Gives given later (λ written. NetworkRan quiet start voices script written lost ending)
   ran said given now due later lost text outside left ending comes stopped ends writes is =
@@ -102,19 +102,19 @@ module _ (law : PromiseLaw) (quiet : Bool) (script : Reading) (start net : Netwo
         },
       )
 
-  pub closed : (end : End) (given now due later : List ℕ) → Ends quiet script end (place given [] start voices) (place now due net later_voices) →
+  pub closed : (end : End) (given now due later : List ℕ) → Ends quiet script end (moment given [] start voices) (moment now due net later_voices) →
       WritesOn now due later [] (last_line end) → Gives given later (λ written. HasRun quiet start voices script written (Ok end))
   closed end given now due later ends writes =
       ran later_voices given now due later [] (last_line end) ends.outside ends.left (Some (Ok end)) ends.comes ends.stopped ends.can writes refl
 
-  pub cut_off : (end : End) (given now due later lost : List ℕ) → Ends quiet script end (place given [] start voices) (place now due net later_voices) →
+  pub cut_off : (end : End) (given now due later lost : List ℕ) → Ends quiet script end (moment given [] start voices) (moment now due net later_voices) →
       WritesOn now due later lost (last_line end) → Gives given later (λ written. HasRun quiet start voices script written (Err RunFault.Write))
   cut_off end given now due later lost ends writes =
       let r = ran later_voices given now due later lost (last_line end) ends.outside ends.left (Some (Ok end)) ends.comes ends.stopped ends.can writes refl in
       (r.0, r.1, (lost, Some (Ok end), r.2))
 
   pub failed_before : (fault : RunFault) (given now due : List ℕ) → is_write fault ≡ true →
-      RunFaulted quiet script.0 fault (place given [] start voices) (place now due net later_voices) →
+      RunFaulted quiet script.0 fault (moment given [] start voices) (moment now due net later_voices) →
       Gives given now (λ written. HasRun quiet start voices script written (Err fault))
   failed_before RunFault.Write given now due is run =
       let faulted = run.faulted in
@@ -124,13 +124,13 @@ module _ (law : PromiseLaw) (quiet : Bool) (script : Reading) (start net : Netwo
   failed_before (RunFault.Refused refusal) given now due is run = absurd (cc)
 
   stopped_whole : (fault : RunFault) (outside : List Outside) (given now due : List ℕ) → is_write fault ≡ false →
-      (faulted : Faulted quiet outside fault (place given [] start voices) (place now due net later_voices)) →
-      Stopped quiet outside faulted.left due (place given [] start voices) (place now due net faulted.voices)
+      (faulted : Faulted quiet outside fault (moment given [] start voices) (moment now due net later_voices)) →
+      Stopped quiet outside faulted.left due (moment given [] start voices) (moment now due net faulted.voices)
   stopped_whole fault outside given now due not faulted =
-      subst (λ (lost : List ℕ). Stopped quiet outside faulted.left lost (place given [] start voices) (place now due net faulted.voices)) (faulted.kept not) faulted.stopped
+      subst (λ (lost : List ℕ). Stopped quiet outside faulted.left lost (moment given [] start voices) (moment now due net faulted.voices)) (faulted.kept not) faulted.stopped
 
   pub failed_now : (fault : RunFault) (given now due later lost : List ℕ) → is_write fault ≡ false →
-      RunFaulted quiet script.0 fault (place given [] start voices) (place now due net later_voices) →
+      RunFaulted quiet script.0 fault (moment given [] start voices) (moment now due net later_voices) →
       WritesOn now due later lost [] → Gives given later (λ written. HasRun quiet start voices script written (Err RunFault.Write))
   failed_now fault given now due later lost not run writes =
       let faulted = run.faulted in
@@ -139,7 +139,7 @@ module _ (law : PromiseLaw) (quiet : Bool) (script : Reading) (start net : Netwo
       (r.0, r.1, (lost, None, r.2))
 
   pub failed : (fault : RunFault) (given now due later : List ℕ) → is_write fault ≡ false →
-      RunFaulted quiet script.0 fault (place given [] start voices) (place now due net later_voices) →
+      RunFaulted quiet script.0 fault (moment given [] start voices) (moment now due net later_voices) →
       WritesOn now due later [] [] → Gives given later (λ written. HasRun quiet start voices script written (Err fault))
   failed RunFault.Write given now due later not run writes = absurd (cc)
   failed (RunFault.Refused refusal) given now due later not run writes =

@@ -7,7 +7,7 @@ use Rattle.network_session.specs.Time.{is_work}
 use Rattle.network_session.specs.declared.outcome.Outcome.{Outcome}
 use Rattle.network_run.specs.Code.Steps.{DidDueStep, rests_after}
 use Rattle.network_run.specs.Code.Ready.{is_turn_step}
-use Rattle.network_text.specs.NetworkRuns.{DoesStep}
+use Rattle.network_steps.specs.NetworkRuns.{DoesStep}
 
 -- the mote at work does a step
 pub does_work : (x : Outcome) (m : ℕ) (old new : NetworkView) → old.active ≡ Some m → Steps x old new → is_work x ≡ true → DoesStep x old new

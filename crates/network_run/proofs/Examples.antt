@@ -18,12 +18,13 @@ use Rattle.mote_types.specs.declared.event.Stimulus.{Stimulus}
 use Rattle.network_session.specs.Happenings.{Happening}
 use Rattle.network_run.specs.Voices.{MakeTheCalls}
 use Rattle.network_session.specs.declared.outcome.Outcome.{Outcome}
-use Rattle.network_run.specs.NetworkRunText.{AwaitsNone, CanEnd, HasRun, IsAtStart, IsTooMuch, NetworkRan, ending_text, script_lines}
+use Rattle.network_run.specs.NetworkRunText.{AwaitsNone, CanEnd, HasRun, IsAtStart, IsTooMuch, NetworkRan, ending_text}
+use Rattle.mote_text.specs.ScriptLines.{script_lines}
 use Rattle.network_run.specs.declared.fault.RunFault.{RunFault}
-use Rattle.network_text.specs.NetworkRuns.{IsResting}
+use Rattle.network_steps.specs.NetworkRuns.{IsResting}
 use Rattle.network_run.specs.Outside.{AreInTurn, Outside, next_refusal}
-use Rattle.network_text.specs.NetworkScript.{read_network_lines}
-use Rattle.network_text.specs.declared.input.NetworkInput.{NetworkInput}
+use Rattle.network_steps.specs.NetworkScript.{read_network_lines}
+use Rattle.network_steps.specs.declared.input.NetworkInput.{NetworkInput}
 
 -- a newline ends a line, and the last line may have none
 lines : (script_lines (codes "tick 3\n\n# x\n") ≡ codes "tick 3" ∷ [] ∷ codes "# x" ∷ []) × (script_lines (codes "a\nb") ≡ codes "a" ∷ codes "b" ∷ [])

@@ -7,8 +7,8 @@ use Rattle.mote_session.specs.Refusals.{is_input}
 use Rattle.mote_text.specs.Script.{argument_of, line_limit, read_behind, read_bytes, read_line, read_number, read_words}
 use Rattle.mote_types.specs.declared.entry.Input.{Input}
 use Rattle.network_run.specs.Code.Ready.{ComesFromOutside, IsFromOutside}
-use Rattle.network_text.specs.NetworkScript.{for_mote, if_for_some, is_for_some, parted, read_for_mote, read_network_input, read_network_line, tick_of}
-use Rattle.network_text.specs.declared.input.NetworkInput.{NetworkInput}
+use Rattle.network_steps.specs.NetworkScript.{for_mote, if_for_some, is_for_some, parted, read_for_mote, read_network_input, read_network_line, tick_of}
+use Rattle.network_steps.specs.declared.input.NetworkInput.{NetworkInput}
 
 one_of : {A P : Type 0} (a b : Option A) (x : A) → option_or a b ≡ Some x → (a ≡ Some x → P) → (b ≡ Some x → P) → P
 one_of (Some y) b x e first second = first e

@@ -1,7 +1,5 @@
 mod Examples
-pub mod Writing
 pub mod Fates
-pub mod StepText
 pub mod Doing
 pub mod Speaking
 pub mod Ready

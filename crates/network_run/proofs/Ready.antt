@@ -1,8 +1,8 @@
 -- What a network keeps true with each move.
 use Rattle.std.proofs.Common.{◌≡◌, ◌≢◌, ℕ, ◌+◌, ◌<◌, ◌≤◌, ◌==◌, List, [], ◌∷◌, ◌++◌, length, set, slice_get, refl, ap, sym, subst, ◌∙◌, arith, Bool, true, false, Option, Some, None, nat_lt, if◌then◌else◌}
 use Rattle.std.proofs.lemmas.Bool.Decides.{nat_tests}
-use Rattle.alarm_core.specs.Alarms.{earliest_by, earliest_in, first_alarm, first_come}
-use Rattle.alarm_core.specs.declared.alarm.Alarm.{Alarm}
+use Rattle.network_session.specs.Alarms.{earliest_by, earliest_in, first_alarm, first_come}
+use Rattle.network_session.specs.declared.alarm.Alarm.{Alarm}
 use Rattle.arrayvec.specs.ArrayVec.{ArrayVec}
 use Rattle.kernel_core.specs.Machine.{Machine}
 use Rattle.kernel_core.specs.Run.{is_at_rest, is_still}
@@ -24,7 +24,7 @@ use Rattle.network_session.proofs.Timely.{fed_clock, landed_clock, none_at_work,
 use Rattle.network_session.proofs.Working.{there_after}
 use Rattle.network_run.specs.Code.Ready.{AwaitsAtWork, IsReady, IsWithin, OthersAreStill, StaysWithin, ends_open, is_turn, is_turn_step}
 use Rattle.network_run.specs.NetworkRunText.{AwaitsNone, IsAtStart}
-use Rattle.network_text.specs.NetworkRuns.{DoesStep, IsMove, Leads, Move, after_move}
+use Rattle.network_steps.specs.NetworkRuns.{DoesStep, IsMove, Leads, Move, after_move}
 
 unlike : (o : Option ℕ) (i : ℕ) → o ≡ None → o ≡ Some i → ⊥
 unlike o i none some = absurd (cc)

@@ -1,27 +1,34 @@
 -- What a mote refuses that was not halted.
-use Rattle.std.proofs.Common.{◌≡◌, ◌+◌, ◌-◌, ◌<◌, ℕ, true, false, Option, None, Some, IsSomeAnd, arith, slice_get}
-use Rattle.std.proofs.lemmas.Bool.Decides.{nat_tests}
+use Rattle.std.proofs.Common.{◌≡◌, ◌+◌, ◌-◌, ℕ, Bool, true, false, not, refl, ◌∙◌, Option, None, Some, IsSomeAnd, arith, slice_get}
 use Rattle.mote_session.specs.SessionView.{SessionView}
 use Rattle.mote_types.specs.declared.entry.Input.{Input}
 use Rattle.network_session.specs.Network.{NetworkView}
-use Rattle.network_session.specs.Refusals.{catch_up_refusal, feed_refusal}
+use Rattle.network_session.specs.Refusals.{feed_refusal}
 use Rattle.network_session.specs.declared.fault.NetworkFault.{NetworkFault}
-use Rattle.network_run.specs.Code.Ready.{was_behind}
 use Rattle.network_run.specs.Outside.{Outside, refusal_of, was_halted}
-use Rattle.network_text.specs.declared.input.NetworkInput.{NetworkInput}
+use Rattle.network_steps.specs.Works.{given_refusal, is_halted_in}
+use Rattle.network_steps.specs.declared.input.NetworkInput.{NetworkInput}
 
-pub is_halted_mote : (mote : Option SessionView) → was_halted mote ≡ true → IsSomeAnd mote (λ (one : SessionView). one.machine.is_halted ≡ true)
-is_halted_mote None is = absurd (cc)
-is_halted_mote (Some mote) is = is
+same_halted : (mote : Option SessionView) → was_halted mote ≡ is_halted_in mote
+same_halted None = refl
+same_halted (Some mote) = refl
 
-pub is_behind_mote : (mote : Option SessionView) (clock : ℕ) → was_behind mote clock ≡ true → IsSomeAnd mote (λ (one : SessionView). one.machine.clock < clock)
-is_behind_mote None clock is = absurd (cc)
-is_behind_mote (Some mote) clock is = grind (arith, nat_tests)
+pub was_up : (mote : Option SessionView) → is_halted_in mote ≡ false → was_halted mote ≡ false
+was_up mote up = same_halted mote ∙ up
 
-pub time_refusal : (m : ℕ) (net : NetworkView) (fault : NetworkFault) → was_halted (slice_get net.motes m) ≡ false →
-    catch_up_refusal m net ≡ Some fault → refusal_of (Outside.Time m) net ≡ Some fault
-time_refusal m net fault works is = rw works is
+-- a mote that misses an input
+pub misses : (mote : Option SessionView) → false ≡ not (is_halted_in mote) → IsSomeAnd mote (λ (one : SessionView). one.machine.is_halted ≡ true)
+misses None is = absurd (cc)
+misses (Some mote) is = by_halt mote.machine.is_halted is
+  where
+    by_halt : (halted : Bool) → false ≡ not halted → halted ≡ true
+    by_halt true is = refl
+    by_halt false is = absurd (cc)
 
-pub fed_refusal : (m : ℕ) (input : Input) (net : NetworkView) (fault : NetworkFault) → was_halted (slice_get net.motes m) ≡ false →
+pub time_refusal : (m : ℕ) (net : NetworkView) (fault : NetworkFault) → given_refusal m net ≡ Some fault → refusal_of (Outside.Time m) net ≡ Some fault
+time_refusal m net fault is = rw (same_halted (slice_get net.motes m)) is
+
+pub fed_refusal : (m : ℕ) (input : Input) (net : NetworkView) (fault : NetworkFault) → is_halted_in (slice_get net.motes m) ≡ false →
     feed_refusal m input net ≡ Some fault → refusal_of (Outside.Given (NetworkInput.ForMote (m + 1) input)) net ≡ Some fault
-fed_refusal m input net fault works is = let same : m + 1 - 1 ≡ m = omega arith in rw (same, works) is
+fed_refusal m input net fault up is =
+    let same : m + 1 - 1 ≡ m = omega arith in rw (same, was_up (slice_get net.motes m) up) is

@@ -2,8 +2,8 @@
 use Rattle.std.proofs.Common.{◌≡◌, ℕ, zero, suc, ◌+◌, ◌<◌, ◌≤◌, ◌^◌, ◌==◌, List, [], ◌∷◌, length, slice_get, refl, ap, ◌∙◌, arith, Bool, true, false, not, ◌&&◌, ◌||◌, Option, Some, None, IsSomeAnd, inl, inr, is_some, nat_le, nat_lt, option_map, if◌then◌else◌}
 use Rattle.std.proofs.lemmas.Bool.Decides.{nat_tests}
 use Rattle.std.specs.Option.{option_or}
-use Rattle.alarm_core.specs.Alarms.{come_by, first_alarm, first_come, sooner}
-use Rattle.alarm_core.specs.declared.alarm.Alarm.{Alarm}
+use Rattle.network_session.specs.Alarms.{come_by, first_alarm, first_come, sooner}
+use Rattle.network_session.specs.declared.alarm.Alarm.{Alarm}
 use Rattle.medium_core.specs.Air.{arrival}
 use Rattle.medium_core.specs.declared.flight.Flight.{Flight}
 use Rattle.mote_session.specs.Refusals.{is_beyond, is_input, unrest}
@@ -12,17 +12,18 @@ use Rattle.mote_session.specs.declared.refusal.SessionRefusal.{SessionRefusal}
 use Rattle.mote_types.specs.declared.entry.Input.{Input}
 use Rattle.kernel_core.specs.Run.{is_still}
 use Rattle.network_session.specs.Network.{NetworkView, wakes_of}
-use Rattle.network_session.specs.Refusals.{catch_up_refusal, feed_refusal, frame_refusal, mote_at_work, mote_refusal, outcome_refusal, pass_refusal, passed_refusal, refusal_for, step_refusal, time_refusal, work_refusal}
+use Rattle.network_session.specs.Refusals.{feed_refusal, frame_refusal, mote_at_work, mote_refusal, outcome_refusal, pass_refusal, passed_refusal, refusal_for, step_refusal, time_refusal, work_refusal}
 use Rattle.network_session.specs.Schedule.{arriving, due_now, due_step, hearing, is_rest, is_unheard, waking}
 use Rattle.network_session.specs.Waking.{due_ticks, wake}
 use Rattle.network_session.specs.declared.fault.NetworkFault.{NetworkFault}
 use Rattle.network_session.specs.declared.outcome.Outcome.{Outcome}
 use Rattle.network_session.proofs.Due.{due_is}
 use Rattle.network_session.proofs.Heard.{heard_due_by}
-use Rattle.network_run.specs.Code.Ready.{IsFromOutside, IsOnTime, IsReady, IsWithin, was_behind}
+use Rattle.network_run.specs.Code.Ready.{IsFromOutside, IsOnTime, IsReady, IsWithin}
 use Rattle.network_run.specs.NetworkRunText.{AwaitsNone, IsTooMuch}
 use Rattle.network_run.specs.Outside.{was_halted}
-use Rattle.network_text.specs.NetworkRuns.{IsResting}
+use Rattle.network_steps.specs.Works.{given_refusal, is_halted_in}
+use Rattle.network_steps.specs.NetworkRuns.{IsResting}
 
 -- a mote at rest refuses an input only where it is too much
 
@@ -246,17 +247,20 @@ module _ (net : NetworkView) (ready : IsReady net) (none : AwaitsNone net) (with
       by_active None e h = outcome_refused (due_step net) fault e refl h
 
   -- a mote that is behind refuses the time only where it is too much
-  due_refused_by : (m : ℕ) (fault : NetworkFault) (o : Option SessionView) → slice_get net.motes m ≡ o → IsResting net → was_halted o ≡ false →
-      was_behind o net.air.clock ≡ true → time_refusal net.air.clock o ≡ Some fault → IsTooMuch fault
-  due_refused_by m fault None e rests up behind why = absurd (cc)
-  due_refused_by m fault (Some mote) e rests up behind why =
-      mote_refused (Input.Tick (due_ticks net.air.clock mote.machine.clock)) m mote fault rests.idle (rest_started net rests.due) e up refl
-      (rw behind at why)
+  due_refused_by : (m : ℕ) (fault : NetworkFault) (o : Option SessionView) → slice_get net.motes m ≡ o → IsResting net → m < length net.motes →
+      (if is_halted_in o then None else time_refusal net.air.clock o) ≡ Some fault → IsTooMuch fault
+  due_refused_by m fault None e rests less why = absurd (some_within net.motes m less e)
+  due_refused_by m fault (Some mote) e rests less why = by_tests mote.machine.is_halted (nat_lt mote.machine.clock net.air.clock) refl why
+    where
+      by_tests : (halted late : Bool) → mote.machine.is_halted ≡ halted → (if halted then None else if late
+          then mote_refusal (Input.Tick (due_ticks net.air.clock mote.machine.clock)) mote else None) ≡ Some fault → IsTooMuch fault
+      by_tests true late up why = absurd (cc)
+      by_tests false true up why =
+          mote_refused (Input.Tick (due_ticks net.air.clock mote.machine.clock)) m mote fault rests.idle (rest_started net rests.due) e up refl why
+      by_tests false false up why = absurd (cc)
 
-  pub due_refused : (m : ℕ) (fault : NetworkFault) → IsResting net → was_halted (slice_get net.motes m) ≡ false →
-      was_behind (slice_get net.motes m) net.air.clock ≡ true → catch_up_refusal m net ≡ Some fault → IsTooMuch fault
-  due_refused m fault rests up behind why =
-      due_refused_by m fault (slice_get net.motes m) refl rests up behind (rw rests.idle at why)
+  pub due_refused : (m : ℕ) (fault : NetworkFault) → IsResting net → m < length net.motes → given_refusal m net ≡ Some fault → IsTooMuch fault
+  due_refused m fault rests less why = due_refused_by m fault (slice_get net.motes m) refl rests less (rw rests.idle at why)
 
   -- and an input from outside, where the mote is there and has got the time
   fed_by : (m : ℕ) (input : Input) (fault : NetworkFault) (o : Option SessionView) → slice_get net.motes m ≡ o → IsResting net → IsFromOutside input →

@@ -3,59 +3,22 @@ use Rattle.std.proofs.Common.{map, ◌≡◌, ◌+◌, ◌-◌, ◌<◌, ◌==�
 use Rattle.std.proofs.lemmas.Bool.Decides.{nat_tests}
 use Rattle.std.proofs.lemmas.List.{length-set}
 use Rattle.std.proofs.lemmas.List.Elements.{filter_map-append}
-use Rattle.memchr.specs.Find.{Nowhere, Passes, is_byte}
 use Rattle.mote_session.specs.SessionView.{SessionView}
 use Rattle.mote_text.specs.Script.{line_limit}
+use Rattle.mote_text.specs.ScriptLines.{script_lines}
 use Rattle.mote_text.specs.declared.script.End.{End}
 use Rattle.mote_types.specs.declared.entry.Input.{Input}
 use Rattle.network_session.specs.Network.{NetworkView}
 use Rattle.network_session.specs.Steps.{Steps}
 use Rattle.network_session.specs.declared.outcome.Outcome.{Outcome}
-use Rattle.network_run.specs.Code.Way.{ComesWith, Ends, Faulted, HasCome, IsTimeFor, IsWithTime, Place, RunFaulted, Takes, TakesIf, TakesInputIf, Went}
-use Rattle.network_run.specs.NetworkRunText.{CanEnd, IsSpent, script_lines}
+use Rattle.network_run.specs.Code.Way.{ComesWith, Ends, Faulted, HasCome, IsTimeFor, IsWithTime, Moment, RunFaulted, Takes, TakesIf, TakesInputIf, Went}
+use Rattle.network_run.specs.NetworkRunText.{CanEnd, IsSpent}
 use Rattle.network_run.specs.declared.fault.RunFault.{RunFault}
 use Rattle.network_run.specs.Outside.{AreInTurn, IsFor, Outside, given_of, givens}
 use Rattle.network_run.proofs.Ways.{all_carried, faulted_after, faulted_before, stopped_after, stopped_before, went_nowhere, went_on}
-use Rattle.network_text.specs.NetworkRuns.{IsMove, IsResting, Leads, Move, after_move}
-use Rattle.network_text.specs.NetworkScript.{if_for_some, is_for_some, read_network_input, read_network_line, read_network_lines, with_network_line}
-use Rattle.network_text.specs.declared.input.NetworkInput.{NetworkInput}
-
--- ---- lines
-
-not_true : (b : Bool) → (b ≡ true → ⊥) → b ≡ false
-not_true true apart = absurd (apart refl)
-not_true false apart = refl
-
--- what has no newline is one line
-pub last_line_is : (byte : ℕ) (bytes : List ℕ) → Nowhere (Passes (is_byte 10) (byte ∷ bytes)) 0 (length (byte ∷ bytes)) →
-    script_lines (byte ∷ bytes) ≡ (byte ∷ bytes) ∷ []
-last_line_is byte [] none =
-    let apart : (byte == 10) ≡ false = not_true (byte == 10) (λ is. none 0 (omega arith) (omega arith) is) in rw apart refl
-last_line_is byte (next ∷ bytes) none =
-    let apart : (byte == 10) ≡ false = not_true (byte == 10) (λ is. none 0 (omega arith) (omega arith) is) in
-    rw (apart, last_line_is next bytes (λ k low high is. none (suc k) (omega arith) (omega arith) is)) refl
-
--- the first newline ends the first line
-pub first_line_is : (bytes : List ℕ) (k : ℕ) → k < length bytes → Nowhere (Passes (is_byte 10) bytes) 0 k → Passes (is_byte 10) bytes k →
-    script_lines bytes ≡ take k bytes ∷ script_lines (drop (suc k) bytes)
-first_line_is [] k within none here = absurd (omega arith)
-first_line_is (byte ∷ bytes) zero within none here = let yes : (byte == 10) ≡ true = here in rw yes refl
-first_line_is (byte ∷ bytes) (suc k) within none here =
-    let apart : (byte == 10) ≡ false = not_true (byte == 10) (λ is. none 0 (omega arith) (omega arith) is) in
-    rw (apart, first_line_is bytes k (omega arith) (λ j low high is. none (suc j) (omega arith) (omega arith) is) here) refl
-
-pub first_line_at : (bytes : List ℕ) (k : ℕ) → k < length bytes → Nowhere (Passes (is_byte 10) bytes) 0 k → Passes (is_byte 10) bytes k →
-    script_lines bytes ≡ take k bytes ∷ script_lines (drop (k + 1) bytes)
-first_line_at bytes k within none here = rw add-one (first_line_is bytes k within none here)
-
-no_bytes : (bytes : List ℕ) (n : ℕ) → script_lines (take (n - n) bytes) ≡ []
-no_bytes bytes n = let none : n - n ≡ 0 = omega arith in rw none refl
-
-pub last_line_at : (bytes : List ℕ) → 0 < length bytes → Nowhere (Passes (is_byte 10) bytes) 0 (length bytes) →
-    script_lines bytes ≡ bytes ∷ script_lines (take (length bytes - length bytes) (drop (length bytes) bytes))
-last_line_at [] some none = absurd (omega arith)
-last_line_at (byte ∷ bytes) some none =
-    last_line_is byte bytes none ∙ ap (λ (later : List (List ℕ)). (byte ∷ bytes) ∷ later) (sym (no_bytes (drop (length (byte ∷ bytes)) (byte ∷ bytes)) (length (byte ∷ bytes))))
+use Rattle.network_steps.specs.NetworkRuns.{IsMove, IsResting, Leads, Move, after_move}
+use Rattle.network_steps.specs.NetworkScript.{if_for_some, is_for_some, read_network_input, read_network_line, read_network_lines, with_network_line}
+use Rattle.network_steps.specs.declared.input.NetworkInput.{NetworkInput}
 
 -- ---- a network keeps its motes
 
@@ -157,7 +120,7 @@ no_time : (input : NetworkInput) → IsWithTime input (Outside.Given input ∷ [
 no_time input = ([], refl, inl refl)
 
 -- a tick needs no time before it
-pub tick_taken : (quiet : Bool) (result : Result Bool RunFault) (said : NetworkInput) (ticks : ℕ) (from to : Place) → said ≡ NetworkInput.Tick ticks →
+pub tick_taken : (quiet : Bool) (result : Result Bool RunFault) (said : NetworkInput) (ticks : ℕ) (from to : Moment) → said ≡ NetworkInput.Tick ticks →
     TakesIf result quiet (Outside.Given (NetworkInput.Tick ticks) ∷ []) from to → TakesInputIf result quiet said from to
 tick_taken quiet result said ticks from to is takes = (
   Outside.Given said ∷ [],
@@ -166,7 +129,7 @@ tick_taken quiet result said ticks from to is takes = (
 )
 
 module _ (quiet : Bool) where
-  pub line_is : {script : Script} {from here : Place} (n : ℕ) (line : List ℕ) (said : Option (Option NetworkInput)) (later : Script) →
+  pub line_is : {script : Script} {from here : Moment} (n : ℕ) (line : List ℕ) (said : Option (Option NetworkInput)) (later : Script) →
       HasCome quiet script (with_network_line n (read_network_line (length from.net.motes) line) later) from here →
       said ≡ read_network_line (length here.net.motes) line → HasCome quiet script (with_network_line n said later) from here
   line_is {script} {from} {here} n line said later come is =
@@ -175,7 +138,7 @@ module _ (quiet : Bool) where
       (sym (is ∙ ap (λ (motes : ℕ). read_network_line motes line) same)) come
 
   -- an input for mote m, after the time for it, or nothing
-  pub fed_with : (m : ℕ) (input : Input) (result : Result Bool RunFault) (times : List Outside) (from to : Place) → IsTimeFor m times →
+  pub fed_with : (m : ℕ) (input : Input) (result : Result Bool RunFault) (times : List Outside) (from to : Moment) → IsTimeFor m times →
       TakesIf result quiet (times ++ Outside.Given (NetworkInput.ForMote (m + 1) input) ∷ []) from to →
       TakesInputIf result quiet (NetworkInput.ForMote (m + 1) input) from to
   fed_with m input result times from to time takes = (
@@ -185,18 +148,18 @@ module _ (quiet : Bool) where
   )
 
   -- the input of a line, for a mote that there is
-  pub taken_for : (result : Result Bool RunFault) (said : NetworkInput) (number : ℕ) (input : Input) (motes : ℕ) (from to : Place) →
+  pub taken_for : (result : Result Bool RunFault) (said : NetworkInput) (number : ℕ) (input : Input) (motes : ℕ) (from to : Moment) →
       said ≡ NetworkInput.ForMote number input → is_for_some motes said ≡ true →
       TakesInputIf result quiet (NetworkInput.ForMote (number - 1 + 1) input) from to → TakesInputIf result quiet said from to
   taken_for result said number input motes from to is some takes =
       let n = number_is motes number input (subst (λ (i : NetworkInput). is_for_some motes i ≡ true) is some) in
       subst (λ (i : NetworkInput). TakesInputIf result quiet i from to) (ap (λ (k : ℕ). NetworkInput.ForMote k input) n ∙ sym is) takes
 
-  pub come_nowhere : (script : Script) (here : Place) → HasCome quiet script script here here
+  pub come_nowhere : (script : Script) (here : Moment) → HasCome quiet script script here here
   come_nowhere script here =
       record { earlier = []; inputs = refl; in_turn = λ more turn. turn; ends = refl; went = went_nowhere quiet here }
 
-  pub come_on : {script : Script} {input : NetworkInput} (later : Script) {from here to : Place} (outside : List Outside) →
+  pub come_on : {script : Script} {input : NetworkInput} (later : Script) {from here to : Moment} (outside : List Outside) →
       HasCome quiet script (input ∷ later.0, later.1) from here → IsWithTime input outside → Went quiet outside here to →
       HasCome quiet script later from to
   come_on {input = input} later outside come is went = record {
@@ -211,7 +174,7 @@ module _ (quiet : Bool) where
   }
 
   -- no input is left
-  pub ends_as : {script : Script} {said : End} (end : End) {from here : Place} → HasCome quiet script ([], said) from here →
+  pub ends_as : {script : Script} {said : End} (end : End) {from here : Moment} → HasCome quiet script ([], said) from here →
       CanEnd here.net [] script.1 end → Ends quiet script end from here
   ends_as end {here = here} come can = record {
     outside = come.earlier;
@@ -224,12 +187,12 @@ module _ (quiet : Bool) where
     stopped = all_carried quiet here.due come.went;
   }
 
-  pub ends_bad : {script : Script} {n : ℕ} {from here : Place} → HasCome quiet script ([], End.BadLine n) from here → IsResting here.net →
+  pub ends_bad : {script : Script} {n : ℕ} {from here : Moment} → HasCome quiet script ([], End.BadLine n) from here → IsResting here.net →
       Ends quiet script (End.BadLine n) from here
   ends_bad {n = n} come rests = ends_as (End.BadLine n) come (record { rests = rests; none_left = refl; says = come.ends })
 
   -- no bytes are left
-  pub ends_finished : {script : Script} (motes n : ℕ) (rest : List ℕ) {from here : Place} → rest ≡ [] →
+  pub ends_finished : {script : Script} (motes n : ℕ) (rest : List ℕ) {from here : Moment} → rest ≡ [] →
       HasCome quiet script (read_network_lines motes n (script_lines rest)) from here → IsResting here.net → Ends quiet script End.Finished from here
   ends_finished {script} motes n rest {from} {here} none came rests =
       let come : HasCome quiet script ([], End.Finished) from here =
@@ -237,7 +200,7 @@ module _ (quiet : Bool) where
       ends_as End.Finished come (record { rests = rests; none_left = refl; says = come.ends })
 
   -- what comes with the inputs of a run that stops amid one
-  amid : {script : Script} {input : NetworkInput} (later : Script) {from here : Place} (outside : List Outside) →
+  amid : {script : Script} {input : NetworkInput} (later : Script) {from here : Moment} (outside : List Outside) →
       (come : HasCome quiet script (input ∷ later.0, later.1) from here) → IsWithTime input outside →
       ComesWith script.0 (come.earlier ++ (outside ++ all_given later.0))
   amid {input = input} later outside come is = record {
@@ -249,7 +212,7 @@ module _ (quiet : Bool) where
     in_turn = come.in_turn (outside ++ all_given later.0) (with_more input outside (all_given later.0) is (given_in_turn later.0));
   }
 
-  pub ends_halted : {script : Script} {input : NetworkInput} (later : Script) {rests : Bool} {from here to : Place} (outside : List Outside) →
+  pub ends_halted : {script : Script} {input : NetworkInput} (later : Script) {rests : Bool} {from here to : Moment} (outside : List Outside) →
       HasCome quiet script (input ∷ later.0, later.1) from here → IsWithTime input outside → Takes quiet outside rests here to → IsSpent to.net →
       Ends quiet script End.Halted from to
   ends_halted later outside come is takes spent = record {
@@ -260,7 +223,7 @@ module _ (quiet : Bool) where
     stopped = stopped_after quiet come.went (stopped_before quiet (all_given later.0) takes.stopped);
   }
 
-  pub faulted_in : {script : Script} {input : NetworkInput} (later : Script) {fault : RunFault} {from here to : Place} (outside : List Outside) →
+  pub faulted_in : {script : Script} {input : NetworkInput} (later : Script) {fault : RunFault} {from here to : Moment} (outside : List Outside) →
       HasCome quiet script (input ∷ later.0, later.1) from here → IsWithTime input outside → Faulted quiet outside fault here to →
       RunFaulted quiet script.0 fault from to
   faulted_in later outside come is faulted = record {

@@ -22,7 +22,7 @@ use Rattle.network_session.proofs.Working.{there_after}
 use Rattle.network_run.specs.Code.Calls.{Speak, Speaks}
 use Rattle.mote_session.specs.Voices.{IsCall, Voices}
 use Rattle.network_run.specs.Voices.{MakeTheCalls}
-use Rattle.network_text.specs.NetworkRuns.{IsMove, Leads, Move, after_move, log_of, moved}
+use Rattle.network_steps.specs.NetworkRuns.{IsMove, Leads, Move, after_move, log_of, moved}
 
 -- moves after others
 

@@ -4,20 +4,20 @@ use Rattle.mote_types.specs.declared.call.Call.{Call}
 use Rattle.network_session.specs.Network.{NetworkView}
 use Rattle.network_session.specs.Steps.{IsNetworkSubmitted}
 use Rattle.network_session.specs.declared.outcome.Outcome.{Outcome}
-use Rattle.network_run.specs.Code.Way.{Faulted, Goes, IsReason, Place, Stopped, Takes, TakesIf, TakesInputIf, Went, is_write, place}
+use Rattle.network_run.specs.Code.Way.{Faulted, Goes, IsReason, Moment, Stopped, Takes, TakesIf, TakesInputIf, Went, is_write, moment}
 use Rattle.std.proofs.lemmas.List.Elements.{filter_map-append}
-use Rattle.network_run.specs.Code.Writing.{Puts, WritesOn}
+use Rattle.mote_text.specs.Code.Writing.{WritesIf, WritesOn}
 use Rattle.network_run.specs.declared.fault.RunFault.{RunFault}
 use Rattle.network_run.specs.Code.Calls.{IsActiveCall, Speaks}
 use Rattle.mote_session.specs.Voices.{Voices}
 use Rattle.network_run.specs.Code.Ready.{IsRefusedOf, IsWithin, StaysWithin, is_turn}
 use Rattle.network_run.proofs.Ready.{ends_closed, leads_awaits, leads_ready, move_within}
 use Rattle.network_run.proofs.Speaking.{speak_on}
-use Rattle.network_run.proofs.Writing.{nothing_more, then_written}
+use Rattle.mote_text.proofs.Writing.{nothing_more, then_written}
 use Rattle.network_run.specs.Outside.{Outside, all_outside, outside_of}
-use Rattle.network_text.specs.NetworkRuns.{DoesStep, IsMove, Move, after_move, move_lines}
-use Rattle.network_text.specs.declared.input.NetworkInput.{NetworkInput}
-use Rattle.network_text.proofs.Moves.{leads_on, text_on}
+use Rattle.network_steps.specs.NetworkRuns.{DoesStep, IsMove, Move, after_move, move_lines}
+use Rattle.network_steps.specs.declared.input.NetworkInput.{NetworkInput}
+use Rattle.network_steps.proofs.Moves.{leads_on, text_on}
 
 only_write : (fault : RunFault) {lost due : List ℕ} → fault ≡ RunFault.Write → is_write fault ≡ false → lost ≡ due
 only_write fault is not = let yes : is_write fault ≡ true = ap is_write is in absurd (cc)
@@ -41,7 +41,7 @@ pub fault_on : {T : Type 0} (result : Result T RunFault) (P : T → Type 0) (Q :
 fault_on (Ok x) P Q fault is q = absurd is
 fault_on (Err handed) P Q fault is q = subst Q (sym is) q
 
-pub input_fault_on : (quiet : Bool) (result : Result Bool RunFault) (input : NetworkInput) (from to : Place) (fault : RunFault) →
+pub input_fault_on : (quiet : Bool) (result : Result Bool RunFault) (input : NetworkInput) (from to : Moment) (fault : RunFault) →
     IsErrAnd result (λ (handed : RunFault). handed ≡ fault) → TakesInputIf (Err fault) quiet input from to → TakesInputIf result quiet input from to
 input_fault_on quiet (Ok x) input from to fault is takes = absurd is
 input_fault_on quiet (Err handed) input from to fault is takes =
@@ -57,10 +57,10 @@ on_any (Ok x) p = p
 on_any (Err fault) p = tt
 
 module _ (quiet : Bool) where
-  pub went_nowhere : (here : Place) → Went quiet [] here here
+  pub went_nowhere : (here : Moment) → Went quiet [] here here
   went_nowhere here = record { moves = []; leads = refl; calls = refl; carried = refl; answered = refl; within = λ w. w; writes = nothing_more here.given here.due }
 
-  pub went_on : {outside more : List Outside} {from mid to : Place} → Went quiet outside from mid → Went quiet more mid to → Went quiet (outside ++ more) from to
+  pub went_on : {outside more : List Outside} {from mid to : Moment} → Went quiet outside from mid → Went quiet more mid to → Went quiet (outside ++ more) from to
   went_on {outside} {more} {from} {mid} {to} first second = record {
     moves = first.moves ++ second.moves;
     leads = leads_on first.moves second.moves from.net mid.net to.net first.leads second.leads;
@@ -74,14 +74,14 @@ module _ (quiet : Bool) where
   }
 
   -- with nothing more from outside
-  pub went_further : {outside : List Outside} {from mid to : Place} → Went quiet outside from mid → Went quiet [] mid to → Went quiet outside from to
+  pub went_further : {outside : List Outside} {from mid to : Moment} → Went quiet outside from mid → Went quiet [] mid to → Went quiet outside from to
   went_further {outside} {from} {mid} {to} first second = subst (λ (all : List Outside). Went quiet all from to) (append-nil outside) (went_on first second)
 
   -- one move
   pub went_move : (move : Move) (outside : List Outside) (old new : NetworkView) {given due given_later due_later : List ℕ} {voices later : Voices} →
       IsMove old move → after_move move ≡ new → Speaks old move voices later → all_outside (move ∷ []) ≡ outside → is_turn move ≡ false → StaysWithin old move →
       WritesOn given due given_later due_later (move_lines quiet old move) →
-      Went quiet outside (place given due old voices) (place given_later due_later new later)
+      Went quiet outside (moment given due old voices) (moment given_later due_later new later)
   went_move move outside old new {given} {due} {given_later} {due_later} {later = later} is after speaks carried no_turn stays writes = record {
     moves = move ∷ [];
     leads = (is, after);
@@ -95,19 +95,19 @@ module _ (quiet : Bool) where
   -- a move with no line
   pub went_mute : (move : Move) (outside : List Outside) (old new : NetworkView) (given due : List ℕ) (voices later : Voices) →
       IsMove old move → after_move move ≡ new → Speaks old move voices later → all_outside (move ∷ []) ≡ outside → is_turn move ≡ false → StaysWithin old move → move_lines quiet old move ≡ [] →
-      Went quiet outside (place given due old voices) (place given due new later)
+      Went quiet outside (moment given due old voices) (moment given due new later)
   went_mute move outside old new given due voices later is after speaks carried no_turn stays none =
       went_move move outside old new is after speaks carried no_turn stays (subst (λ (text : List ℕ). WritesOn given due given due text) (sym none) (nothing_more given due))
 
   -- nothing is left, and nothing is lost but by a write
-  pub all_carried : {outside : List Outside} {from to : Place} (lost : List ℕ) → Went quiet outside from (record to { due = lost }) → Stopped quiet outside [] lost from to
+  pub all_carried : {outside : List Outside} {from to : Moment} (lost : List ℕ) → Went quiet outside from (record to { due = lost }) → Stopped quiet outside [] lost from to
   all_carried {outside} lost went = record { carried = outside; parts = sym (append-nil outside); went = went }
 
   -- a move whose lines are put
   pub goes_move : {T : Type 0} (result : Result T RunFault) (move : Move) (outside : List Outside) (old new : NetworkView) (given due given_later due_later : List ℕ)
       (voices later : Voices) → IsMove old move → after_move move ≡ new → Speaks old move voices later → all_outside (move ∷ []) ≡ outside → is_turn move ≡ false → StaysWithin old move →
-      IfErr result (λ fault. fault ≡ RunFault.Write) → Puts result given due given_later due_later (move_lines quiet old move) →
-      Goes result quiet outside (place given due old voices) (place given_later due_later new later)
+      IfErr result (λ fault. fault ≡ RunFault.Write) → WritesIf result given due given_later due_later (move_lines quiet old move) →
+      Goes result quiet outside (moment given due old voices) (moment given_later due_later new later)
   goes_move (Ok x) move outside old new given due given_later due_later voices later is after speaks carried no_turn stays write puts =
       went_move move outside old new is after speaks carried no_turn stays puts
   goes_move (Err fault) move outside old new given due given_later due_later voices later is after speaks carried no_turn stays write puts = record {
@@ -124,7 +124,7 @@ module _ (quiet : Bool) where
   went_turn : (m : ℕ) (call : Call) (old mid new : NetworkView) {given due given_later due_later : List ℕ} {voices later : Voices} →
       DoesStep (Outcome.Turn m) old mid → IsNetworkSubmitted call mid new → IsActiveCall mid new voices later →
       WritesOn given due given_later due_later (move_lines quiet mid (Move.Submit call new)) →
-      Went quiet [] (place given due old voices) (place given_later due_later new later)
+      Went quiet [] (moment given due old voices) (moment given_later due_later new later)
   went_turn m call old mid new {given} {due} {given_later} {due_later} {voices} {later} does submitted spoke writes = record {
     moves = Move.Step (Outcome.Turn m) mid ∷ Move.Submit call new ∷ [];
     leads = (does, (submitted, refl));
@@ -137,8 +137,8 @@ module _ (quiet : Bool) where
 
   pub goes_turn : {T : Type 0} (result : Result T RunFault) (m : ℕ) (call : Call) (old mid new : NetworkView) (given due given_later due_later : List ℕ)
       (voices later : Voices) → DoesStep (Outcome.Turn m) old mid → IsNetworkSubmitted call mid new → IsActiveCall mid new voices later →
-      IfErr result (λ fault. fault ≡ RunFault.Write) → Puts result given due given_later due_later (move_lines quiet mid (Move.Submit call new)) →
-      Goes result quiet [] (place given due old voices) (place given_later due_later new later)
+      IfErr result (λ fault. fault ≡ RunFault.Write) → WritesIf result given due given_later due_later (move_lines quiet mid (Move.Submit call new)) →
+      Goes result quiet [] (moment given due old voices) (moment given_later due_later new later)
   goes_turn (Ok x) m call old mid new given due given_later due_later voices later does submitted spoke write puts =
       went_turn m call old mid new does submitted spoke puts
   goes_turn (Err fault) m call old mid new given due given_later due_later voices later does submitted spoke write puts = record {
@@ -152,7 +152,7 @@ module _ (quiet : Bool) where
   }
 
   -- what comes is refused after that
-  pub faulted_then : {outside : List Outside} {from mid : Place} (left : List Outside) (fault : RunFault) (new : NetworkView) (later : Voices) →
+  pub faulted_then : {outside : List Outside} {from mid : Moment} (left : List Outside) (fault : RunFault) (new : NetworkView) (later : Voices) →
       Went quiet outside from mid → new ≡ mid.net → IsReason fault mid.net left → IsRefusedOf fault from.net →
       Faulted quiet (outside ++ left) fault from (record mid { net = new; voices = later })
   faulted_then {outside} {from} {mid} left fault new later went same why much = record {
@@ -167,7 +167,7 @@ module _ (quiet : Bool) where
 
   -- and before that, others
 
-  pub stopped_after : {outside more left : List Outside} {lost : List ℕ} {from mid to : Place} → Went quiet outside from mid → Stopped quiet more left lost mid to →
+  pub stopped_after : {outside more left : List Outside} {lost : List ℕ} {from mid to : Moment} → Went quiet outside from mid → Stopped quiet more left lost mid to →
       Stopped quiet (outside ++ more) left lost from to
   stopped_after {outside} {more} {left} first second = record {
     carried = outside ++ second.carried;
@@ -175,13 +175,13 @@ module _ (quiet : Bool) where
     went = went_on first second.went;
   }
 
-  refused_after : {outside : List Outside} {from mid : Place} (fault : RunFault) → Went quiet outside from mid → IsRefusedOf fault mid.net → IsRefusedOf fault from.net
+  refused_after : {outside : List Outside} {from mid : Moment} (fault : RunFault) → Went quiet outside from mid → IsRefusedOf fault mid.net → IsRefusedOf fault from.net
   refused_after RunFault.Write first much = tt
   refused_after {from = from} {mid = mid} (RunFault.Refused fault) first much = λ ready none within.
       much (leads_ready first.moves from.net mid.net ready first.leads) (leads_awaits first.moves from.net mid.net none first.leads first.answered)
       (first.within within)
 
-  pub faulted_after : {outside more : List Outside} {fault : RunFault} {from mid to : Place} → Went quiet outside from mid → Faulted quiet more fault mid to →
+  pub faulted_after : {outside more : List Outside} {fault : RunFault} {from mid to : Moment} → Went quiet outside from mid → Faulted quiet more fault mid to →
       Faulted quiet (outside ++ more) fault from to
   faulted_after {fault = fault} first second = record {
     left = second.left;
@@ -193,14 +193,14 @@ module _ (quiet : Bool) where
     stopped = stopped_after first second.stopped;
   }
 
-  pub goes_after : {T : Type 0} (result : Result T RunFault) (outside more : List Outside) (from mid to : Place) → Went quiet outside from mid →
+  pub goes_after : {T : Type 0} (result : Result T RunFault) (outside more : List Outside) (from mid to : Moment) → Went quiet outside from mid →
       Goes result quiet more mid to → Goes result quiet (outside ++ more) from to
   goes_after (Ok x) outside more from mid to first goes = went_on first goes
   goes_after (Err fault) outside more from mid to first goes = faulted_after first goes
 
   -- before further things
 
-  pub stopped_before : {outside left : List Outside} (more : List Outside) {lost : List ℕ} {from to : Place} → Stopped quiet outside left lost from to →
+  pub stopped_before : {outside left : List Outside} (more : List Outside) {lost : List ℕ} {from to : Moment} → Stopped quiet outside left lost from to →
       Stopped quiet (outside ++ more) (left ++ more) lost from to
   stopped_before {left = left} more first = record {
     carried = first.carried;
@@ -208,7 +208,7 @@ module _ (quiet : Bool) where
     went = first.went;
   }
 
-  pub faulted_before : {outside : List Outside} (more : List Outside) {fault : RunFault} {from to : Place} → Faulted quiet outside fault from to →
+  pub faulted_before : {outside : List Outside} (more : List Outside) {fault : RunFault} {from to : Moment} → Faulted quiet outside fault from to →
       Faulted quiet (outside ++ more) fault from to
   faulted_before more {fault = fault} {to = to} first = record {
     left = first.left ++ more;
@@ -221,13 +221,13 @@ module _ (quiet : Bool) where
   }
 
   -- something comes, and the network rests after it, or not
-  pub takes_all : (result : Result Bool RunFault) (outside : List Outside) (from to : Place) → Goes result quiet outside from to → TakesIf result quiet outside from to
+  pub takes_all : (result : Result Bool RunFault) (outside : List Outside) (from to : Moment) → Goes result quiet outside from to → TakesIf result quiet outside from to
   takes_all (Ok rests) outside from to went = record { left = []; all = λ yes. refl; stopped = all_carried to.due went }
   takes_all (Err fault) outside from to faulted = faulted
 
   -- a network that refuses is as it was, whatever the application said that has no such turn
   pub faulted_same : (outside : List Outside) (fault : RunFault) (given due : List ℕ) (old new : NetworkView) (voices later : Voices) → new ≡ old →
-      IsReason fault old outside → IsRefusedOf fault old → Faulted quiet outside fault (place given due old voices) (place given due new later)
+      IsReason fault old outside → IsRefusedOf fault old → Faulted quiet outside fault (moment given due old voices) (moment given due new later)
   faulted_same outside fault given due old new voices later same why much = record {
     left = outside;
     why = rw same why;
@@ -235,14 +235,14 @@ module _ (quiet : Bool) where
     lost = due;
     kept = λ not. refl;
     voices = voices;
-    stopped = record { carried = []; parts = refl; went = rw same (went_nowhere (place given due old voices)) };
+    stopped = record { carried = []; parts = refl; went = rw same (went_nowhere (moment given due old voices)) };
   }
 
   -- a move whose lines are lost
   pub faulted_move : (fault : RunFault) (move : Move) (outside : List Outside) (old new : NetworkView) (given due given_later due_later lost : List ℕ)
       (voices later : Voices) → IsMove old move → after_move move ≡ new → Speaks old move voices later → all_outside (move ∷ []) ≡ outside → is_turn move ≡ false → StaysWithin old move → fault ≡ RunFault.Write →
       WritesOn given due given_later lost (move_lines quiet old move) →
-      Faulted quiet outside fault (place given due old voices) (place given_later due_later new later)
+      Faulted quiet outside fault (moment given due old voices) (moment given_later due_later new later)
   faulted_move fault move outside old new given due given_later due_later lost voices later is after speaks carried no_turn stays write writes = record {
     left = [];
     why = needs_no_reason fault new [] write;
@@ -255,24 +255,24 @@ module _ (quiet : Bool) where
 
   -- the network rests after that
 
-  pub takes_went : {outside : List Outside} {from to : Place} → Went quiet outside from to → Takes quiet outside true from to
+  pub takes_went : {outside : List Outside} {from to : Moment} → Went quiet outside from to → Takes quiet outside true from to
   takes_went {to = to} went = record { left = []; all = λ yes. refl; stopped = all_carried to.due went }
 
   pub takes_same : (given due : List ℕ) (old new : NetworkView) (voices : Voices) → new ≡ old →
-      Takes quiet [] true (place given due old voices) (place given due new voices)
-  takes_same given due old new voices same = rw same (takes_went (went_nowhere (place given due old voices)))
+      Takes quiet [] true (moment given due old voices) (moment given due new voices)
+  takes_same given due old new voices same = rw same (takes_went (went_nowhere (moment given due old voices)))
 
-  pub went_of : {outside : List Outside} {rests : Bool} {from to : Place} → Takes quiet outside rests from to → rests ≡ true → Went quiet outside from to
+  pub went_of : {outside : List Outside} {rests : Bool} {from to : Moment} → Takes quiet outside rests from to → rests ≡ true → Went quiet outside from to
   went_of {outside} {from = from} {to = to} takes rests =
       subst (λ (all : List Outside). Went quiet all from to)
       (sym (takes.stopped.parts ∙ (ap (λ (left : List Outside). takes.stopped.carried ++ left) (takes.all rests) ∙ append-nil takes.stopped.carried)))
       takes.stopped.went
 
-  pub takes_after : (result : Result Bool RunFault) (outside more : List Outside) (from mid to : Place) → Went quiet outside from mid →
+  pub takes_after : (result : Result Bool RunFault) (outside more : List Outside) (from mid to : Moment) → Went quiet outside from mid →
       TakesIf result quiet more mid to → TakesIf result quiet (outside ++ more) from to
   takes_after (Ok rests) outside more from mid to first takes = record { left = takes.left; all = takes.all; stopped = stopped_after first takes.stopped }
   takes_after (Err fault) outside more from mid to first faulted = faulted_after first faulted
 
-  pub takes_before : {outside : List Outside} {rests : Bool} {from to : Place} (more : List Outside) → Takes quiet outside rests from to →
+  pub takes_before : {outside : List Outside} {rests : Bool} {from to : Moment} (more : List Outside) → Takes quiet outside rests from to →
       Takes quiet (outside ++ more) false from to
   takes_before more takes = record { left = takes.left ++ more; all = λ yes. absurd (cc); stopped = stopped_before more takes.stopped }

@@ -2,7 +2,5 @@
 pub mod Calls
 pub mod Lines
 pub mod Ready
-pub mod StepText
 pub mod Steps
 pub mod Way
-pub mod Writing

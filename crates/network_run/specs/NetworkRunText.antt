@@ -1,5 +1,5 @@
 -- What a network's run writes.
-use Rattle.std.specs.Prelude.{◌≡◌, ◌⊎◌, ℕ, ◌≤◌, ◌^◌, ◌==◌, Bool, List, [], ◌∷◌, ◌++◌, slice_get, Option, None, Some, IfSome, Result, Ok, Err, if◌then◌else◌}
+use Rattle.std.specs.Prelude.{◌≡◌, ◌⊎◌, ℕ, ◌≤◌, ◌^◌, Bool, List, [], ◌∷◌, ◌++◌, slice_get, Option, None, Some, IfSome, Result, Ok, Err}
 use Rattle.kernel_core.specs.declared.config.Config.{Config}
 use Rattle.medium_core.specs.declared.link.Link.{Link}
 use Rattle.mote_session.specs.SessionView.{SessionView}
@@ -15,19 +15,9 @@ use Rattle.network_run.specs.declared.fault.RunFault.{RunFault}
 use Rattle.mote_session.specs.Voices.{Voices}
 use Rattle.network_run.specs.Outside.{AreInTurn, Outside, all_outside, givens, next_refusal}
 use Rattle.network_run.specs.Voices.{MakeTheCalls}
-use Rattle.network_text.specs.NetworkRuns.{IsResting, Leads, Move, inputs_of, log_of, moves_text}
-use Rattle.network_text.specs.NetworkText.{last_line}
-use Rattle.network_text.specs.declared.input.NetworkInput.{NetworkInput}
-
--- one more byte, which is no newline, in front of the first line
-abbrev pub onto_line : ℕ → List (List ℕ) → List (List ℕ)
-onto_line byte [] = (byte ∷ []) ∷ []
-onto_line byte (line ∷ lines) = (byte ∷ line) ∷ lines
-
--- the lines that newlines end; what follows the last newline is a line where it has bytes
-abbrev pub script_lines : List ℕ → List (List ℕ)
-script_lines [] = []
-script_lines (byte ∷ bytes) = if byte == 10 then [] ∷ script_lines bytes else onto_line byte (script_lines bytes)
+use Rattle.network_steps.specs.NetworkRuns.{IsResting, Leads, Move, inputs_of, log_of, moves_text}
+use Rattle.network_steps.specs.NetworkText.{last_line}
+use Rattle.network_steps.specs.declared.input.NetworkInput.{NetworkInput}
 
 -- no mote is at work, something is left to do, and the input has used up its rounds
 pub record IsSpent (net : NetworkView) : Type 0 where

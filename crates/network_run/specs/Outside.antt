@@ -4,8 +4,8 @@ use Rattle.mote_session.specs.SessionView.{SessionView}
 use Rattle.network_session.specs.Network.{NetworkView}
 use Rattle.network_session.specs.Refusals.{catch_up_refusal, feed_refusal, pass_refusal}
 use Rattle.network_session.specs.declared.fault.NetworkFault.{NetworkFault}
-use Rattle.network_text.specs.NetworkRuns.{Move}
-use Rattle.network_text.specs.declared.input.NetworkInput.{NetworkInput}
+use Rattle.network_steps.specs.NetworkRuns.{Move}
+use Rattle.network_steps.specs.declared.input.NetworkInput.{NetworkInput}
 
 pub data Outside : Type 0 where
   -- mote m gets the time

@@ -1,5 +1,6 @@
 //! Why a network's run failed.
 
+use mote_types::fault::DeviceFault;
 use network_session::fault::NetworkFault;
 
 /// Why a network's run failed.
@@ -9,4 +10,15 @@ pub enum RunFault {
     Write,
     /// The network refused a step or an input: a mote was handed 2^40 inputs, or the clock would exceed 2^62.
     Refused(NetworkFault),
+}
+
+impl From<DeviceFault> for RunFault {
+    ghost use Rattle.std.specs.Prelude.{◌≡◌};
+    ghost use Rattle.network_run.specs.declared.fault.RunFault.TheVariants.{Write};
+
+    ghost from_gives = { λ _ fault. fault ≡ Write };
+
+    fn from(_fault: DeviceFault) -> Self {
+        RunFault::Write
+    }
 }

@@ -1,46 +1,29 @@
 //! Execution of a network's inputs.
 
-ghost use Rattle.std.specs.Prelude.{◌≡◌, ◌<◌, ◌+◌, ◌-◌, ◌^◌, ◌∷◌, [], true, length, slice_get, IfOk};
-ghost use Rattle.network_run.specs.Code.Ready.{ComesFromOutside, IsFromOutside, IsOnTime, IsReady, was_behind};
-ghost use Rattle.network_run.specs.Code.Way.{CountsFaults, RestsIf, TakesIf, TakesInputIf, TellsIf, place};
-ghost use Rattle.network_run.specs.Outside.{Outside, was_halted};
-ghost use Rattle.network_text.specs.NetworkRuns.{IsResting};
-ghost use Rattle.network_text.specs.NetworkScript.{is_for_some};
-ghost use Rattle.network_text.specs.declared.input.NetworkInput.{NetworkInput};
+ghost use Rattle.std.specs.Prelude.{◌≡◌, ◌<◌, ◌+◌, ◌-◌, ◌^◌, ◌∷◌, [], true, length, IfOk};
+ghost use Rattle.network_run.specs.Code.Ready.{ComesFromOutside, IsFromOutside, IsOnTime, IsReady};
+ghost use Rattle.network_run.specs.Code.Way.{CountsFaults, RestsIf, TakesIf, TakesInputIf, TellsIf, moment};
+ghost use Rattle.network_run.specs.Outside.{Outside};
+ghost use Rattle.network_steps.specs.NetworkRuns.{IsResting};
+ghost use Rattle.network_steps.specs.NetworkScript.{is_for_some};
+ghost use Rattle.network_steps.specs.declared.input.NetworkInput.{NetworkInput};
 
 use crate::fault::RunFault;
-use crate::pending_text::PendingText;
 use crate::settle::run_to_rest;
+use crate::steps::put_own;
 use mote_session::caller::Caller;
+use mote_text::output_buffer::OutputBuffer;
 use mote_types::device::ByteSink;
 use mote_types::entry::Input;
 use network_session::network::Network;
-use network_text::input::NetworkInput;
-
-/// Whether there is this mote, and it was halted.
-fn is_halted(network: &Network, mote: usize) -> bool
-    ensures { result ≡ was_halted (slice_get network.now.motes mote) }
-{
-    match network.mote(mote) {
-        Some(session) => session.halted(),
-        None => false,
-    }
-}
-
-/// Whether there is this mote, and its clock is behind that of the network.
-fn is_behind(network: &Network, mote: usize) -> bool
-    ensures { result ≡ was_behind (slice_get network.now.motes mote) network.now.air.clock }
-{
-    match network.mote(mote) {
-        Some(session) => session.clock() < network.clock(),
-        None => false,
-    }
-}
+use network_steps::came::Came;
+use network_steps::giving::{give_input, give_time};
+use network_steps::input::NetworkInput;
 
 /// Lets the clock go on. Returns whether the network rests after that; otherwise the input has used up its rounds.
 fn pass_time<K: ByteSink, H: Caller>(
     sink: &mut K,
-    text: &mut PendingText,
+    text: &mut OutputBuffer,
     caller: &mut H,
     network: &mut Network,
     ticks: u32,
@@ -49,8 +32,8 @@ fn pass_time<K: ByteSink, H: Caller>(
     requires rests { IsResting network.old }
     requires countable { K.failure_count sink.old < 2 ^ 64 - 1 }
     ensures takes { K.is_named → TakesIf result quiet (Outside.Given (NetworkInput.Tick ticks) ∷ [])
-        (place (K.given sink.old) text.old.due.items network.old (H.voices caller.old))
-        (place (K.given sink.new) text.new.due.items network.new (H.voices caller.new)) }
+        (moment (K.given sink.old) text.old.items network.old (H.voices caller.old))
+        (moment (K.given sink.new) text.new.items network.new (H.voices caller.new)) }
     ensures rests { IfOk result (λ rests. RestsIf rests network.new) }
     ensures failures { CountsFaults result (K.failure_count sink.old) (K.failure_count sink.new) }
 {
@@ -63,30 +46,25 @@ fn pass_time<K: ByteSink, H: Caller>(
 /// Gives the time to a mote whose clock is behind, and lets it work.
 fn catch_up<K: ByteSink, H: Caller>(
     sink: &mut K,
-    text: &mut PendingText,
+    text: &mut OutputBuffer,
     caller: &mut H,
     network: &mut Network,
     mote: usize,
     quiet: bool,
 ) -> Result<bool, RunFault>
     requires rests { IsResting network.old }
+    requires there { mote < length network.old.motes }
     requires countable { K.failure_count sink.old < 2 ^ 64 - 1 }
     ensures takes { K.is_named → TellsIf result quiet mote
-        (place (K.given sink.old) text.old.due.items network.old (H.voices caller.old))
-        (place (K.given sink.new) text.new.due.items network.new (H.voices caller.new)) }
+        (moment (K.given sink.old) text.old.items network.old (H.voices caller.old))
+        (moment (K.given sink.new) text.new.items network.new (H.voices caller.new)) }
     ensures on_time { K.is_named → IsReady network.old → IfOk result (λ rests. rests ≡ true → IsOnTime mote network.new) }
     ensures rests { IfOk result (λ rests. RestsIf rests network.new) }
     ensures failures { CountsFaults result (K.failure_count sink.old) (K.failure_count sink.new) }
 {
-    if is_halted(network, mote) {
-        return Ok(true);
-    }
-    if !is_behind(network, mote) {
-        return Ok(true);
-    }
-    match network.catch_up(mote) {
-        Ok(is_told) => {
-            if is_told {
+    match give_time(network, mote) {
+        Ok(is_given) => {
+            if is_given {
                 run_to_rest(sink, text, caller, network, quiet)
             } else {
                 Ok(true)
@@ -99,7 +77,7 @@ fn catch_up<K: ByteSink, H: Caller>(
 /// Gives the time to a mote that is behind, and then an input. A halted mote misses it.
 fn feed<K: ByteSink, H: Caller>(
     sink: &mut K,
-    text: &mut PendingText,
+    text: &mut OutputBuffer,
     caller: &mut H,
     network: &mut Network,
     mote: usize,
@@ -111,20 +89,23 @@ fn feed<K: ByteSink, H: Caller>(
     requires outside { IsFromOutside input }
     requires countable { K.failure_count sink.old < 2 ^ 64 - 1 }
     ensures takes { K.is_named → TakesInputIf result quiet (NetworkInput.ForMote (mote + 1) input)
-        (place (K.given sink.old) text.old.due.items network.old (H.voices caller.old))
-        (place (K.given sink.new) text.new.due.items network.new (H.voices caller.new)) }
+        (moment (K.given sink.old) text.old.items network.old (H.voices caller.old))
+        (moment (K.given sink.new) text.new.items network.new (H.voices caller.new)) }
     ensures rests { IfOk result (λ rests. RestsIf rests network.new) }
     ensures failures { CountsFaults result (K.failure_count sink.old) (K.failure_count sink.new) }
 {
     if !catch_up(sink, text, caller, network, mote, quiet)? {
         return Ok(false);
     }
-    if is_halted(network, mote) {
-        text.put_unheard(sink, mote, quiet)?;
-        return Ok(true);
-    }
-    match network.feed(mote, input) {
-        Ok(()) => run_to_rest(sink, text, caller, network, quiet),
+    match give_input(network, mote, input) {
+        Ok(is_given) => {
+            if is_given {
+                run_to_rest(sink, text, caller, network, quiet)
+            } else {
+                put_own(sink, text, network, Came::Unheard(mote), quiet)?;
+                Ok(true)
+            }
+        }
         Err(fault) => Err(RunFault::Refused(fault)),
     }
 }
@@ -132,7 +113,7 @@ fn feed<K: ByteSink, H: Caller>(
 /// Carries out an input, if there is the mote that it is for. Returns whether the network rests after that.
 pub(crate) fn take_input<K: ByteSink, H: Caller>(
     sink: &mut K,
-    text: &mut PendingText,
+    text: &mut OutputBuffer,
     caller: &mut H,
     network: &mut Network,
     input: NetworkInput,
@@ -143,8 +124,8 @@ pub(crate) fn take_input<K: ByteSink, H: Caller>(
     requires outside { ComesFromOutside input }
     requires countable { K.failure_count sink.old < 2 ^ 64 - 1 }
     ensures takes { K.is_named → TakesInputIf result quiet input
-        (place (K.given sink.old) text.old.due.items network.old (H.voices caller.old))
-        (place (K.given sink.new) text.new.due.items network.new (H.voices caller.new)) }
+        (moment (K.given sink.old) text.old.items network.old (H.voices caller.old))
+        (moment (K.given sink.new) text.new.items network.new (H.voices caller.new)) }
     ensures rests { IfOk result (λ rests. RestsIf rests network.new) }
     ensures failures { CountsFaults result (K.failure_count sink.old) (K.failure_count sink.new) }
 {

@@ -3,9 +3,7 @@
 
 pub mod fault;
 mod input;
-mod pending_text;
 pub mod run;
-pub mod script;
+mod script;
 mod settle;
 mod steps;
-pub mod write;

@@ -1,28 +1,31 @@
 //! The run of a network.
 
 ghost use Rattle.std.specs.Prelude.{◌≡◌, ◌<◌, ◌+◌, ◌-◌, ◌^◌, ◌↔◌, [], ℕ, Bool, List, None, false, length, if◌then◌else◌, IfOk, IsErrOf};
-ghost use Rattle.network_run.specs.Code.Way.{CountsFaults, Ends, HasCome, LineRuns, Place, Reading, RunFaulted, RunsIf, is_write, place};
-ghost use Rattle.network_run.specs.NetworkRunText.{Gives, HasRun, script_lines};
+ghost use Rattle.network_run.specs.Code.Way.{CountsFaults, Ends, HasCome, LineRuns, Moment, Reading, RunFaulted, RunsIf, is_write, moment};
+ghost use Rattle.network_run.specs.NetworkRunText.{Gives, HasRun};
+ghost use Rattle.mote_text.specs.ScriptLines.{script_lines};
 ghost use Rattle.mote_session.specs.Voices.{Voices};
 ghost use Rattle.network_session.specs.Network.{NetworkView};
-ghost use Rattle.network_text.specs.NetworkRuns.{IsResting};
-ghost use Rattle.network_text.specs.NetworkScript.{read_network_line, read_network_lines, with_network_line};
+ghost use Rattle.network_steps.specs.NetworkRuns.{IsResting};
+ghost use Rattle.network_steps.specs.NetworkScript.{read_network_line, read_network_lines, with_network_line};
 
 use crate::fault::RunFault;
 use crate::input::take_input;
-use crate::pending_text::PendingText;
-use crate::script::{Line, first_line, read_line};
+use crate::script::{Line, read_line};
 use crate::settle::run_to_rest;
+use crate::steps::put_end;
 pub use mote_session::caller::Caller;
+use mote_text::output_buffer::OutputBuffer;
 use mote_text::script::End;
+use mote_text::script_lines::first_line;
 use mote_types::device::ByteSink;
 use network_session::network::Network;
-use network_text::laws::texts_go_on;
+use network_steps::laws::texts_go_on;
 
 /// Carries out a line, which has this number. Returns how the run ends, if it ends here.
 fn take_line<K: ByteSink, H: Caller>(
     sink: &mut K,
-    text: &mut PendingText,
+    text: &mut OutputBuffer,
     caller: &mut H,
     network: &mut Network,
     line: &[u8],
@@ -31,11 +34,11 @@ fn take_line<K: ByteSink, H: Caller>(
 ) -> Result<Option<End>, RunFault>
     requires rests { IsResting network.old }
     requires countable { K.failure_count sink.old < 2 ^ 64 - 1 }
-    ensures runs { K.is_named → (script later : Reading) (from : Place) →
+    ensures runs { K.is_named → (script later : Reading) (from : Moment) →
         HasCome quiet script (with_network_line number (read_network_line (length from.net.motes) line.now) later) from
-        (place (K.given sink.old) text.old.due.items network.old (H.voices caller.old)) →
+        (moment (K.given sink.old) text.old.items network.old (H.voices caller.old)) →
         LineRuns result quiet script later from
-        (place (K.given sink.new) text.new.due.items network.new (H.voices caller.new)) }
+        (moment (K.given sink.new) text.new.items network.new (H.voices caller.new)) }
     ensures rests { IfOk result (λ ending. ending ≡ None → IsResting network.new) }
     ensures failures { CountsFaults result (K.failure_count sink.old) (K.failure_count sink.new) }
 {
@@ -55,7 +58,7 @@ fn take_line<K: ByteSink, H: Caller>(
 /// Carries out the lines of a script, the first of which has the number `first`. Returns how the run ends.
 fn take_lines<K: ByteSink, H: Caller>(
     sink: &mut K,
-    text: &mut PendingText,
+    text: &mut OutputBuffer,
     caller: &mut H,
     network: &mut Network,
     script: &[u8],
@@ -66,8 +69,8 @@ fn take_lines<K: ByteSink, H: Caller>(
     requires numbers { first + length script.now < 2 ^ 32 }
     requires countable { K.failure_count sink.old < 2 ^ 64 - 1 }
     ensures runs { K.is_named → RunsIf result quiet (read_network_lines (length network.old.motes) first (script_lines script.now))
-        (place (K.given sink.old) text.old.due.items network.old (H.voices caller.old))
-        (place (K.given sink.new) text.new.due.items network.new (H.voices caller.new)) }
+        (moment (K.given sink.old) text.old.items network.old (H.voices caller.old))
+        (moment (K.given sink.new) text.new.items network.new (H.voices caller.new)) }
     ensures failures { CountsFaults result (K.failure_count sink.old) (K.failure_count sink.new) }
 {
     let mut rest = script;
@@ -86,7 +89,7 @@ fn take_lines<K: ByteSink, H: Caller>(
 /// Starts the motes, and executes the lines of a script. Returns how the run ends.
 fn carry_out<K: ByteSink, H: Caller>(
     sink: &mut K,
-    text: &mut PendingText,
+    text: &mut OutputBuffer,
     caller: &mut H,
     network: &mut Network,
     script: &[u8],
@@ -96,8 +99,8 @@ fn carry_out<K: ByteSink, H: Caller>(
     requires numbers { first + length script.now < 2 ^ 32 }
     requires countable { K.failure_count sink.old < 2 ^ 64 - 1 }
     ensures runs { K.is_named → RunsIf result quiet (read_network_lines (length network.old.motes) first (script_lines script.now))
-        (place (K.given sink.old) text.old.due.items network.old (H.voices caller.old))
-        (place (K.given sink.new) text.new.due.items network.new (H.voices caller.new)) }
+        (moment (K.given sink.old) text.old.items network.old (H.voices caller.old))
+        (moment (K.given sink.new) text.new.items network.new (H.voices caller.new)) }
     ensures failures { CountsFaults result (K.failure_count sink.old) (K.failure_count sink.new) }
 {
     if run_to_rest(sink, text, caller, network, quiet)? {
@@ -108,16 +111,16 @@ fn carry_out<K: ByteSink, H: Caller>(
 }
 
 /// Writes all pending output, and the last line of a run with this end.
-fn close<K: ByteSink>(sink: &mut K, text: &mut PendingText, end: End) -> Result<End, RunFault>
+fn close<K: ByteSink>(sink: &mut K, text: &mut OutputBuffer, end: End) -> Result<End, RunFault>
     requires countable { K.failure_count sink.old < 2 ^ 64 - 1 }
     ensures ran { K.is_named →
         (quiet : Bool) (script : Reading) (start net : NetworkView) (voices later : Voices) (given : List ℕ) →
-        Ends quiet script end (place given [] start voices) (place (K.given sink.old) text.old.due.items net later) →
+        Ends quiet script end (moment given [] start voices) (moment (K.given sink.old) text.old.items net later) →
         Gives given (K.given sink.new) (λ written. HasRun quiet start voices script written result) }
     ensures failures { CountsFaults result (K.failure_count sink.old) (K.failure_count sink.new) }
 {
     texts_go_on();
-    text.put_end(sink, end)?;
+    put_end(sink, text, end)?;
     text.flush(sink)?;
     Ok(end)
 }
@@ -133,11 +136,15 @@ fn is_write(fault: RunFault) -> bool
 }
 
 /// Writes all pending output after a fault, unless writing failed.
-fn fail<K: ByteSink>(sink: &mut K, text: &mut PendingText, fault: RunFault) -> Result<End, RunFault>
+fn fail<K: ByteSink>(
+    sink: &mut K,
+    text: &mut OutputBuffer,
+    fault: RunFault,
+) -> Result<End, RunFault>
     requires countable { is_write fault ≡ false → K.failure_count sink.old < 2 ^ 64 - 1 }
     ensures ran { K.is_named →
         (quiet : Bool) (script : Reading) (start net : NetworkView) (voices later : Voices) (given : List ℕ) →
-        RunFaulted quiet script.0 fault (place given [] start voices) (place (K.given sink.old) text.old.due.items net later) →
+        RunFaulted quiet script.0 fault (moment given [] start voices) (moment (K.given sink.old) text.old.items net later) →
         Gives given (K.given sink.new) (λ written. HasRun quiet start voices script written result) }
     ensures failures { (before : ℕ) → K.failure_count sink.old ≡ (if is_write fault then before + 1 else before) →
         CountsFaults result before (K.failure_count sink.new) }
@@ -179,7 +186,7 @@ pub fn run_network<K: ByteSink, H: Caller>(
     ensures write_fault { IsErrOf result RunFault.Write ↔ (K.failure_count sink.old < K.failure_count sink.new) }
 {
     let mut network = network;
-    let mut text = PendingText::new();
+    let mut text = OutputBuffer::new();
     match carry_out(sink, &mut text, caller, &mut network, script, first, quiet) {
         Ok(end) => close(sink, &mut text, end),
         Err(fault) => fail(sink, &mut text, fault),

@@ -1,29 +1,12 @@
-//! The lines of a script, and what they say.
+//! What the lines of a script say.
 
-ghost use Rattle.std.specs.Prelude.{◌≡◌, ◌<◌, ◌∷◌, ◌||◌, ◌==◌, [], length, slice_index, IfNone, IfSome};
+ghost use Rattle.std.specs.Prelude.{◌≡◌, ◌||◌, ◌==◌, length, slice_index};
 ghost use Rattle.network_run.specs.Code.Lines.{said_by};
-ghost use Rattle.network_run.specs.NetworkRunText.{script_lines};
-ghost use Rattle.network_text.specs.NetworkScript.{is_for_some, read_network_line};
+ghost use Rattle.network_steps.specs.NetworkScript.{is_for_some, read_network_line};
 
-use memchr::memchr;
 use mote_text::script::LINE_LIMIT;
 use network_session::network::Network;
-use network_text::input::{NetworkInput, read_network_input};
-
-/// The first line of a script, without its end, and what follows it.
-pub fn first_line(script: &[u8]) -> Option<(&[u8], &[u8])>
-    ensures line { IfSome result (λ parts. script_lines script.now ≡ parts.0.now ∷ script_lines parts.1.now) }
-    ensures fewer { IfSome result (λ parts. length parts.1.now < length script.now) }
-    ensures none { IfNone result (script.now ≡ []) }
-{
-    if script.is_empty() {
-        return None;
-    }
-    match memchr(b'\n', script) {
-        Some(end) => Some((&script[..end], &script[end + 1..])),
-        None => Some((script, &script[script.len()..])),
-    }
-}
+use network_steps::input::{NetworkInput, read_network_input};
 
 /// Whether a line says nothing: it is empty, or a comment.
 fn is_blank(line: &[u8]) -> bool

@@ -1,34 +1,106 @@
 //! The lines of what a network does.
 
-ghost use Rattle.std.specs.Prelude.{◌≡◌, ◌<◌, ◌-◌, ◌^◌, not, slice_get};
-ghost use Rattle.mote_session.specs.Sent.{sent_in};
-ghost use Rattle.network_run.specs.Code.StepText.{entry_text, step_text};
-ghost use Rattle.network_run.specs.Code.Writing.{CountsFailure, Puts};
-ghost use Rattle.network_text.specs.NetworkText.{fate_lines, if_shown, sent_lines};
+ghost use Rattle.std.specs.Prelude.{◌≡◌, ◌<◌, ◌-◌, ◌^◌, not, Some, IfErr};
+ghost use Rattle.medium_core.specs.Air.{links_from};
+ghost use Rattle.mote_session.specs.Code.Shown.{is_last_shown};
+ghost use Rattle.mote_text.specs.Code.Writing.{CountsFailure, WritesIf};
+ghost use Rattle.network_steps.specs.Lines.{came_line, shown_losses};
+ghost use Rattle.network_steps.specs.Works.{came_lines, sending_by};
+ghost use Rattle.network_steps.specs.declared.came.Came.TheVariants.{Entry};
+ghost use Rattle.network_steps.specs.Code.StepLines.{last_entry_line};
+ghost use Rattle.network_steps.specs.NetworkText.{fate_lines, if_shown, last_line};
 
 use crate::fault::RunFault;
-use crate::pending_text::PendingText;
-use medium_core::link::Link;
 use mote_session::session::Session;
+use mote_text::output_buffer::OutputBuffer;
+use mote_text::script::End;
 use mote_types::device::ByteSink;
 use network_session::network::Network;
-use network_session::outcome::Outcome;
+use network_steps::came::Came;
+use network_steps::came_lines::push_came;
+use network_steps::fates::next_fate;
+use network_steps::lines::{MOTE_LINE, push_last_entry, push_last_line};
 
-/// Puts a line for each link that didn't carry the frame that was sent last.
+/// Puts a line of the network's own, unless the transcript is quiet.
+pub(crate) fn put_own<K: ByteSink>(
+    sink: &mut K,
+    text: &mut OutputBuffer,
+    network: &Network,
+    came: Came,
+    quiet: bool,
+) -> Result<(), RunFault>
+    requires countable { K.failure_count sink.old < 2 ^ 64 - 1 }
+    ensures puts { K.is_named → WritesIf result (K.given sink.old) text.old.items (K.given sink.new) text.new.items
+        (if_shown (not quiet) (came_line came network.now)) }
+    ensures fault { IfErr result (λ fault. fault ≡ RunFault.Write) }
+    ensures failures { CountsFailure result (K.failure_count sink.old) (K.failure_count sink.new) }
+{
+    if quiet {
+        return Ok(());
+    }
+    text.make_room(sink, MOTE_LINE)?;
+    push_came(came, network, text);
+    Ok(())
+}
+
+/// Puts the line of a mote's last entry, if there is one, and it is shown.
+#[inline(always)]
+fn put_line<K: ByteSink>(
+    sink: &mut K,
+    text: &mut OutputBuffer,
+    mote: usize,
+    session: &Session,
+    quiet: bool,
+) -> Result<(), RunFault>
+    requires countable { K.failure_count sink.old < 2 ^ 64 - 1 }
+    ensures puts { K.is_named → WritesIf result (K.given sink.old) text.old.items (K.given sink.new) text.new.items
+        (if_shown (is_last_shown quiet session.now.last) (last_entry_line mote session.now.last)) }
+    ensures fault { IfErr result (λ fault. fault ≡ RunFault.Write) }
+    ensures failures { CountsFailure result (K.failure_count sink.old) (K.failure_count sink.new) }
+{
+    if !session.shows_last(quiet) {
+        return Ok(());
+    }
+    text.make_room(sink, MOTE_LINE)?;
+    push_last_entry(mote, session, text);
+    Ok(())
+}
+
+/// Puts the last line of a run that ends so, if there is one.
+pub(crate) fn put_end<K: ByteSink>(
+    sink: &mut K,
+    text: &mut OutputBuffer,
+    end: End,
+) -> Result<(), RunFault>
+    requires countable { K.failure_count sink.old < 2 ^ 64 - 1 }
+    ensures puts { K.is_named → WritesIf result (K.given sink.old) text.old.items (K.given sink.new) text.new.items (last_line end) }
+    ensures fault { IfErr result (λ fault. fault ≡ RunFault.Write) }
+    ensures failures { CountsFailure result (K.failure_count sink.old) (K.failure_count sink.new) }
+{
+    text.make_room(sink, MOTE_LINE)?;
+    push_last_line(end, text);
+    Ok(())
+}
+
+/// Puts a line for each link that didn't carry the frame which this mote has just sent.
 #[inline(never)]
 fn put_fates<K: ByteSink>(
     sink: &mut K,
-    text: &mut PendingText,
+    text: &mut OutputBuffer,
+    network: &Network,
     from: usize,
-    links: &[Link],
 ) -> Result<(), RunFault>
     requires countable { K.failure_count sink.old < 2 ^ 64 - 1 }
-    ensures puts { K.is_named →
-        Puts result (K.given sink.old) text.old.due.items (K.given sink.new) text.new.due.items (fate_lines from links.now) }
+    ensures puts { K.is_named → WritesIf result (K.given sink.old) text.old.items (K.given sink.new) text.new.items
+        (fate_lines from (links_from from network.now.air)) }
+    ensures fault { IfErr result (λ fault. fault ≡ RunFault.Write) }
     ensures failures { CountsFailure result (K.failure_count sink.old) (K.failure_count sink.new) }
 {
-    for link in links {
-        text.put_fate(sink, from, link)?;
+    let links = network.links(from);
+    let mut at = 0;
+    while let Some(fate) = next_fate(from, links, at) {
+        put_own(sink, text, network, fate.0, false)?;
+        at = fate.1;
     }
     Ok(())
 }
@@ -37,22 +109,23 @@ fn put_fates<K: ByteSink>(
 #[inline(always)]
 fn put_losses<K: ByteSink>(
     sink: &mut K,
-    text: &mut PendingText,
+    text: &mut OutputBuffer,
     network: &Network,
     mote: usize,
     session: &Session,
     quiet: bool,
 ) -> Result<(), RunFault>
     requires countable { K.failure_count sink.old < 2 ^ 64 - 1 }
-    ensures puts { K.is_named → Puts result (K.given sink.old) text.old.due.items (K.given sink.new) text.new.due.items
-        (if_shown (not quiet) (sent_lines mote (sent_in session.now.last) network.now.air)) }
+    ensures puts { K.is_named → WritesIf result (K.given sink.old) text.old.items (K.given sink.new) text.new.items
+        (shown_losses quiet (sending_by mote (Some session.now)) network.now) }
+    ensures fault { IfErr result (λ fault. fault ≡ RunFault.Write) }
     ensures failures { CountsFailure result (K.failure_count sink.old) (K.failure_count sink.new) }
 {
     if quiet {
         return Ok(());
     }
     match session.sent() {
-        Some(_) => put_fates(sink, text, mote, network.links(mote)),
+        Some(_) => put_fates(sink, text, network, mote),
         None => Ok(()),
     }
 }
@@ -62,41 +135,22 @@ fn put_losses<K: ByteSink>(
 #[inline(always)]
 pub(crate) fn put_entry<K: ByteSink>(
     sink: &mut K,
-    text: &mut PendingText,
+    text: &mut OutputBuffer,
     network: &Network,
     mote: usize,
     quiet: bool,
 ) -> Result<(), RunFault>
     requires countable { K.failure_count sink.old < 2 ^ 64 - 1 }
-    ensures puts { K.is_named → Puts result (K.given sink.old) text.old.due.items (K.given sink.new) text.new.due.items
-        (entry_text quiet mote (slice_get network.now.motes mote) network.now.air) }
+    ensures puts { K.is_named → WritesIf result (K.given sink.old) text.old.items (K.given sink.new) text.new.items
+        (came_lines quiet (Entry mote) network.now) }
+    ensures fault { IfErr result (λ fault. fault ≡ RunFault.Write) }
     ensures failures { CountsFailure result (K.failure_count sink.old) (K.failure_count sink.new) }
 {
     match network.mote(mote) {
         Some(session) => {
-            text.put_entry(sink, mote, session, quiet)?;
+            put_line(sink, text, mote, session, quiet)?;
             put_losses(sink, text, network, mote, session, quiet)
         }
         None => Ok(()),
-    }
-}
-
-/// Puts the lines of a step of the network itself, when no mote was at work, which left it in this state.
-pub(crate) fn put_step<K: ByteSink>(
-    sink: &mut K,
-    text: &mut PendingText,
-    network: &Network,
-    outcome: Outcome,
-    quiet: bool,
-) -> Result<(), RunFault>
-    requires countable { K.failure_count sink.old < 2 ^ 64 - 1 }
-    ensures puts { K.is_named → Puts result (K.given sink.old) text.old.due.items (K.given sink.new) text.new.due.items
-        (step_text quiet outcome network.now) }
-    ensures failures { CountsFailure result (K.failure_count sink.old) (K.failure_count sink.new) }
-{
-    match outcome {
-        Outcome::Missed(from, to) if !quiet => text.put_missed(sink, from, to),
-        Outcome::Passed if !quiet => text.put_clock(sink, network.clock()),
-        _ => Ok(()),
     }
 }

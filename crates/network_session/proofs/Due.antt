@@ -2,7 +2,7 @@
 use Rattle.std.proofs.Common.{◌≡◌, ℕ, zero, suc, ◌<◌, ◌≤◌, ◌==◌, ◌||◌, List, [], ◌∷◌, length, get_or, slice_get, refl, ap, sym, ◌∙◌, arith, Bool, true, false, Option, Some, None, IsSomeAnd, is_some, nat_le, nat_lt, if◌then◌else◌}
 use Rattle.std.proofs.lemmas.Bool.Decides.{nat_tests}
 use Rattle.arrayvec.specs.ArrayVec.{ArrayVec}
-use Rattle.alarm_core.specs.Alarms.{first_come}
+use Rattle.network_session.specs.Alarms.{first_come}
 use Rattle.medium_core.specs.Air.{arrival}
 use Rattle.medium_core.specs.Flights.{IsSeenAs}
 use Rattle.medium_core.specs.declared.flight.Flight.{Flight}

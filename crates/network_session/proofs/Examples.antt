@@ -33,7 +33,7 @@ halted = record (told 3) { machine = record (booted small) { clock = 3; is_halte
 
 -- a frame from mote 0
 abbrev flight : ℕ → ℕ → List ℕ → Flight
-flight due to bytes = record { due = due; from = 0; place = 0; to = to; bytes = record { items = bytes } }
+flight due to bytes = record { due = due; from = 0; position = 0; to = to; bytes = record { items = bytes } }
 
 -- two motes at clock 3
 abbrev net : SessionView → List Flight → ℕ → ℕ → NetworkView

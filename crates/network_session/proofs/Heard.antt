@@ -1,6 +1,6 @@
 -- Which frames are heard.
 use Rattle.std.proofs.Common.{◌≡◌, ℕ, ◌==◌, ◌||◌, length, slice_get, refl, ap, Bool, true, false, Option, Some, None, IsSomeAnd, nat_lt, if◌then◌else◌}
-use Rattle.alarm_core.specs.Alarms.{first_come}
+use Rattle.network_session.specs.Alarms.{first_come}
 use Rattle.medium_core.specs.Air.{arrival}
 use Rattle.medium_core.specs.declared.flight.Flight.{Flight}
 use Rattle.mote_session.specs.SessionView.{SessionView}

@@ -1,3 +1,8 @@
+pub mod Climbing
+pub mod First
+pub mod Root
+pub mod Rows
+mod AlarmExamples
 mod Examples
 pub mod Steady
 pub mod Working

@@ -1,7 +1,7 @@
 -- Which mote must be told the time.
 use Rattle.std.proofs.Common.{◌≡◌, ℕ, ◌+◌, ◌<◌, List, [], ◌∷◌, length, arith, Bool, true, false, Option, Some, None, IfSome, nat_le, if◌then◌else◌}
-use Rattle.alarm_core.specs.Alarms.{come_by, first_alarm, first_come, sooner}
-use Rattle.alarm_core.specs.declared.alarm.Alarm.{Alarm}
+use Rattle.network_session.specs.Alarms.{come_by, first_alarm, first_come, sooner}
+use Rattle.network_session.specs.declared.alarm.Alarm.{Alarm}
 
 -- the first alarm is one of the list
 within_from : (i : ℕ) (moments : List ℕ) → IfSome (first_alarm i moments) (λ (a : Alarm). a.owner < i + length moments)

@@ -2,7 +2,7 @@
 use Rattle.std.proofs.Common.{◌≡◌, ℕ, suc, ◌+◌, ◌-◌, ◌<◌, ◌≤◌, ◌==◌, List, length, set, slice_get, refl, ap, subst, ◌∙◌, arith, Bool, true, false, Option, Some, None, nat_lt, if◌then◌else◌}
 use Rattle.std.proofs.lemmas.List.{length-set}
 use Rattle.std.proofs.lemmas.Bool.Decides.{nat_tests}
-use Rattle.alarm_core.specs.Alarms.{first_come}
+use Rattle.network_session.specs.Alarms.{first_come}
 use Rattle.mote_types.specs.declared.call.Call.{Call}
 use Rattle.mote_session.specs.SessionView.{SessionView}
 use Rattle.mote_session.specs.declared.session.Next.{Next}

@@ -1,8 +1,8 @@
 -- Each mote is told in time.
 use Rattle.std.proofs.Common.{◌≡◌, ◌≢◌, ℕ, zero, suc, ◌+◌, ◌-◌, ◌<◌, ◌≤◌, ◌==◌, ◌||◌, ◌&&◌, not, List, [], ◌∷◌, min, length, set, slice_get, refl, ap, sym, subst, ◌∙◌, arith, Bool, true, false, Option, Some, None, is_some, is_none, nat_le, nat_lt, if◌then◌else◌}
 use Rattle.std.proofs.lemmas.Bool.Decides.{nat_tests}
-use Rattle.alarm_core.specs.Alarms.{earliest_by, earliest_in, first_alarm, first_come, sooner}
-use Rattle.alarm_core.specs.declared.alarm.Alarm.{Alarm}
+use Rattle.network_session.specs.Alarms.{earliest_by, earliest_in, first_alarm, first_come, sooner}
+use Rattle.network_session.specs.declared.alarm.Alarm.{Alarm}
 use Rattle.arrayvec.specs.ArrayVec.{ArrayVec}
 use Rattle.kernel_core.specs.Code.Conditions.{ticks_of}
 use Rattle.kernel_core.specs.Inputs.{fed, frame_held, frame_refusal, held_unless_lost}

@@ -2,7 +2,7 @@
 use Rattle.std.proofs.Common.{◌≡◌, ℕ, zero, suc, List, [], ◌∷◌, set, slice_get, refl, ap, None, Some}
 use Rattle.mote_session.specs.Code.Working.{WorksBy}
 use Rattle.mote_session.specs.SessionView.{SessionView}
-use Rattle.mote_session.specs.declared.session.Worked.{Worked as Done}
+use Rattle.mote_session.specs.declared.session.Next.{Next}
 use Rattle.network_session.specs.Code.Working.{TakesTurn, TurnIn, WorksIn}
 use Rattle.network_session.specs.Network.{NetworkView}
 use Rattle.network_session.proofs.Working.{get_set}
@@ -14,8 +14,8 @@ set_set (x ∷ xs) (suc m) y z = ap (λ (l : List _). x ∷ l) (set_set xs m y z
 
 module _ (m : ℕ) (old new : List SessionView) (before after : SessionView) (there : slice_get old m ≡ Some before) (closed : before.turn ≡ None)
     (others : new ≡ set old m after) where
-  pub works_in : (done : Done) → WorksBy done before after → WorksIn m done old new
-  works_in Done.Turn works = record {
+  pub works_in : (next : Next) → WorksBy next before after → WorksIn m next old new
+  works_in Next.Turn works = record {
     mid = set old m works.mid;
     call = works.calls.call;
     opens = record {
@@ -36,9 +36,9 @@ module _ (m : ℕ) (old new : List SessionView) (before after : SessionView) (th
       others = rw (set_set old m works.mid after) others;
     };
   }
-  works_in Done.Entry works = record { before = before; after = after; mote = there; closed = closed; advances = works.advances; same = works.same; others = others }
-  works_in Done.Rest works = record { before = before; after = after; mote = there; closed = closed; advances = works.advances; same = works.same; others = others }
-  works_in Done.Halted works = record { before = before; after = after; mote = there; closed = closed; advances = works.advances; same = works.same; others = others }
+  works_in Next.Entry works = record { before = before; after = after; mote = there; closed = closed; advances = works.advances; same = works.same; others = others }
+  works_in Next.Rest works = record { before = before; after = after; mote = there; closed = closed; advances = works.advances; same = works.same; others = others }
+  works_in Next.Halted works = record { before = before; after = after; mote = there; closed = closed; advances = works.advances; same = works.same; others = others }
 
 pub takes_turn : (m : ℕ) (old : NetworkView) (motes : List SessionView) → old.active ≡ Some m → TurnIn m old.motes motes →
     TakesTurn m old (record old { motes = motes })

@@ -1,6 +1,6 @@
 -- What each step adds to the log.
 use Rattle.std.specs.Prelude.{ℕ, List, [], ◌∷◌, slice_get, Option, None, Some}
-use Rattle.alarm_core.specs.Alarms.{earliest_in}
+use Rattle.network_session.specs.Alarms.{earliest_in}
 use Rattle.medium_core.specs.Air.{arrival}
 use Rattle.medium_core.specs.declared.flight.Flight.{Flight}
 use Rattle.mote_types.specs.declared.entry.Entry.{Entry}

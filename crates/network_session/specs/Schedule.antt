@@ -1,6 +1,6 @@
 -- What is done next, once all motes rest.
 use Rattle.std.specs.Prelude.{ℕ, ◌||◌, ◌==◌, length, slice_get, Option, None, Some, nat_lt, if◌then◌else◌, Bool, true, false}
-use Rattle.alarm_core.specs.Alarms.{first_come}
+use Rattle.network_session.specs.Alarms.{first_come}
 use Rattle.medium_core.specs.Air.{arrival}
 use Rattle.medium_core.specs.declared.flight.Flight.{Flight}
 use Rattle.mote_session.specs.SessionView.{SessionView}

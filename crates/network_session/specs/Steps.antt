@@ -1,6 +1,6 @@
 -- What a step does.
 use Rattle.std.specs.Prelude.{◌≡◌, ℕ, ◌≤◌, ◌+◌, ◌-◌, List, slice_get, slice_set, true, Option, None, Some}
-use Rattle.alarm_core.specs.Alarms.{earliest_in}
+use Rattle.network_session.specs.Alarms.{earliest_in}
 use Rattle.arrayvec.specs.ArrayVec.{ArrayVec}
 use Rattle.medium_core.specs.Air.{Air, arrival, gone_on, landed, sent}
 use Rattle.medium_core.specs.declared.flight.Flight.{Flight}

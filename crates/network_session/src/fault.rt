@@ -14,6 +14,14 @@ pub enum NetworkBootFault {
     Memory,
 }
 
+/// Why no alarms are made.
+#[derive(Clone, Copy, Debug, PartialEq, Eq, Drop, Error)]
+pub enum AlarmsFault {
+    /// Memory was refused, or there are more than 2^32.
+    #[error("out of memory")]
+    Memory,
+}
+
 /// Why a call was refused. Nothing has changed.
 #[derive(Clone, Copy, Debug, PartialEq, Eq, Drop, Error)]
 pub enum NetworkFault {

@@ -19,21 +19,21 @@ ghost use Rattle.mote_session.specs.declared.refusal.SessionRefusal.{SessionRefu
 ghost use Rattle.mote_types.specs.declared.entry.Input.{Input};
 ghost use Rattle.mote_session.specs.SessionView.{SessionView};
 ghost use Rattle.mote_session.specs.Sent.{sent_in};
-ghost use Rattle.alarm_core.specs.Alarms.{earliest_in, first_come};
+ghost use Rattle.network_session.specs.Alarms.{earliest_in, first_come};
 ghost use Rattle.medium_core.specs.Air.{are_links, arrival, gone_on, links_from, may_add, still_air, with_link};
 ghost use Rattle.medium_core.specs.Code.Airs.{link_lists};
 ghost use Rattle.std.specs.Option.{option_copied};
 
+use crate::alarms::Alarms;
 use crate::fault::{NetworkBootFault, NetworkFault};
 use crate::outcome::Outcome;
 use crate::waking::{ticks_behind, wake_of};
-use alarm_core::alarms::Alarms;
 use medium_core::fault::MediumFault;
 use medium_core::flight::copied;
 use medium_core::link::Link;
 use medium_core::medium::Medium;
 use mote_session::caller::Caller;
-use mote_session::session::{Next, Session, Worked};
+use mote_session::session::{Next, Session};
 use mote_types::call::Call;
 use mote_types::entry::Input;
 use std::alloc::Global;
@@ -116,7 +116,7 @@ fn work_by_in<H: Caller>(
     motes: &mut Vec<Session>,
     m: usize,
     caller: &mut H,
-) -> Result<Worked, NetworkFault>
+) -> Result<Next, NetworkFault>
     requires { m < length motes.old.items }
     ensures worked { IfOk result (λ worked. WorksIn m worked motes.old.items motes.new.items) }
     ensures speaks { IfOk result (λ worked. (one : SessionView) → slice_get motes.new.items m ≡ Some one →
@@ -257,7 +257,7 @@ impl Network {
     ///
     /// `Refused(AwaitsCall)` where a turn awaits its call.
     #[inline(always)]
-    pub fn work_by<H: Caller>(&mut self, m: usize, caller: &mut H) -> Result<Worked, NetworkFault>
+    pub fn work_by<H: Caller>(&mut self, m: usize, caller: &mut H) -> Result<Next, NetworkFault>
         requires { self.old.active ≡ Some m }
         ensures worked { IfOk result (λ worked. Works m worked self.old self.new) }
         ensures speaks { IfOk result (λ worked. (one : SessionView) → slice_get self.new.motes m ≡ Some one →
@@ -267,20 +267,20 @@ impl Network {
         ensures accepted { IfOk result (λ _. step_refusal self.old ≡ None) }
     {
         match work_by_in(&mut self.motes, m, caller)? {
-            Worked::Turn => Ok(Worked::Turn),
-            Worked::Entry => {
+            Next::Turn => Ok(Next::Turn),
+            Next::Entry => {
                 air_in(&mut self.medium, &self.motes[m], m);
-                Ok(Worked::Entry)
+                Ok(Next::Entry)
             }
-            Worked::Rest => {
+            Next::Rest => {
                 set_wake(&mut self.wakes, &self.motes, m);
                 self.active = None;
-                Ok(Worked::Rest)
+                Ok(Next::Rest)
             }
-            Worked::Halted => {
+            Next::Halted => {
                 set_wake(&mut self.wakes, &self.motes, m);
                 self.active = None;
-                Ok(Worked::Halted)
+                Ok(Next::Halted)
             }
         }
     }

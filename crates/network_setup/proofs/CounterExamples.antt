@@ -20,7 +20,7 @@ use Rattle.network_setup.specs.SetUpRuns.{HasRunSetUp, start_of}
 use Rattle.network_setup.specs.SetupView.{HasJustBooted, SetupView, empty_setup}
 use Rattle.network_setup.specs.declared.fault.SetUpRunFault.{SetUpRunFault}
 use Rattle.network_setup.specs.declared.mote_app.MoteApp.{MoteApp}
-use Rattle.network_text.specs.declared.input.NetworkInput.{NetworkInput}
+use Rattle.network_steps.specs.declared.input.NetworkInput.{NetworkInput}
 
 -- ---- the first lines
 

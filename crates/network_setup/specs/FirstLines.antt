@@ -4,7 +4,7 @@ use Rattle.mote_text.specs.Script.{argument_of, line_limit}
 use Rattle.network_setup.specs.Lines.{line_said, words_of}
 use Rattle.network_setup.specs.MoteLines.{AddsMotes, SaysNoMotes}
 use Rattle.network_setup.specs.SetupView.{SetupView}
-use Rattle.network_text.specs.NetworkScript.{read_network_input}
+use Rattle.network_steps.specs.NetworkScript.{read_network_input}
 
 -- UTF-8, and not too long
 abbrev pub IsText : List ℕ → Type 0

@@ -2,15 +2,15 @@
 use Rattle.std.specs.Prelude.{◌≡◌, ◌≤◌, ◌<◌, ◌+◌, ℕ, Bool, true, false, ◌&&◌, List, [], ◌++◌, length, nat_le, Option, Some, None, Result, Ok, Err}
 use Rattle.mote_text.specs.Script.{script_limit}
 use Rattle.mote_text.specs.declared.script.End.{End}
-use Rattle.network_run.specs.NetworkRunText.{script_lines}
+use Rattle.mote_text.specs.ScriptLines.{script_lines}
 use Rattle.network_run.specs.declared.fault.RunFault.{RunFault}
 use Rattle.network_setup.specs.FirstLines.{AreCarriedOut, IsBadLine}
 use Rattle.network_setup.specs.MoteApps.{voices_of}
 use Rattle.network_setup.specs.SetUpRuns.{HasBooted, HasRunSetUp, start_of}
 use Rattle.network_setup.specs.SetupView.{SetupView, empty_setup}
 use Rattle.network_setup.specs.declared.fault.SetUpRunFault.{SetUpRunFault}
-use Rattle.network_text.specs.NetworkScript.{read_network_lines}
-use Rattle.network_text.specs.NetworkText.{last_line}
+use Rattle.network_steps.specs.NetworkScript.{read_network_lines}
+use Rattle.network_steps.specs.NetworkText.{last_line}
 
 -- only the last line was written, or a prefix of it where writing failed
 abbrev pub EndsAtOnce : End → List ℕ → Result End SetUpRunFault → Type 0

@@ -9,7 +9,7 @@ use Rattle.network_run.specs.NetworkRunText.{HasRun, IsAtStart}
 use Rattle.mote_session.specs.Voices.{Voices}
 use Rattle.network_session.specs.Network.{NetworkView}
 use Rattle.network_session.specs.Promise.{IsLogOf}
-use Rattle.network_text.specs.declared.input.NetworkInput.{NetworkInput}
+use Rattle.network_steps.specs.declared.input.NetworkInput.{NetworkInput}
 
 -- the network of these motes and links, before anything has happened
 abbrev pub start_of : SetupView → NetworkView

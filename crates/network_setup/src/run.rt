@@ -2,14 +2,15 @@
 
 ghost use Rattle.std.specs.Prelude.{◌≡◌, ◌≤◌, ◌<◌, ◌+◌, ◌-◌, ◌^◌, ◌↔◌, codes, false, length, IfErr, IfOk, IsErrOf};
 ghost use Rattle.mote_text.specs.Script.{argument_of};
-ghost use Rattle.network_run.specs.NetworkRunText.{Gives, script_lines};
+ghost use Rattle.mote_text.specs.ScriptLines.{script_lines};
+ghost use Rattle.network_run.specs.NetworkRunText.{Gives};
 ghost use Rattle.network_run.specs.declared.fault.RunFault.{RunFault};
 ghost use Rattle.network_setup.specs.FirstLines.{AreCarriedOut, DoesLine, IsBadLine, SaysNothing, is_blank};
 ghost use Rattle.network_setup.specs.MoteApps.{voices_of};
 ghost use Rattle.network_setup.specs.SetUpRuns.{HasBooted, HasRunSetUp, start_of};
 ghost use Rattle.network_setup.specs.Setting.{IfMalformed};
 ghost use Rattle.network_setup.specs.declared.fault.LineFault.{LineFault};
-ghost use Rattle.network_text.specs.NetworkScript.{read_network_lines};
+ghost use Rattle.network_steps.specs.NetworkScript.{read_network_lines};
 
 use crate::applications::Applications;
 use crate::fault::{LineFault, SetUpRunFault};
@@ -20,7 +21,7 @@ use mote_types::device::ByteSink;
 use network_run::run::run_network;
 use network_session::fault::NetworkBootFault;
 use network_session::network::Network;
-use network_text::input::read_network_input;
+use network_steps::input::read_network_input;
 use std::alloc::Global;
 
 /// Whether a line says nothing: it is empty, or a comment.

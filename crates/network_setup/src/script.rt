@@ -1,12 +1,12 @@
 //! The lines of a script, with their numbers.
 
 ghost use Rattle.std.specs.Prelude.{◌≡◌, ◌<◌, ◌≤◌, ◌+◌, ◌^◌, [], length, IfNone, IfSome, MatchOption};
-ghost use Rattle.network_run.specs.NetworkRunText.{script_lines};
+ghost use Rattle.mote_text.specs.ScriptLines.{script_lines};
 ghost use Rattle.network_setup.specs.Code.Words.{IsNextLine};
 ghost use Rattle.network_setup.specs.FirstLines.{IsText};
 
 use mote_text::script::LINE_LIMIT;
-use network_run::script::first_line;
+use mote_text::script_lines::first_line;
 use std::str;
 
 /// The lines of a script from one on.

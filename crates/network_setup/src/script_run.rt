@@ -1,7 +1,8 @@
 //! The run of a whole script.
 
 ghost use Rattle.std.specs.Prelude.{◌≡◌, ◌<◌, ◌+◌, ◌-◌, ◌^◌, ◌↔◌, [], length, Err, IsErrOf};
-ghost use Rattle.network_run.specs.NetworkRunText.{Gives, script_lines};
+ghost use Rattle.mote_text.specs.ScriptLines.{script_lines};
+ghost use Rattle.network_run.specs.NetworkRunText.{Gives};
 ghost use Rattle.network_setup.specs.MoteApps.{voices_of};
 ghost use Rattle.network_setup.specs.ScriptRuns.{EndsAtOnce, HasRunScript, is_there};
 ghost use Rattle.network_setup.specs.SetUpRuns.{HasRunSetUp, start_of};
@@ -9,17 +10,17 @@ ghost use Rattle.network_setup.specs.SetupView.{SetupView};
 ghost use Rattle.network_setup.specs.declared.fault.LineFault.{LineFault};
 ghost use Rattle.network_setup.specs.declared.fault.SetUpRunFault.{SetUpRunFault};
 ghost use Rattle.mote_text.specs.declared.script.End.{End};
-ghost use Rattle.network_text.specs.NetworkScript.{read_network_lines};
+ghost use Rattle.network_steps.specs.NetworkScript.{read_network_lines};
 
 use crate::fault::{LineFault, SetUpRunFault};
 use crate::run::{read_setup, run_setup};
 use crate::setup::Setup;
 use mote_text::output_buffer::OutputBuffer;
 use mote_text::script::{End, SCRIPT_LIMIT};
+use mote_text::write::write_all;
 use mote_types::device::ByteSink;
 use network_run::fault::RunFault;
-use network_run::write::write_all;
-use network_text::lines::last_text;
+use network_steps::lines::last_text;
 use std::alloc::Global;
 
 /// Writes the last line of a run that ends before anything has happened.

@@ -10,7 +10,7 @@ use Rattle.mote_text.specs.EntryText.{line_of}
 use Rattle.network_session.specs.Network.{NetworkView}
 use Rattle.network_session.specs.Refusals.{step_refusal}
 use Rattle.network_session.specs.declared.fault.NetworkFault.{NetworkFault}
-use Rattle.network_text.specs.NetworkRuns.{moves_text}
+use Rattle.network_steps.specs.NetworkRuns.{moves_text}
 use Rattle.network_steps.specs.Lines.{came_line, losses_left}
 use Rattle.network_steps.specs.Refusals.{due_refusal, fault_of, link_refusal, tick_refusal}
 use Rattle.network_steps.specs.StepsView.{StepsView, opened_net, opened_steps, unlinked}
@@ -96,7 +96,7 @@ module _ (fault : StepsFault) (old new : NetworkView) (refused : IsRefused fault
 
   -- the moves before have no lines
   a_line : moves_text false old refused.moves ≡ codes "= 1\n" → ⊥
-  a_line text = let e : codes "= 1\n" ≡ [] = sym text ∙ refused.silent in absurd (cc)
+  a_line text = let e : codes "= 1\n" ≡ [] = sym text ∙ refused.silent false in absurd (cc)
 
 -- a network refuses no step for lack of room
 no_room : (waiting : Option Waiting) (old new : NetworkView) → IsRefused StepsFault.NoRoom old waiting new → ⊥

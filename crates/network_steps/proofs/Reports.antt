@@ -1,6 +1,5 @@
 -- What a network comes to, and the text of that.
-use Rattle.std.proofs.Common.{◌≡◌, ℕ, ◌<◌, nat_lt, not, ◌&&◌, arith, Bool, true, false, List, [], ◌∷◌, ◌++◌, slice_get, refl, ap, sym, subst, ◌∙◌, append-nil, Option, None, Some, is_some, IsSomeAnd, Result, Ok, Err, IfErr, IfOk, IfSome, inl, inr, codes, if◌then◌else◌}
-use Rattle.std.proofs.lemmas.Bool.Decides.{nat_tests}
+use Rattle.std.proofs.Common.{◌≡◌, ◌⊎◌, ℕ, ◌+◌, not, Bool, true, false, List, [], ◌∷◌, ◌++◌, slice_get, refl, ap, sym, subst, ◌∙◌, append-nil, Option, None, Some, is_some, IsSomeAnd, Result, Ok, Err, IfErr, IfOk, IfSome, inl, inr, codes, if◌then◌else◌}
 use Rattle.std.proofs.lemmas.List.{append_assoc}
 use Rattle.medium_core.specs.Air.{Air, arrival, links_from, sent}
 use Rattle.medium_core.specs.declared.flight.Flight.{Flight}
@@ -19,69 +18,54 @@ use Rattle.network_session.specs.declared.fault.NetworkFault.{NetworkFault}
 use Rattle.network_session.specs.declared.outcome.Outcome.{Outcome}
 use Rattle.network_session.proofs.Heard.{missed_due}
 use Rattle.network_session.proofs.Working.{there_after}
-use Rattle.network_text.specs.NetworkRuns.{DoesStep, IsResting, Leads, Move, inputs_of, moves_text}
-use Rattle.network_text.specs.NetworkText.{clock_line, fate_lines, frame_line, log_text, missed_line, mote_line}
-use Rattle.network_text.specs.declared.input.NetworkInput.{NetworkInput}
-use Rattle.network_text.proofs.Moves.{inputs_on, leads_on, text_on}
-use Rattle.network_steps.specs.Lines.{is_loss, line_if, loss_line, losses_left}
+use Rattle.network_steps.specs.NetworkRuns.{DoesStep, IsResting, Leads, Move, inputs_of, moves_text}
+use Rattle.network_steps.specs.NetworkText.{if_shown, log_text}
+use Rattle.network_steps.specs.declared.input.NetworkInput.{NetworkInput}
+use Rattle.network_steps.proofs.Moves.{inputs_on, leads_on, text_on}
+use Rattle.network_steps.specs.Lines.{came_line, is_loss, loss_line, losses_left, shown_line, shown_losses}
 use Rattle.network_steps.specs.Refusals.{awaited_turn, fault_of, turn_of}
 use Rattle.network_steps.specs.StepsView.{StepsView}
-use Rattle.network_steps.specs.Works.{GoesNext, GoesOn, IsCame, IsRefused, ToldIfBehind, WorksTo, came_of, inputs_waiting, is_halted_in, is_reported, last_after, new_line, noted, phase_after, sending_after, sending_by}
+use Rattle.network_steps.specs.Works.{GoesNext, GoesOn, IsCame, IsRefused, RefusesInput, ToldIfBehind, WorksTo, came_of, inputs_waiting, is_behind, is_halted_in, is_reported, last_after, noted, came_lines, phase_after}
 use Rattle.network_steps.specs.declared.came.Came.{Came}
 use Rattle.network_steps.specs.declared.came.Phase.{Phase}
 use Rattle.network_steps.specs.declared.came.Sending.{Sending}
 use Rattle.network_steps.specs.declared.came.Waiting.{Waiting}
 use Rattle.network_steps.specs.declared.fault.StepsFault.{StepsFault}
+use Rattle.network_steps.proofs.GivenInputs.{tells}
 use Rattle.network_steps.proofs.Silent.{idle_if}
+use Rattle.network_steps.proofs.StepText.{step_is}
 
 pub resting : (old new : NetworkView) → WorksTo Outcome.Rest old new → IsResting new
 resting old new w =
     let idle = idle_if w.before.active w.step.work in
     rw w.step.steps (record { idle = idle; due = sym (w.step.due idle) })
 
--- the lines of a step
+-- a step that isn't reported has no line
 
-by_last : (m : ℕ) (last : Option Entry) (air : Air) (new : NetworkView) → new.air ≡ aired_if m (sent_in last) air →
-    log_text false air (made m last)
-    ≡ line_if m last ++ losses_left (if is_some (sent_in last) then Some (record { from = m; place = 0 }) else None) new
-by_last m None air new e = refl
-by_last m (Some (Entry.Input input)) air new e = append-nil (mote_line m (Entry.Input input) ++ [])
-by_last m (Some (Entry.Turn p origin stimulus call)) air new e = append-nil (mote_line m (Entry.Turn p origin stimulus call) ++ [])
-by_last m (Some (Entry.Note (Note.Lost refusal))) air new e = append-nil (mote_line m (Entry.Note (Note.Lost refusal)) ++ [])
-by_last m (Some (Entry.Note (Note.Sent bytes))) air new e =
-    append-nil (mote_line m (Entry.Note (Note.Sent bytes)) ++ fate_lines m (links_from m (sent m bytes air)))
-    ∙ ap (λ (a : Air). mote_line m (Entry.Note (Note.Sent bytes)) ++ fate_lines m (links_from m a)) (sym e)
-by_last m (Some Entry.Halt) air new e = append-nil (mote_line m Entry.Halt ++ [])
+unreported : (quiet : Bool) (x : Outcome) (net : NetworkView) → is_reported x ≡ false → came_lines quiet (came_of x) net ≡ []
+unreported quiet (Outcome.Started m) net r = refl
+unreported quiet (Outcome.Rested m) net r = refl
+unreported quiet (Outcome.Stopped m) net r = refl
+unreported quiet (Outcome.Woken m) net r = refl
+unreported quiet (Outcome.Heard m) net r = refl
+unreported quiet (Outcome.Turn m) net r = absurd (cc)
+unreported quiet (Outcome.Made m) net r = absurd (cc)
+unreported quiet (Outcome.Missed from to) net r = absurd (cc)
+unreported quiet Outcome.Passed net r = absurd (cc)
+unreported quiet Outcome.Rest net r = absurd (cc)
+unreported quiet Outcome.Exhausted net r = absurd (cc)
 
-made_text : (m : ℕ) (mote : SessionView) (air : Air) (new : NetworkView) → slice_get new.motes m ≡ Some mote →
-    new.air ≡ aired_if m (sent_in mote.last) air →
-    log_text false air (made_by m (slice_get new.motes m))
-    ≡ new_line (Came.Entry m) new ++ losses_left (sending_by m (slice_get new.motes m)) new
-made_text m mote air new there e = rw there (by_last m mote.last air new e)
-
-missed_text : (from to : ℕ) (o : Option Flight) (net : NetworkView) →
-    IsSomeAnd o (λ f. (f.from ≡ from) × (f.to ≡ to) × (is_unheard f (slice_get net.motes f.to) ≡ true)) →
-    missed_line o ++ [] ≡ frame_line (codes "missed") from to ++ []
-missed_text from to None net h = absurd h
-missed_text from to (Some f) net h = rw (h.0, h.1) refl
-
-pub step_text : (x : Outcome) (old new : NetworkView) → DoesStep x old new → is_reported x ≡ true →
-    log_text false old.air (happened x old new) ≡ new_line (came_of x) new ++ losses_left (sending_after x new) new
-step_text (Outcome.Turn m) old new s r = refl
-step_text Outcome.Rest old new s r = refl
-step_text Outcome.Exhausted old new s r = refl
-step_text Outcome.Passed old new s r = ap (λ (v : NetworkView). clock_line v.air.clock ++ []) (sym s.steps)
-step_text (Outcome.Missed from to) old new s r =
-    missed_text from to (arrival old.air) old (missed_due old from to (s.due (idle_if old.active s.work)))
-step_text (Outcome.Made m) old new s r =
-    let w = s.steps.worked in
-    made_text m w.after old.air new (there_after m old.motes new.motes w.before w.after w.mote w.others)
-    (ap (λ (v : NetworkView). v.air) s.steps.result)
-step_text (Outcome.Started m) old new s r = absurd (cc)
-step_text (Outcome.Rested m) old new s r = absurd (cc)
-step_text (Outcome.Stopped m) old new s r = absurd (cc)
-step_text (Outcome.Woken m) old new s r = absurd (cc)
-step_text (Outcome.Heard m) old new s r = absurd (cc)
+pub goes_further : (x : Outcome) (old mid new : NetworkView) → GoesOn old mid → DoesStep x mid new → is_reported x ≡ false → GoesOn old new
+goes_further x old mid new g s r =
+    let step : List Move = Move.Step x new ∷ [] in
+    record {
+      moves = g.moves ++ step;
+      leads = leads_on g.moves step old mid new g.leads (s, refl);
+      silent = λ quiet.
+          let none : log_text quiet mid.air (happened x mid new) ≡ [] = step_is quiet x mid new s ∙ unreported quiet x new r in
+          text_on quiet g.moves step old mid g.leads ∙ rw (g.silent quiet, none) refl;
+      own = inputs_on g.moves step ∙ rw g.own refl;
+    }
 
 -- what is so where it is reported
 
@@ -114,23 +98,41 @@ all_steps x old new w = w.goes.moves ++ Move.Step x new ∷ []
 pub steps_lead : (x : Outcome) (old new : NetworkView) (w : WorksTo x old new) → Leads old (all_steps x old new w) new
 steps_lead x old new w = leads_on w.goes.moves (Move.Step x new ∷ []) old w.before new w.goes.leads (w.step, refl)
 
-pub steps_text : (x : Outcome) (old new : NetworkView) (w : WorksTo x old new) →
-    moves_text false old (all_steps x old new w) ≡ new_line (came_of x) new ++ losses_left (sending_after x new) new
-steps_text x old new w =
-    text_on false w.goes.moves (Move.Step x new ∷ []) old w.before w.goes.leads
-    ∙ rw w.goes.silent (append-nil (log_text false w.before.air (happened x w.before new)) ∙ step_text x w.before new w.step w.reported)
+pub steps_text : (quiet : Bool) (x : Outcome) (old new : NetworkView) (w : WorksTo x old new) →
+    moves_text quiet old (all_steps x old new w) ≡ came_lines quiet (came_of x) new
+steps_text quiet x old new w =
+    text_on quiet w.goes.moves (Move.Step x new ∷ []) old w.before w.goes.leads
+    ∙ rw (w.goes.silent quiet) (append-nil (log_text quiet w.before.air (happened x w.before new)) ∙ step_is quiet x w.before new w.step)
 
 pub steps_own : (x : Outcome) (old new : NetworkView) (w : WorksTo x old new) → inputs_of (all_steps x old new w) ≡ []
 steps_own x old new w = inputs_on w.goes.moves (Move.Step x new ∷ []) ∙ rw w.goes.own refl
 
-pub came_by : (x : Outcome) (old new : StepsView) (net : NetworkView) → losses_left old.sending old.net ≡ [] →
+-- nothing is left to be reported
+abbrev pub HasReported : StepsView → Type 0
+HasReported s = (quiet : Bool) → shown_losses quiet s.sending s.net ≡ []
+
+pub none_sent : (s : StepsView) → s.sending ≡ None → HasReported s
+none_sent s none = λ quiet. ap (λ (o : Option Sending). shown_losses quiet o s.net) none
+
+none_shown : (shown : Bool) → if_shown shown [] ≡ []
+none_shown true = refl
+none_shown false = refl
+
+losses_are : (quiet : Bool) (o : Option Sending) (net : NetworkView) → shown_losses quiet o net ≡ if_shown (not quiet) (losses_left o net)
+losses_are quiet None net = sym (none_shown (not quiet))
+losses_are quiet (Some sending) net = refl
+
+pub none_left : (s : StepsView) → losses_left s.sending s.net ≡ [] → HasReported s
+none_left s none = λ quiet. losses_are quiet s.sending s.net ∙ (ap (if_shown (not quiet)) none ∙ none_shown (not quiet))
+
+pub came_by : (x : Outcome) (old new : StepsView) (net : NetworkView) → HasReported old →
     (x ≡ Outcome.Rest → old.waiting ≡ None) → WorksTo x old.net net → new ≡ noted x (record old { net = net }) → GoesNext (came_of x) old new
 came_by x old new net none waits w is =
     subst (λ (v : StepsView). GoesNext (came_of x) old v) (sym is)
     (record {
       moves = all_steps x old.net net w;
       leads = steps_lead x old.net net w;
-      text = rw none (steps_text x old.net net w);
+      text = λ quiet. rw (none quiet) (steps_text quiet x old.net net w);
       inputs = rw (steps_own x old.net net w) refl;
       last = refl;
       phase = refl;
@@ -140,18 +142,18 @@ came_by x old new net none waits w is =
 
 -- moves that have no lines come before
 
-pub prepended : (came : Came) (old mid new : StepsView) (moves : List Move) → Leads old.net moves mid.net → moves_text false old.net moves ≡ [] →
-    losses_left old.sending old.net ≡ [] → losses_left mid.sending mid.net ≡ [] →
+pub prepended : (came : Came) (old mid new : StepsView) (moves : List Move) → Leads old.net moves mid.net →
+    ((quiet : Bool) → moves_text quiet old.net moves ≡ []) → HasReported old → HasReported mid →
     inputs_of moves ++ inputs_waiting mid.waiting ≡ inputs_waiting old.waiting → mid.last ≡ old.last → mid.free_links ≡ old.free_links →
     GoesNext came mid new → GoesNext came old new
-prepended came old mid new moves leads silent none none_left own last links g =
+prepended came old mid new moves leads silent none told own last links g =
     record {
       moves = moves ++ g.moves;
       leads = leads_on moves g.moves old.net mid.net new.net leads g.leads;
-      text =
-          rw none
-          (text_on false moves g.moves old.net mid.net leads
-          ∙ (rw silent (ap (λ (lost : List ℕ). lost ++ moves_text false mid.net g.moves) (sym none_left) ∙ g.text)));
+      text = λ quiet.
+          rw (none quiet)
+          (text_on quiet moves g.moves old.net mid.net leads
+          ∙ (rw (silent quiet) (ap (λ (lost : List ℕ). lost ++ moves_text quiet mid.net g.moves) (sym (told quiet)) ∙ g.text quiet)));
       inputs =
           ap (λ (inputs : List NetworkInput). inputs ++ inputs_waiting new.waiting) (inputs_on moves g.moves)
           ∙ (append_assoc (inputs_of moves) (inputs_of g.moves) (inputs_waiting new.waiting)
@@ -163,12 +165,12 @@ prepended came old mid new moves leads silent none none_left own last links g =
     }
 
 -- rest comes first
-pub after_rest : (came : Came) (old mid new : StepsView) → WorksTo Outcome.Rest old.net mid.net → losses_left old.sending old.net ≡ [] →
+pub after_rest : (came : Came) (old mid new : StepsView) → WorksTo Outcome.Rest old.net mid.net → HasReported old →
     mid.sending ≡ None → mid.waiting ≡ old.waiting → mid.last ≡ old.last → mid.free_links ≡ old.free_links →
     GoesNext came mid new → GoesNext came old new
 after_rest came old mid new w none sending waiting last links g =
     prepended came old mid new (all_steps Outcome.Rest old.net mid.net w) (steps_lead Outcome.Rest old.net mid.net w)
-    (steps_text Outcome.Rest old.net mid.net w) none (ap (λ (o : Option Sending). losses_left o mid.net) sending)
+    (λ quiet. steps_text quiet Outcome.Rest old.net mid.net w) none (none_sent mid sending)
     (rw (steps_own Outcome.Rest old.net mid.net w, waiting) refl) last links g
 
 -- an input is handed over, or missed
@@ -177,9 +179,13 @@ pub after_hand : (came : Came) (m : ℕ) (input : Input) (old mid new : StepsVie
     old.sending ≡ None → mid.sending ≡ None → old.waiting ≡ Some (record { mote = m; input = input }) → mid.waiting ≡ None →
     mid.last ≡ old.last → mid.free_links ≡ old.free_links → GoesNext came mid new → GoesNext came old new
 after_hand came m input old mid new rested fed sending still waiting none last links g =
-    prepended came old mid new (Move.Hand m input mid.net ∷ []) (record { rested = rested; fed = fed }, refl) refl
-    (ap (λ (o : Option Sending). losses_left o old.net) sending) (ap (λ (o : Option Sending). losses_left o mid.net) still)
+    prepended came old mid new (Move.Hand m input mid.net ∷ []) (record { rested = rested; fed = fed }, refl) (λ quiet. refl)
+    (none_sent old sending) (none_sent mid still)
     (rw (waiting, none) refl) last links g
+
+pub is_not : (halted : Bool) → false ≡ not halted → true ≡ halted
+is_not true is = refl
+is_not false is = absurd (cc)
 
 halted_there : (o : Option SessionView) → is_halted_in o ≡ true → IsSomeAnd o (λ (mote : SessionView). mote.machine.is_halted ≡ true)
 halted_there None h = absurd (cc)
@@ -193,7 +199,7 @@ unheard w s new rested halted sending none is =
     (record {
       moves = Move.Miss w.mote w.input s.net ∷ [];
       leads = (record { rested = rested; halted = halted_there (slice_get s.net.motes w.mote) (sym halted); result = refl }, refl);
-      text = rw sending refl;
+      text = λ quiet. rw sending refl;
       inputs = rw none refl;
       last = refl;
       phase = refl;
@@ -201,12 +207,17 @@ unheard w s new rested halted sending none is =
       links = refl;
     })
 
-pub handed : (w : Waiting) (x : Outcome) (s new : StepsView) (mid last : NetworkView) → IsResting s.net → IsNetworkFed w.mote w.input s.net mid →
-    s.sending ≡ None → s.waiting ≡ None → WorksTo x mid last → new ≡ noted x (record s { net = last; phase = Phase.Working }) →
-    GoesNext (came_of x) (record s { waiting = Some w }) new
-handed w x s new mid last rested fed sending none works is =
-    after_hand (came_of x) w.mote w.input (record s { waiting = Some w }) (record s { net = mid }) new rested fed sending sending refl none refl refl
-    (came_by x (record s { net = mid }) new last (ap (λ (o : Option Sending). losses_left o mid) sending) (λ e. none) works is)
+-- what follows an input that was handed over
+pub worked_on : (x : Outcome) (old new : StepsView) (net : NetworkView) → old.sending ≡ None → old.waiting ≡ None → WorksTo x old.net net →
+    new ≡ noted x (record old { net = net; phase = Phase.Working }) → GoesNext (came_of x) old new
+worked_on x old new net sending taken w is = came_by x old new net (none_sent old sending) (λ e. taken) w is
+
+pub handed_on : (r : Result Came StepsFault) (w : Waiting) (s mid new : StepsView) → IsResting s.net → IsNetworkFed w.mote w.input s.net mid.net →
+    s.sending ≡ None → mid.sending ≡ None → s.waiting ≡ None → mid.waiting ≡ None → mid.last ≡ s.last → mid.free_links ≡ s.free_links →
+    IfOk r (λ (came : Came). GoesNext came mid new) → IfOk r (λ (came : Came). GoesNext came (record s { waiting = Some w }) new)
+handed_on (Ok came) w s mid new rested fed sending still taken none last links g =
+    after_hand came w.mote w.input (record s { waiting = Some w }) mid new rested fed sending still refl none last links g
+handed_on (Err fault) w s mid new rested fed sending still taken none last links g = tt
 
 -- what `next` is made of
 
@@ -214,66 +225,55 @@ pub rests_on : (r : Result Came StepsFault) (old mid new : StepsView) → WorksT
     mid.waiting ≡ old.waiting → mid.last ≡ old.last → mid.free_links ≡ old.free_links →
     IfOk r (λ (came : Came). GoesNext came mid new) → IfOk r (λ (came : Came). GoesNext came old new)
 rests_on (Ok came) old mid new w sending still waiting last links g =
-    after_rest came old mid new w (ap (λ (o : Option Sending). losses_left o old.net) sending) still waiting last links g
+    after_rest came old mid new w (none_sent old sending) still waiting last links g
 rests_on (Err fault) old mid new w sending still waiting last links g = tt
 
 pub goes_by : (x : Outcome) (old new : StepsView) (net : NetworkView) → old.sending ≡ None → (x ≡ Outcome.Rest → ⊥) → WorksTo x old.net net →
     new ≡ noted x (record old { net = net; phase = Phase.Working }) → GoesNext (came_of x) old new
 goes_by x old new net sending apart w is =
-    came_by x old new net (ap (λ (o : Option Sending). losses_left o old.net) sending) (λ e. absurd (apart e)) w is
+    came_by x old new net (none_sent old sending) (λ e. absurd (apart e)) w is
 
-pub all_told : (r : Result Came StepsFault) (old mid new : StepsView) → mid ≡ record old { sending = None } → losses_left old.sending old.net ≡ [] →
+pub all_reported : (r : Result Came StepsFault) (old mid new : StepsView) → mid ≡ record old { sending = None } → losses_left old.sending old.net ≡ [] →
     IfOk r (λ (came : Came). GoesNext came mid new) → IfOk r (λ (came : Came). GoesNext came old new)
-all_told (Ok came) old mid new is none g =
-    prepended came old mid new [] (ap (λ (s : StepsView). s.net) (sym is)) refl none (ap (λ (s : StepsView). losses_left s.sending s.net) is)
+all_reported (Ok came) old mid new is none g =
+    prepended came old mid new [] (ap (λ (s : StepsView). s.net) (sym is)) (λ quiet. refl) (none_left old none)
+    (none_sent mid (ap (λ (s : StepsView). s.sending) is))
     (ap (λ (s : StepsView). inputs_waiting s.waiting) is) (ap (λ (s : StepsView). s.last) is) (ap (λ (s : StepsView). s.free_links) is) g
-all_told (Err fault) old mid new is none g = tt
+all_reported (Err fault) old mid new is none g = tt
 
 -- a loss is reported
 
-loss_is_new : (came : Came) (net : NetworkView) → is_loss came ≡ true → loss_line came ≡ new_line came net
-loss_is_new (Came.Lost from to) net l = refl
-loss_is_new (Came.Full from to) net l = refl
-loss_is_new (Came.Turn m) net l = absurd (cc)
-loss_is_new (Came.Entry m) net l = absurd (cc)
-loss_is_new Came.Clock net l = absurd (cc)
-loss_is_new (Came.Missed from to) net l = absurd (cc)
-loss_is_new (Came.Unheard m) net l = absurd (cc)
-loss_is_new Came.Rest net l = absurd (cc)
-loss_is_new Came.Halt net l = absurd (cc)
+-- what holds of both kinds of losses
+loss_by : (P : Came → Type 0) → ((from to : ℕ) → P (Came.Lost from to)) → ((from to : ℕ) → P (Came.Full from to)) → (came : Came) → is_loss came ≡ true → P came
+loss_by P lost full (Came.Lost from to) l = lost from to
+loss_by P lost full (Came.Full from to) l = full from to
+loss_by P lost full (Came.Turn m) l = absurd (cc)
+loss_by P lost full (Came.Entry m) l = absurd (cc)
+loss_by P lost full Came.Clock l = absurd (cc)
+loss_by P lost full (Came.Missed from to) l = absurd (cc)
+loss_by P lost full (Came.Unheard m) l = absurd (cc)
+loss_by P lost full Came.Rest l = absurd (cc)
+loss_by P lost full Came.Halt l = absurd (cc)
+
+pub loss_is_line : (came : Came) (net : NetworkView) → is_loss came ≡ true → loss_line came ≡ came_line came net
+loss_is_line came net l = loss_by (λ (c : Came). loss_line c ≡ came_line c net) (λ from to. refl) (λ from to. refl) came l
+
+loss_is_shown : (quiet : Bool) (came : Came) (net : NetworkView) → is_loss came ≡ true → if_shown (not quiet) (loss_line came) ≡ shown_line quiet came net
+loss_is_shown quiet came net l =
+    loss_by (λ (c : Came). if_shown (not quiet) (loss_line c) ≡ shown_line quiet c net) (λ from to. refl) (λ from to. refl) came l
 
 loss_last : (came before : Came) → is_loss came ≡ true → came ≡ last_after came before
-loss_last (Came.Lost from to) before l = refl
-loss_last (Came.Full from to) before l = refl
-loss_last (Came.Turn m) before l = refl
-loss_last (Came.Entry m) before l = refl
-loss_last Came.Clock before l = refl
-loss_last (Came.Missed from to) before l = refl
-loss_last (Came.Unheard m) before l = refl
-loss_last Came.Rest before l = absurd (cc)
-loss_last Came.Halt before l = refl
+loss_last came before l = loss_by (λ (c : Came). c ≡ last_after c before) (λ from to. refl) (λ from to. refl) came l
 
 loss_phase : (came : Came) → is_loss came ≡ true → Phase.Working ≡ phase_after came
-loss_phase (Came.Lost from to) l = refl
-loss_phase (Came.Full from to) l = refl
-loss_phase (Came.Turn m) l = refl
-loss_phase (Came.Entry m) l = refl
-loss_phase Came.Clock l = refl
-loss_phase (Came.Missed from to) l = refl
-loss_phase (Came.Unheard m) l = refl
-loss_phase Came.Rest l = absurd (cc)
-loss_phase Came.Halt l = absurd (cc)
+loss_phase came l = loss_by (λ (c : Came). Phase.Working ≡ phase_after c) (λ from to. refl) (λ from to. refl) came l
 
 loss_so : (came : Came) (s : StepsView) → is_loss came ≡ true → IsCame came s
-loss_so (Came.Lost from to) s l = tt
-loss_so (Came.Full from to) s l = tt
-loss_so (Came.Turn m) s l = absurd (cc)
-loss_so (Came.Entry m) s l = tt
-loss_so Came.Clock s l = tt
-loss_so (Came.Missed from to) s l = tt
-loss_so (Came.Unheard m) s l = tt
-loss_so Came.Rest s l = absurd (cc)
-loss_so Came.Halt s l = absurd (cc)
+loss_so came s l = loss_by (λ (c : Came). IsCame c s) (λ from to. tt) (λ from to. tt) came l
+
+shown_both : (shown : Bool) (first second : List ℕ) → if_shown shown (first ++ second) ≡ if_shown shown first ++ if_shown shown second
+shown_both true first second = refl
+shown_both false first second = refl
 
 pub loss_reported : (came : Came) (old new : StepsView) → is_loss came ≡ true →
     new ≡ record old { last = came; sending = new.sending; phase = Phase.Working } →
@@ -283,9 +283,12 @@ loss_reported came old new l is text =
     record {
       moves = [];
       leads = sym net;
-      text =
-          append-nil (losses_left old.sending old.net)
-          ∙ (text ∙ rw net (ap (λ (line : List ℕ). line ++ losses_left new.sending old.net) (loss_is_new came old.net l)));
+      text = λ quiet.
+          append-nil (shown_losses quiet old.sending old.net)
+          ∙ (losses_are quiet old.sending old.net
+          ∙ (ap (if_shown (not quiet)) text
+          ∙ (shown_both (not quiet) (loss_line came) (losses_left new.sending old.net)
+          ∙ rw (net, loss_is_shown quiet came old.net l, losses_are quiet new.sending old.net) refl)));
       inputs = ap (λ (s : StepsView). inputs_waiting s.waiting) is;
       last = ap (λ (s : StepsView). s.last) is ∙ loss_last came old.last l;
       phase = ap (λ (s : StepsView). s.phase) is ∙ loss_phase came l;
@@ -295,33 +298,19 @@ loss_reported came old new l is text =
 
 -- a mote is told the time, if it is behind
 
-and_true : (a b : Bool) → a ≡ false → (not a && b) ≡ true → b ≡ true
-and_true true b h e = absurd (cc)
-and_true false b h e = e
-
-and_false : (a b : Bool) → a ≡ false → (not a && b) ≡ false → b ≡ false
-and_false true b h e = absurd (cc)
-and_false false b h e = e
-
-is_less : (a b : ℕ) → nat_lt a b ≡ true → a < b
-is_less a b e = grind (arith, nat_tests)
-
-pub told_so : (m : ℕ) (old new : NetworkView) (told : Bool) → IsResting old →
-    IsSomeAnd (slice_get old.motes m) (λ (mote : SessionView). told ≡ nat_lt mote.machine.clock old.air.clock) →
-    false ≡ is_halted_in (slice_get old.motes m) → (told ≡ true → IsToldTime m old new) → (told ≡ false → new ≡ old) → ToldIfBehind m old new
-told_so m old new told rested behind halted if_told if_untold = by_mote (slice_get old.motes m) refl behind halted
+pub told_so : (m : ℕ) (old new : NetworkView) (told : Bool) → IsResting old → (slice_get old.motes m ≡ None → ⊥) →
+    ((mote : SessionView) → slice_get old.motes m ≡ Some mote → told ≡ is_behind old mote) → (told ≡ true → IsToldTime m old new) →
+    (told ≡ false → new ≡ old) → ToldIfBehind m old new
+told_so m old new told rested present behind if_told if_untold = by_mote (slice_get old.motes m) refl
   where
-    by_mote : (o : Option SessionView) → slice_get old.motes m ≡ o →
-        IsSomeAnd o (λ (mote : SessionView). told ≡ nat_lt mote.machine.clock old.air.clock) → false ≡ is_halted_in o → ToldIfBehind m old new
-    by_mote None there b h = absurd b
-    by_mote (Some mote) there b h =
+    by_mote : (o : Option SessionView) → slice_get old.motes m ≡ o → ToldIfBehind m old new
+    by_mote None there = absurd (present there)
+    by_mote (Some mote) there =
         record {
           mote = mote;
           there = there;
-          told = λ is.
-              let late = and_true mote.machine.is_halted (nat_lt mote.machine.clock old.air.clock) (sym h) is in
-              record { rested = rested; behind = rw there (is_less mote.machine.clock old.air.clock late); told = if_told (b ∙ late) };
-          untold = λ is. if_untold (b ∙ and_false mote.machine.is_halted (nat_lt mote.machine.clock old.air.clock) (sym h) is);
+          told = λ is. let so = behind mote there ∙ is in tells m old new told rested behind so (if_told so);
+          untold = λ is. if_untold (behind mote there ∙ is);
         }
 
 -- ---- what is refused
@@ -349,7 +338,7 @@ input_refused cause w old new rested refuses same =
     (record {
       moves = [];
       leads = refl;
-      silent = refl;
+      silent = λ quiet. refl;
       left = inputs_waiting (Some w);
       inputs = refl;
       cause = cause;
@@ -357,19 +346,25 @@ input_refused cause w old new rested refuses same =
       reported = refl;
     })
 
+refuses_step : (net : NetworkView) (cause : NetworkFault) (w : Option Waiting) → (step_refusal net ≡ Some cause) ⊎ RefusesInput None net cause →
+    (step_refusal net ≡ Some cause) ⊎ RefusesInput w net cause
+refuses_step net cause w (inl step) = inl step
+refuses_step net cause w (inr none) = absurd none
+
 -- a step after that input
-pub later_refused : (cause : NetworkFault) (w : Waiting) (old mid new : NetworkView) → IsResting old → IsNetworkFed w.mote w.input old mid →
-    GoesOn mid new → step_refusal new ≡ Some cause → IsRefused (fault_of cause) old (Some w) new
-later_refused cause w old mid new rested fed g refuses =
+pub later_refused : (r : Result Came StepsFault) (w : Waiting) (old mid new : NetworkView) → IsResting old → IsNetworkFed w.mote w.input old mid →
+    IfErr r (λ (fault : StepsFault). IsRefused fault mid None new) → IfErr r (λ (fault : StepsFault). IsRefused fault old (Some w) new)
+later_refused (Ok came) w old mid new rested fed refused = tt
+later_refused (Err fault) w old mid new rested fed refused =
     record {
-      moves = Move.Hand w.mote w.input mid ∷ g.moves;
-      leads = (record { rested = rested; fed = fed }, g.leads);
-      silent = g.silent;
-      left = [];
-      inputs = rw g.own refl;
-      cause = cause;
-      refuses = inl refuses;
-      reported = refl;
+      moves = Move.Hand w.mote w.input mid ∷ refused.moves;
+      leads = (record { rested = rested; fed = fed }, refused.leads);
+      silent = refused.silent;
+      left = refused.left;
+      inputs = ap (λ (inputs : List NetworkInput). NetworkInput.ForMote (w.mote + 1) w.input ∷ inputs) refused.inputs;
+      cause = refused.cause;
+      refuses = refuses_step new refused.cause (Some w) refused.refuses;
+      reported = refused.reported;
     }
 
 -- rest comes first
@@ -379,11 +374,10 @@ refused_at_rest (Ok came) waiting old mid new w refused = tt
 refused_at_rest (Err fault) waiting old mid new w refused =
     let moves = all_steps Outcome.Rest old mid w in
     let leads = steps_lead Outcome.Rest old mid w in
-    let silent : moves_text false old moves ≡ [] = steps_text Outcome.Rest old mid w in
     record {
       moves = moves ++ refused.moves;
       leads = leads_on moves refused.moves old mid new leads refused.leads;
-      silent = text_on false moves refused.moves old mid leads ∙ rw (silent, refused.silent) refl;
+      silent = λ quiet. text_on quiet moves refused.moves old mid leads ∙ rw (steps_text quiet Outcome.Rest old mid w, refused.silent quiet) refl;
       left = refused.left;
       inputs =
           ap (λ (inputs : List NetworkInput). inputs ++ refused.left) (inputs_on moves refused.moves)
@@ -411,4 +405,4 @@ turn_refused None awaited net waiting turn there = absurd (cc)
 turn_refused (Some one) awaited net waiting turn there =
     let both = turn_refuses net net.active (awaited one) turn in
     step_refused (NetworkFault.Refused SessionRefusal.AwaitsCall) waiting net net
-    (record { moves = []; leads = refl; silent = refl; own = refl }) (rw both.0 both.1)
+    (record { moves = []; leads = refl; silent = λ quiet. refl; own = refl }) (rw both.0 both.1)

@@ -1,18 +1,13 @@
--- The steps that aren't reported, and the lines of the others.
-use Rattle.std.proofs.Common.{◌≡◌, ℕ, ◌+◌, ◌<◌, false, List, [], ◌∷◌, ◌++◌, refl, ap, ◌∙◌, arith, Option, None, Some, is_some}
-use Rattle.medium_core.specs.declared.flight.Flight.{Flight}
-use Rattle.mote_session.specs.SessionView.{SessionView}
+-- The steps that aren't reported take something of what is left to do.
+use Rattle.std.proofs.Common.{◌≡◌, ℕ, ◌+◌, ◌<◌, false, refl, ap, arith, Option, None, Some, is_some}
 use Rattle.mote_session.specs.declared.session.Next.{Next}
 use Rattle.network_session.specs.Code.Measures.{to_do}
-use Rattle.network_session.specs.Logs.{happened, heard_by, told_by}
 use Rattle.network_session.specs.Network.{NetworkView}
 use Rattle.network_session.specs.Steps.{Worked}
 use Rattle.network_session.specs.declared.outcome.Outcome.{Outcome}
 use Rattle.network_session.proofs.Nearer.{fewer_to_do, nearer_worked}
-use Rattle.network_text.specs.NetworkRuns.{DoesStep, Move}
-use Rattle.network_text.specs.NetworkText.{log_text}
-use Rattle.network_text.proofs.Moves.{inputs_on, leads_on, text_on}
-use Rattle.network_steps.specs.Works.{GoesOn, is_reported}
+use Rattle.network_steps.specs.NetworkRuns.{DoesStep}
+use Rattle.network_steps.specs.Works.{is_reported}
 
 -- how much is left to do
 
@@ -60,28 +55,3 @@ less (Outcome.Missed from to) old new s r = absurd (cc)
 less Outcome.Passed old new s r = absurd (cc)
 less Outcome.Rest old new s r = absurd (cc)
 less Outcome.Exhausted old new s r = absurd (cc)
-
--- a step that isn't reported has no line
-
-pub silent : (x : Outcome) (old new : NetworkView) → DoesStep x old new → is_reported x ≡ false → log_text false old.air (happened x old new) ≡ []
-silent (Outcome.Started m) old new s r = refl
-silent (Outcome.Rested m) old new s r = refl
-silent (Outcome.Stopped m) old new s r = refl
-silent (Outcome.Woken m) old new s r = ap (λ (o : Option SessionView). log_text false old.air (told_by old.air.clock m o)) s.steps.told.mote
-silent (Outcome.Heard m) old new s r = ap (λ (o : Option Flight). log_text false old.air (heard_by m o)) s.steps.arrives
-silent (Outcome.Turn m) old new s r = absurd (cc)
-silent (Outcome.Made m) old new s r = absurd (cc)
-silent (Outcome.Missed from to) old new s r = absurd (cc)
-silent Outcome.Passed old new s r = absurd (cc)
-silent Outcome.Rest old new s r = absurd (cc)
-silent Outcome.Exhausted old new s r = absurd (cc)
-
-pub goes_further : (x : Outcome) (old mid new : NetworkView) → GoesOn old mid → DoesStep x mid new → is_reported x ≡ false → GoesOn old new
-goes_further x old mid new g s r =
-    let step : List Move = Move.Step x new ∷ [] in
-    record {
-      moves = g.moves ++ step;
-      leads = leads_on g.moves step old mid new g.leads (s, refl);
-      silent = text_on false g.moves step old mid g.leads ∙ rw (g.silent, silent x mid new s r) refl;
-      own = inputs_on g.moves step ∙ rw g.own refl;
-    }

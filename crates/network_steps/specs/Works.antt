@@ -6,13 +6,13 @@ use Rattle.mote_session.specs.Sent.{sent_in}
 use Rattle.mote_session.specs.SessionView.{SessionView}
 use Rattle.mote_types.specs.declared.entry.Input.{Input}
 use Rattle.network_session.specs.Network.{NetworkView}
-use Rattle.network_session.specs.Refusals.{feed_refusal, step_refusal}
+use Rattle.network_session.specs.Refusals.{catch_up_refusal, feed_refusal, step_refusal}
 use Rattle.network_session.specs.Schedule.{due_step}
 use Rattle.network_session.specs.declared.fault.NetworkFault.{NetworkFault}
 use Rattle.network_session.specs.declared.outcome.Outcome.{Outcome}
-use Rattle.network_text.specs.NetworkRuns.{DoesStep, IsResting, Leads, Move, PassesTime, TellsTime, inputs_of, moves_text}
-use Rattle.network_text.specs.declared.input.NetworkInput.{NetworkInput}
-use Rattle.network_steps.specs.Lines.{came_line, losses_left}
+use Rattle.network_steps.specs.NetworkRuns.{DoesStep, IsResting, Leads, Move, PassesTime, TellsTime, inputs_of, moves_text}
+use Rattle.network_steps.specs.declared.input.NetworkInput.{NetworkInput}
+use Rattle.network_steps.specs.Lines.{shown_line, shown_losses}
 use Rattle.network_steps.specs.Refusals.{awaited_turn, fault_of}
 use Rattle.network_steps.specs.StepsView.{StepsView}
 use Rattle.network_steps.specs.declared.came.Came.{Came}
@@ -39,7 +39,7 @@ is_reported (Outcome.Heard m) = false
 pub record GoesOn (old new : NetworkView) : Type 0 where
   pub moves : List Move
   pub leads : Leads old moves new
-  pub silent : moves_text false old moves ≡ []
+  pub silent : (quiet : Bool) → moves_text quiet old moves ≡ []
   pub own : inputs_of moves ≡ []
 
 -- and then a step that is reported
@@ -55,18 +55,6 @@ RestsIf Phase.Resting net = IsResting net
 RestsIf Phase.Fresh net = Unit {0}
 RestsIf Phase.Working net = Unit {0}
 RestsIf Phase.Spent net = Unit {0}
-
--- the line that a move of the network has
-abbrev pub new_line : Came → NetworkView → List ℕ
-new_line (Came.Turn m) net = []
-new_line Came.Halt net = []
-new_line (Came.Entry m) net = came_line (Came.Entry m) net
-new_line Came.Clock net = came_line Came.Clock net
-new_line (Came.Lost from to) net = came_line (Came.Lost from to) net
-new_line (Came.Full from to) net = came_line (Came.Full from to) net
-new_line (Came.Missed from to) net = came_line (Came.Missed from to) net
-new_line (Came.Unheard m) net = came_line (Came.Unheard m) net
-new_line Came.Rest net = []
 
 -- what a step comes to, if it is reported
 abbrev pub came_of : Outcome → Came
@@ -111,25 +99,28 @@ abbrev pub sending_by : ℕ → Option SessionView → Option Sending
 sending_by m None = None
 sending_by m (Some mote) = if is_some (sent_in mote.last) then Some (record { from = m; place = 0 }) else None
 
-abbrev pub sending_after : Outcome → NetworkView → Option Sending
-sending_after (Outcome.Made m) net = sending_by m (slice_get net.motes m)
-sending_after (Outcome.Turn m) net = None
-sending_after (Outcome.Missed from to) net = None
-sending_after Outcome.Passed net = None
-sending_after Outcome.Exhausted net = None
-sending_after Outcome.Rest net = None
-sending_after (Outcome.Started m) net = None
-sending_after (Outcome.Rested m) net = None
-sending_after (Outcome.Stopped m) net = None
-sending_after (Outcome.Woken m) net = None
-sending_after (Outcome.Heard m) net = None
+-- the frame that was sent in what came
+abbrev pub sending_of : Came → NetworkView → Option Sending
+sending_of (Came.Entry m) net = sending_by m (slice_get net.motes m)
+sending_of (Came.Turn m) net = None
+sending_of Came.Clock net = None
+sending_of (Came.Lost from to) net = None
+sending_of (Came.Full from to) net = None
+sending_of (Came.Missed from to) net = None
+sending_of (Came.Unheard m) net = None
+sending_of Came.Rest net = None
+sending_of Came.Halt net = None
+
+-- the lines of what came, which left the network so
+abbrev pub came_lines : Bool → Came → NetworkView → List ℕ
+came_lines quiet came net = shown_line quiet came net ++ shown_losses quiet (sending_of came net) net
 
 -- so what is reported is noted
 abbrev pub noted : Outcome → StepsView → StepsView
 noted outcome s =
     record s {
       last = last_after (came_of outcome) s.last;
-      sending = sending_after outcome s.net;
+      sending = sending_of (came_of outcome) s.net;
       phase = phase_after (came_of outcome);
     }
 
@@ -155,7 +146,8 @@ IsCame (Came.Unheard m) new = Unit {0}
 pub record GoesNext (came : Came) (old new : StepsView) : Type 0 where
   pub moves : List Move
   pub leads : Leads old.net moves new.net
-  pub text : losses_left old.sending old.net ++ moves_text false old.net moves ≡ new_line came new.net ++ losses_left new.sending new.net
+  pub text : (quiet : Bool) →
+      shown_losses quiet old.sending old.net ++ moves_text quiet old.net moves ≡ shown_line quiet came new.net ++ shown_losses quiet new.sending new.net
   pub inputs : inputs_of moves ++ inputs_waiting new.waiting ≡ inputs_waiting old.waiting
   pub last : new.last ≡ last_after came old.last
   pub phase : new.phase ≡ phase_after came
@@ -171,7 +163,7 @@ RefusesInput (Some waiting) net cause = IsResting net × (feed_refusal waiting.m
 pub record IsRefused (fault : StepsFault) (old : NetworkView) (waiting : Option Waiting) (new : NetworkView) : Type 0 where
   pub moves : List Move
   pub leads : Leads old moves new
-  pub silent : moves_text false old moves ≡ []
+  pub silent : (quiet : Bool) → moves_text quiet old moves ≡ []
   pub left : List NetworkInput
   pub inputs : inputs_of moves ++ left ≡ inputs_waiting waiting
   pub cause : NetworkFault
@@ -190,6 +182,10 @@ is_halted_in (Some mote) = mote.machine.is_halted
 -- a mote that isn't halted, and is behind
 abbrev pub is_behind : NetworkView → SessionView → Bool
 is_behind net mote = not mote.machine.is_halted && nat_lt mote.machine.clock net.air.clock
+
+-- why it can't get the time, if it is behind and wasn't halted
+abbrev pub given_refusal : ℕ → NetworkView → Option NetworkFault
+given_refusal m net = if is_halted_in (slice_get net.motes m) then None else catch_up_refusal m net
 
 -- a mote gets the time, if it is behind
 pub record ToldIfBehind (m : ℕ) (old new : NetworkView) : Type 0 where

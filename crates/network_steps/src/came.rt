@@ -57,7 +57,7 @@ pub struct Waiting {
 }
 
 /// What a step comes to that is reported.
-pub(crate) fn came_of(outcome: Outcome) -> Came
+pub fn came_of(outcome: Outcome) -> Came
     ensures { result ≡ came_of outcome }
 {
     match outcome {

@@ -10,30 +10,28 @@ ghost use Rattle.timer_core.specs.Deadlines.{next_deadline};
 ghost use Rattle.network_steps.specs.Lines.{came_line, is_loss, loss_line, losses_left};
 ghost use Rattle.network_steps.specs.Refusals.{awaited_turn, due_refusal, feed_refusal, is_from_outside, link_refusal, submit_refusal, tick_refusal, told_refusal, unrest};
 ghost use Rattle.network_steps.specs.StepsView.{opened_steps, unlinked};
-ghost use Rattle.network_text.specs.NetworkRuns.{IsResting};
-ghost use Rattle.network_steps.specs.Works.{GoesNext, GoesOn, IsRefused, TakesFeed, TakesLink, TakesTicks, ToldIfBehind, WorksTo, came_of, is_halted_in, is_reported, noted, sending_after};
+ghost use Rattle.network_steps.specs.NetworkRuns.{IsResting};
+ghost use Rattle.network_steps.specs.Works.{GoesNext, GoesOn, IsRefused, TakesFeed, TakesLink, TakesTicks, ToldIfBehind, WorksTo, came_of, is_reported, noted, sending_of};
 ghost use Rattle.network_steps.specs.declared.came.Phase.TheVariants.{Resting as Rests, Working as Works};
 ghost use Rattle.network_steps.specs.declared.fault.StepsFault.{StepsFault};
 ghost use Rattle.mote_session.specs.declared.refusal.SessionRefusal.{SessionRefusal};
 ghost use Rattle.network_session.specs.declared.outcome.Outcome.TheVariants.{Rest as Rested};
 
 use crate::came::{Came, Phase, Sending, Waiting, came_of};
+use crate::came_lines::push_came;
 use crate::fates::next_fate;
 use crate::fault::{StepsFault, fault_of};
+use crate::giving::{give_input, give_time};
 use crate::working::work;
 use medium_core::link::Link;
 use mote_session::refusal::SessionRefusal;
 use mote_session::session::{OpenTurn, Session};
 use mote_text::output_buffer::OutputBuffer;
-use mote_text::script::End;
 use mote_types::call::Call;
 use mote_types::entry::Input;
 use network_session::fault::NetworkBootFault;
 use network_session::network::Network;
 use network_session::outcome::Outcome;
-use network_text::lines::{
-    last_entry_text, last_text, push_clock_line, push_frame_line, push_unheard_line,
-};
 use std::alloc::Global;
 use std::marker::Model;
 
@@ -179,7 +177,7 @@ impl NetworkSteps {
 
     /// Works to the next step that is reported, where nothing is left to be reported.
     fn go_on(&mut self) -> Result<Came, StepsFault>
-        requires told { self.old.sending ≡ None }
+        requires reported { self.old.sending ≡ None }
         ensures went { IfOk result (λ came. GoesNext came self.old self.new) }
         ensures failed { IfErr result (λ fault. IsRefused fault self.old.net self.old.waiting self.new.net) }
     {
@@ -223,7 +221,7 @@ impl NetworkSteps {
     /// At rest hands over the input that waits for it; without one, rests.
     fn rest(&mut self) -> Result<Came, StepsFault>
         requires rests { IsResting self.old.net }
-        requires told { self.old.sending ≡ None }
+        requires reported { self.old.sending ≡ None }
         ensures went { IfOk result (λ came. GoesNext came self.old self.new) }
         ensures failed { IfErr result (λ fault. IsRefused fault self.old.net self.old.waiting self.new.net) }
     {
@@ -236,41 +234,45 @@ impl NetworkSteps {
     /// Hands an input from outside to its mote, and works on. One that was halted hears nothing.
     fn hand_over(&mut self, waiting: Waiting) -> Result<Came, StepsFault>
         requires rests { IsResting self.old.net }
-        requires told { self.old.sending ≡ None }
+        requires reported { self.old.sending ≡ None }
         requires taken { self.old.waiting ≡ None }
         ensures went { IfOk result (λ came. GoesNext came (record self.old { waiting = Some waiting }) self.new) }
         ensures failed { IfErr result (λ fault. IsRefused fault self.old.net (Some waiting) self.new.net) }
     {
         self.phase = Phase::Working;
         let Waiting { mote, input } = waiting;
-        if self.is_halted(mote) {
-            self.last = Came::Unheard(mote);
-            return Ok(self.last);
+        match give_input(&mut self.network, mote, input) {
+            Ok(is_given) => {
+                if is_given {
+                    self.work_on()
+                } else {
+                    self.last = Came::Unheard(mote);
+                    Ok(self.last)
+                }
+            }
+            Err(fault) => Err(fault_of(fault)),
         }
-        if let Err(fault) = self.network.feed(mote, input) {
-            return Err(fault_of(fault));
-        }
+    }
+
+    /// Works on after an input.
+    fn work_on(&mut self) -> Result<Came, StepsFault>
+        requires reported { self.old.sending ≡ None }
+        requires taken { self.old.waiting ≡ None }
+        ensures went { IfOk result (λ came. GoesNext came self.old self.new) }
+        ensures failed { IfErr result (λ fault. IsRefused fault self.old.net None self.new.net) }
+    {
+        self.phase = Phase::Working;
         match work(&mut self.network) {
             Ok(outcome) => Ok(self.come_to(outcome)),
             Err(fault) => Err(fault_of(fault)),
         }
     }
 
-    /// Whether this mote was halted.
-    fn is_halted(&self, mote: usize) -> bool
-        ensures { result ≡ is_halted_in (slice_get self.now.net.motes mote) }
+    /// The frame that was sent in what came, if one was.
+    fn sending_of(&self, came: Came) -> Option<Sending>
+        ensures { result ≡ sending_of came self.now.net }
     {
-        match self.network.mote(mote) {
-            Some(session) => session.halted(),
-            None => false,
-        }
-    }
-
-    /// The frame that was sent in this step, if one was.
-    fn sending_after(&self, outcome: Outcome) -> Option<Sending>
-        ensures { result ≡ sending_after outcome self.now.net }
-    {
-        let Outcome::Made(from) = outcome else {
+        let Came::Entry(from) = came else {
             return None;
         };
         match self.network.mote(from) {
@@ -287,7 +289,7 @@ impl NetworkSteps {
         ensures noted { self.new ≡ noted outcome self.old }
     {
         let came = came_of(outcome);
-        self.sending = self.sending_after(outcome);
+        self.sending = self.sending_of(came);
         self.last = came.or_if_rest(self.last);
         self.phase = came.phase();
         came
@@ -377,11 +379,7 @@ impl NetworkSteps {
         ensures accepted { IfOk result (λ _. told_refusal mote (slice_get self.old.net.motes mote) self.old.net ≡ None) }
         ensures refused { IfErr result (λ fault. (told_refusal mote (slice_get self.old.net.motes mote) self.old.net ≡ Some fault) × (self.new ≡ self.old)) }
     {
-        if self.is_halted(mote) {
-            self.phase = Phase::Working;
-            return Ok(());
-        }
-        match self.network.catch_up(mote) {
+        match give_time(&mut self.network, mote) {
             Ok(_) => {
                 self.phase = Phase::Working;
                 Ok(())
@@ -396,20 +394,7 @@ impl NetworkSteps {
         ensures { text.new.items ≡ came_line self.now.last self.now.net }
     {
         text.clear();
-        match self.last {
-            Came::Turn(mote) | Came::Entry(mote) => {
-                if let Some(session) = self.network.mote(mote) {
-                    last_entry_text(mote, session, text);
-                }
-            }
-            Came::Clock => push_clock_line(self.network.clock(), text),
-            Came::Lost(from, to) => push_frame_line(b"lost", from, to, text),
-            Came::Full(from, to) => push_frame_line(b"full", from, to, text),
-            Came::Missed(from, to) => push_frame_line(b"missed", from, to, text),
-            Came::Unheard(mote) => push_unheard_line(mote, text),
-            Came::Halt => last_text(End::Halted, text),
-            Came::Rest => {}
-        }
+        push_came(self.last, &self.network, text);
     }
 
     /// The turn that awaits its call, if one does.

@@ -9,9 +9,9 @@ appended (Ok x) old more new is = is
 appended (Err e) old more new is = tt
 
 -- a call's last word, after the words before it
-pub call_told : (old front between new name last : List ℕ) → between ≡ old ++ front → name ≡ before_first is_space front
+pub call_appended : (old front between new name last : List ℕ) → between ≡ old ++ front → name ≡ before_first is_space front
     → new ≡ between ++ last_words name last
     → new ≡ old ++ call_by front last
-call_told old front between new name last begun named told =
-    told ∙ ap (λ text. text ++ last_words name last) begun ∙ append_assoc old front (last_words name last)
+call_appended old front between new name last begun named is =
+    is ∙ ap (λ text. text ++ last_words name last) begun ∙ append_assoc old front (last_words name last)
     ∙ ap (λ word. old ++ (front ++ last_words word last)) named

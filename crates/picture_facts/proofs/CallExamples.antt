@@ -22,15 +22,15 @@ one_word : (words : List ℕ) → AreCallWords (codes "exit") words → words �
 one_word words (inl alone) = alone.1
 one_word words (inr (front, last, cut, free, is)) = absurd (no_blank (length front) (ap (λ text. get_or text (length front) 0) cut ∙ blank_at front last))
   where
-    no_blank : (place : ℕ) → get_or (codes "exit") place 0 ≡ 32 → ⊥
+    no_blank : (index : ℕ) → get_or (codes "exit") index 0 ≡ 32 → ⊥
     no_blank zero is = absurd (omega (arith, is))
     no_blank (suc zero) is = absurd (omega (arith, is))
     no_blank (suc (suc zero)) is = absurd (omega (arith, is))
     no_blank (suc (suc (suc zero))) is = absurd (omega (arith, is))
-    no_blank (suc (suc (suc (suc place)))) is = absurd (omega (arith, is))
+    no_blank (suc (suc (suc (suc index)))) is = absurd (omega (arith, is))
 
 -- the spaces of a call of three words
-blanks : (place : ℕ) → get_or (codes "print 6 61") place 0 ≡ 32 → (place ≡ 5) ⊎ (place ≡ 7)
+blanks : (index : ℕ) → get_or (codes "print 6 61") index 0 ≡ 32 → (index ≡ 5) ⊎ (index ≡ 7)
 blanks zero is = absurd (omega (arith, is))
 blanks (suc zero) is = absurd (omega (arith, is))
 blanks (suc (suc zero)) is = absurd (omega (arith, is))
@@ -41,7 +41,7 @@ blanks (suc (suc (suc (suc (suc (suc zero)))))) is = absurd (omega (arith, is))
 blanks (suc (suc (suc (suc (suc (suc (suc zero))))))) is = inr refl
 blanks (suc (suc (suc (suc (suc (suc (suc (suc zero)))))))) is = absurd (omega (arith, is))
 blanks (suc (suc (suc (suc (suc (suc (suc (suc (suc zero))))))))) is = absurd (omega (arith, is))
-blanks (suc (suc (suc (suc (suc (suc (suc (suc (suc (suc place)))))))))) is = absurd (omega (arith, is))
+blanks (suc (suc (suc (suc (suc (suc (suc (suc (suc (suc index)))))))))) is = absurd (omega (arith, is))
 
 shown_last : call_by (codes "print 6") (codes "61") ≡ codes "print 6 " ++ opening ++ codes "a" ++ closing
 unfolding digits decode_pairs lib.Utf8.encode

@@ -35,7 +35,7 @@ eight_lists (AreChains.more {chains = chains} before chain change inside blocks)
 few : (change : ListChange) → length (changed change []) ≤ 1
 few (ListChange.Append block) = omega arith
 few (ListChange.Prepend block) = omega arith
-few (ListChange.PutBehind other block) = omega arith
+few (ListChange.InsertAfter other block) = omega arith
 few (ListChange.Remove block) = omega arith
 
 first_chain : {chains : List Chain} → AreChains chains → (one : Chain) → chains ≡ one ∷ [] → length one.blocks.items ≤ 1

@@ -5,20 +5,20 @@ use Rattle.std.proofs.lemmas.Bool.Decides.{nat_tests}
 use Rattle.std.proofs.lemmas.List.{length-set, map-set, get_or-set_same, get_or-set_other}
 use Rattle.std.specs.Global.{Vec}
 use Rattle.picture_facts.specs.declared.facts.chains.Chain.{Chain}
-use Rattle.picture_facts.specs.Chains.{blocks_behind}
+use Rattle.picture_facts.specs.Chains.{blocks_after}
 use Rattle.picture_facts.specs.Code.Blocks.{HaveBlocks}
 
 -- its list has its blocks
 blocks_more : (list : ℕ) (before : List ℕ) (chains : List Chain) (chain : Chain)
-    → blocks_behind list before (chains ++ chain ∷ [])
-    ≡ (if chain.list == list then chain.blocks.items else blocks_behind list before chains)
+    → blocks_after list before (chains ++ chain ∷ [])
+    ≡ (if chain.list == list then chain.blocks.items else blocks_after list before chains)
 blocks_more list before [] chain = refl
 blocks_more list before (other ∷ chains) chain =
     blocks_more list (if other.list == list then other.blocks.items else before) chains chain
 
 -- and the others have theirs
 blocks_at : (lists : List (List ℕ)) (chains : List Chain) (chain : Chain) → HaveBlocks lists chains → chain.list < 8 → (list : ℕ) → list < 8
-    → slice_index_or (set lists chain.list chain.blocks.items) list [] ≡ blocks_behind list [] (chains ++ chain ∷ [])
+    → slice_index_or (set lists chain.list chain.blocks.items) list [] ≡ blocks_after list [] (chains ++ chain ∷ [])
 blocks_at lists chains chain has inside list is =
     grind (arith, cases_eq, nat_tests, get_or-set_same, get_or-set_other, blocks_more list [] chains chain, has.size, has.blocks list is)
 

@@ -3,7 +3,7 @@ use Rattle.std.proofs.Common.{◌≡◌, ◌∙◌, ◌≤◌, ◌<◌, ◌+◌,
 use Rattle.std.proofs.lemmas.List.{length-map, take-take}
 use Rattle.std.proofs.lemmas.List.Sums.{sum_by_more, sum_by-take-le}
 use denote.Ref.{Bor}
-use Rattle.transcript_lines.specs.Lines.{ticks_of}
+use Rattle.picture_facts.specs.Transcript.Lines.{ticks_of}
 use Rattle.picture_facts.specs.Clocks.{clock_after, clock_at}
 use Rattle.picture_facts.specs.Rows.{bytes_of}
 use Rattle.picture_facts.proofs.Again.{text_is}
@@ -12,15 +12,15 @@ capped_sum : (before ticks most : ℕ) → min (min before most + ticks) most �
 capped_sum before ticks most = omega arith
 
 -- one line later, after its ticks
-pub clock_more : (lines : List (Bor (List ℕ))) (place now ticks : ℕ) (line : Bor (List ℕ)) → line.now ≡ [] → place < length lines
-    → now ≡ clock_after (take place (bytes_of lines)) → ticks ≡ ticks_of (get_or lines place line).now
-    → min (now + ticks) (2 ^ 64 - 1) ≡ clock_after (take (place + 1) (bytes_of lines))
-clock_more lines place now ticks line none inside so_far here =
+pub clock_more : (lines : List (Bor (List ℕ))) (index now ticks : ℕ) (line : Bor (List ℕ)) → line.now ≡ [] → index < length lines
+    → now ≡ clock_after (take index (bytes_of lines)) → ticks ≡ ticks_of (get_or lines index line).now
+    → min (now + ticks) (2 ^ 64 - 1) ≡ clock_after (take (index + 1) (bytes_of lines))
+clock_more lines index now ticks line none inside so_far here =
     let size : length (bytes_of lines) ≡ length lines = length-map lines (λ (line : Bor (List ℕ)). line.now) in
-    let more = sum_by_more ticks_of (bytes_of lines) place [] (omega (arith, size)) in
-    let text = text_is lines place line none in
-    ap (λ n. min (n + ticks) (2 ^ 64 - 1)) so_far ∙ capped_sum (sum_by ticks_of (take place (bytes_of lines))) ticks (2 ^ 64 - 1)
-    ∙ ap (λ n. min (sum_by ticks_of (take place (bytes_of lines)) + n) (2 ^ 64 - 1)) (here ∙ ap ticks_of (sym text))
+    let more = sum_by_more ticks_of (bytes_of lines) index [] (omega (arith, size)) in
+    let text = text_is lines index line none in
+    ap (λ n. min (n + ticks) (2 ^ 64 - 1)) so_far ∙ capped_sum (sum_by ticks_of (take index (bytes_of lines))) ticks (2 ^ 64 - 1)
+    ∙ ap (λ n. min (sum_by ticks_of (take index (bytes_of lines)) + n) (2 ^ 64 - 1)) (here ∙ ap ticks_of (sym text))
     ∙ ap (λ n. min n (2 ^ 64 - 1)) (sym more)
 
 sum_grows : (lines : List (List ℕ)) (one other : ℕ) → one ≤ other → sum_by ticks_of (take one lines) ≤ sum_by ticks_of (take other lines)

@@ -29,7 +29,7 @@ abbrev curve : Curve
 curve = record { from = 4; first = 3; to = 5; last = 3 }
 
 abbrev arming : Arming
-arming = record { pid = 4; timer = 0; first = 3; last = Some 3; due = 0; told = None }
+arming = record { pid = 4; timer = 0; first = 3; last = Some 3; due = 0; received = None }
 
 -- nothing ends in the row where it begins
 module _ (rows : ℕ) (marks : Marks) (are : AreMarks rows marks) where

@@ -9,9 +9,16 @@ pub mod Covers
 mod DumpExamples
 mod FactExamples
 pub mod Growing
+mod InFlightExamples
+mod LineExamples
 mod MarkExamples
+mod NetworkExamples
+pub mod ReadNumbers
 pub mod Room
 pub mod RowClocks
 mod RowExamples
+pub mod TurnParts
 pub mod Waits
+pub mod Walked
 mod WordExamples
+pub mod WordForms

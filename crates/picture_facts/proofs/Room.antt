@@ -51,17 +51,17 @@ module _ (size : ℕ) where
         )
   ]
 
-  pub fits_more : (stays : List Stay) (place : ℕ) (stay : Stay) (first : Option ℕ) (end : ℕ) → place < length stays
-      → IsFirstExceeding size (take place stays) first
-      → end ≡ min ((get_or stays place stay).at + (get_or stays place stay).taken) (2 ^ 64 - 1) → end ≤ size → size < 2 ^ 32
-      → IsFirstExceeding size (take (place + 1) stays) first
-  fits_more stays place stay first end inside is sum room small =
-      rw (take_more stays place stay inside) (fits (take place stays) (get_or stays place stay) first is (omega (arith, sum, room, small)))
+  pub fits_more : (stays : List Stay) (index : ℕ) (stay : Stay) (first : Option ℕ) (end : ℕ) → index < length stays
+      → IsFirstExceeding size (take index stays) first
+      → end ≡ min ((get_or stays index stay).at + (get_or stays index stay).taken) (2 ^ 64 - 1) → end ≤ size → size < 2 ^ 32
+      → IsFirstExceeding size (take (index + 1) stays) first
+  fits_more stays index stay first end inside is sum room small =
+      rw (take_more stays index stay inside) (fits (take index stays) (get_or stays index stay) first is (omega (arith, sum, room, small)))
 
-  pub exceeds_more : (stays : List Stay) (place : ℕ) (stay : Stay) (first : Option ℕ) (end : ℕ) → place < length stays
-      → IsFirstExceeding size (take place stays) first
-      → end ≡ min ((get_or stays place stay).at + (get_or stays place stay).taken) (2 ^ 64 - 1) → size < end
-      → IsFirstExceeding size (take (place + 1) stays)
-      (Some (min (unwrap_or first (get_or stays place stay).first) (get_or stays place stay).first))
-  exceeds_more stays place stay first end inside is sum beyond =
-      rw (take_more stays place stay inside) (exceeds (take place stays) (get_or stays place stay) first is (omega (arith, sum, beyond)))
+  pub exceeds_more : (stays : List Stay) (index : ℕ) (stay : Stay) (first : Option ℕ) (end : ℕ) → index < length stays
+      → IsFirstExceeding size (take index stays) first
+      → end ≡ min ((get_or stays index stay).at + (get_or stays index stay).taken) (2 ^ 64 - 1) → size < end
+      → IsFirstExceeding size (take (index + 1) stays)
+      (Some (min (unwrap_or first (get_or stays index stay).first) (get_or stays index stay).first))
+  exceeds_more stays index stay first end inside is sum beyond =
+      rw (take_more stays index stay inside) (exceeds (take index stays) (get_or stays index stay) first is (omega (arith, sum, beyond)))

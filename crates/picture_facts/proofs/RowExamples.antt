@@ -28,8 +28,8 @@ no_other is = let most : 9 ≤ 5 = (is.within 3 (omega arith) (omega arith)).1 i
 none_missing : LieBetween lines 5 5 (record { first = 2; end = 3 }) → ⊥
 none_missing is = let less : 5 < 5 = is.before 1 (omega arith) in absurd (omega arith)
 
-none_behind : LieBetween lines 0 9 (record { first = 0; end = 3 }) → ⊥
-none_behind is = let more : 9 < 9 = is.behind 3 (omega arith) (omega arith) in absurd (omega arith)
+none_after : LieBetween lines 0 9 (record { first = 0; end = 3 }) → ⊥
+none_after is = let more : 9 < 9 = is.after 3 (omega arith) (omega arith) in absurd (omega arith)
 
 not_again : AreAgain lines 1 1 2 → ⊥
 not_again is = let same = is 1 (omega arith) (omega arith) in cc

@@ -1,9 +1,9 @@
 -- Examples: words for small lines.
 use Rattle.std.proofs.Common.{◌≡◌, ◌++◌, [], ◌∷◌, codes, refl}
 use Rattle.std.specs.Fmt.{digits}
-use Rattle.transcript_lines.specs.declared.line.Note.{Note}
-use Rattle.transcript_lines.specs.declared.turn.Origin.{Origin}
-use Rattle.picture_facts.specs.Words.{answer_words, closing, cross, dots, last_words, line_end, note_words, opening, reason, space, shown_bytes, told_by, told_event}
+use Rattle.picture_facts.specs.declared.transcript.line.Note.{Note}
+use Rattle.picture_facts.specs.declared.transcript.turn.Origin.{Origin}
+use Rattle.picture_facts.specs.Words.{answer_words, closing, cross, dots, last_words, line_end, note_words, opening, reason, space, shown_bytes, stimulus_by, event_stimulus}
 
 queue_full : reason (codes "1") ≡ codes "queue full"
 queue_full = refl
@@ -30,19 +30,19 @@ none : shown_bytes 24 [] ≡ dots ++ codes " 0 bytes"
 unfolding digits
 none = refl
 
-an_init : told_event (codes "129 -") ≡ codes "INIT"
+an_init : event_stimulus (codes "129 -") ≡ codes "INIT"
 an_init = refl
 
-a_timer : told_event (codes "136 3") ≡ codes "TIMER 3"
+a_timer : event_stimulus (codes "136 3") ≡ codes "TIMER 3"
 a_timer = refl
 
-a_number : told_event (codes "140 7") ≡ codes "event 140 7"
+a_number : event_stimulus (codes "140 7") ≡ codes "event 140 7"
 a_number = refl
 
-an_answer : told_by Origin.Answer (codes "done") ≡ []
+an_answer : stimulus_by Origin.Answer (codes "done") ≡ []
 an_answer = refl
 
-a_callback : told_by Origin.Callback (codes "2") ≡ codes "callback 2"
+a_callback : stimulus_by Origin.Callback (codes "2") ≡ codes "callback 2"
 a_callback = refl
 
 refused : answer_words (codes "refused 12") ≡ space ++ space ++ cross ++ codes " no room (12)"

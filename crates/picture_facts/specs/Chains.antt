@@ -5,14 +5,14 @@ use Rattle.picture_facts.specs.declared.facts.chains.ListChange.{ListChange}
 use Rattle.picture_facts.specs.Lists.{changed}
 
 -- the blocks of a list after these chains: those of its last one, where it has one, otherwise those that it had before
-abbrev pub blocks_behind : ℕ → List ℕ → List Chain → List ℕ
-blocks_behind list before [] = before
-blocks_behind list before (chain ∷ chains) =
-    blocks_behind list (if chain.list == list then chain.blocks.items else before) chains
+abbrev pub blocks_after : ℕ → List ℕ → List Chain → List ℕ
+blocks_after list before [] = before
+blocks_after list before (chain ∷ chains) =
+    blocks_after list (if chain.list == list then chain.blocks.items else before) chains
 
 -- each chain has the blocks of its list after one change, where it had none at first
 pub data AreChains : List Chain → Type 0 where
   none : AreChains []
   more : {chains : List Chain} → AreChains chains → (chain : Chain) (change : ListChange) → chain.list < 8
-      → chain.blocks.items ≡ changed change (blocks_behind chain.list [] chains)
+      → chain.blocks.items ≡ changed change (blocks_after chain.list [] chains)
       → AreChains (chains ++ chain ∷ [])

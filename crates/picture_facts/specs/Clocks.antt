@@ -1,6 +1,6 @@
 -- The clock at the lines of a transcript, and at rows of them, and which lines are between two clocks.
 use Rattle.std.specs.Prelude.{ℕ, ◌+◌, ◌-◌, ◌^◌, ◌<◌, ◌≤◌, min, List, [], ◌∷◌, length, take, sum_by}
-use Rattle.transcript_lines.specs.Lines.{ticks_of}
+use Rattle.picture_facts.specs.Transcript.Lines.{ticks_of}
 use Rattle.picture_facts.specs.declared.rows.row.Row.{Row}
 use Rattle.picture_facts.specs.declared.rows.Shown.{Shown}
 
@@ -25,4 +25,4 @@ first_of (row ∷ rows) end = row.first
 pub record LieBetween (lines : List (List ℕ)) (from to : ℕ) (shown : Shown) : Type 0 where
   pub before : (line : ℕ) → line < shown.first → clock_at lines line < from
   pub within : (line : ℕ) → shown.first ≤ line → line < shown.end → (from ≤ clock_at lines line) × (clock_at lines line ≤ to)
-  pub behind : (line : ℕ) → shown.end ≤ line → line < length lines → to < clock_at lines line
+  pub after : (line : ℕ) → shown.end ≤ line → line < length lines → to < clock_at lines line

@@ -5,8 +5,10 @@ pub mod Code
 pub mod Dump
 pub mod Levels
 pub mod Lists
+pub mod Network
 pub mod Posts
 pub mod Room
 pub mod Rows
 pub mod Spans
+pub mod Transcript
 pub mod Words

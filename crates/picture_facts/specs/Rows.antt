@@ -18,11 +18,11 @@ abbrev pub bytes_of : List (Bor (List ℕ)) → List (List ℕ)
 bytes_of lines = map (λ line. line.now) lines
 
 abbrev pub text_at : List (List ℕ) → ℕ → List ℕ
-text_at lines place = slice_index_or lines place []
+text_at lines index = slice_index_or lines index []
 
 -- each line from the first position to the end is the one n lines before it
 abbrev pub AreAgain : List (List ℕ) → ℕ → ℕ → ℕ → Type 0
-AreAgain lines period first end = (place : ℕ) → first ≤ place → place < end → text_at lines place ≡ text_at lines (place - period)
+AreAgain lines period first end = (index : ℕ) → first ≤ index → index < end → text_at lines index ≡ text_at lines (index - period)
 
 -- lines that are shown as being there again are there again
 abbrev pub AreAsShown : List (List ℕ) → ℕ → ℕ → Show → Type 0

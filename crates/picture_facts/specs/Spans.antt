@@ -12,8 +12,8 @@ EndsLater first (Some last) = first < last
 EndsLater first None = ⊤
 
 -- an event is received in a later row than the one where it is posted
-abbrev pub IsToldLater : Curve → Type 0
-IsToldLater curve = curve.first < curve.last
+abbrev pub IsReceivedLater : Curve → Type 0
+IsReceivedLater curve = curve.first < curve.last
 
 abbrev pub ArmingEndsLater : Arming → Type 0
 ArmingEndsLater arming = EndsLater arming.first arming.last
@@ -32,6 +32,6 @@ pub record AllEndLater (stays : Stays) : Type 0 where
 pub record AreMarks (rows : ℕ) (marks : Marks) : Type 0 where
   pub answers : length marks.answers.items ≡ rows
   pub lateness : length marks.lateness.items ≡ rows
-  pub curves : All IsToldLater marks.curves.items
+  pub curves : All IsReceivedLater marks.curves.items
   pub armings : All ArmingEndsLater marks.armings.items
   pub stays : AllEndLater marks.stays

@@ -3,12 +3,12 @@ use Rattle.std.specs.Prelude.{ℕ, ◌/◌, ◌%◌, ◌<◌, ◌≡◌, ◌≢�
 use Rattle.std.specs.Fmt.{digit_glyph}
 use Rattle.std.specs.List.{after_first, before_first, list_all, position_or_len}
 use Rattle.hex.specs.Hex.{decode_of}
-use Rattle.transcript_lines.specs.Lines.{behind}
-use Rattle.transcript_lines.specs.declared.line.Ending.{Ending}
-use Rattle.transcript_lines.specs.declared.line.Input.{Input}
-use Rattle.transcript_lines.specs.declared.line.Note.{Note}
-use Rattle.transcript_lines.specs.declared.turn.Origin.{Origin}
-use Rattle.transcript_lines.specs.declared.turn.Turn.{Turn}
+use Rattle.picture_facts.specs.Transcript.Lines.{after_prefix}
+use Rattle.picture_facts.specs.declared.transcript.line.Ending.{Ending}
+use Rattle.picture_facts.specs.declared.transcript.line.Input.{Input}
+use Rattle.picture_facts.specs.declared.transcript.line.Note.{Note}
+use Rattle.picture_facts.specs.declared.transcript.turn.Origin.{Origin}
+use Rattle.picture_facts.specs.declared.transcript.turn.Turn.{Turn}
 
 -- ---- bytes
 
@@ -87,7 +87,7 @@ payload_by payload (Some digits) = codes " " ++ bytes_words digits
 payload_by payload None = if bytes_eq payload (codes "-") then [] else codes " " ++ payload
 
 abbrev pub payload_words : List ℕ → List ℕ
-payload_words payload = payload_by payload (behind (codes "x") payload)
+payload_words payload = payload_by payload (after_prefix (codes "x") payload)
 
 -- the name of an event, by its code; nothing where it has none
 abbrev pub event_name : List ℕ → List ℕ
@@ -111,22 +111,22 @@ event_words code = if length (event_name code) == 0 then codes "event " ++ code 
 abbrev pub is_space : ℕ → Bool
 is_space byte = byte == 32
 
-abbrev pub told_event : List ℕ → List ℕ
-told_event words =
+abbrev pub event_stimulus : List ℕ → List ℕ
+event_stimulus words =
     if nat_lt (position_or_len is_space words) (length words)
     then event_words (before_first is_space words) ++ payload_words (after_first is_space words)
     else event_words words
 
 -- a reply is shown with its call
-abbrev pub told_by : Origin → List ℕ → List ℕ
-told_by Origin.Answer words = []
-told_by Origin.Callback words = codes "callback " ++ words
-told_by Origin.Event words = told_event words
-told_by Origin.Synch words = told_event words
-told_by Origin.Poll words = told_event words
+abbrev pub stimulus_by : Origin → List ℕ → List ℕ
+stimulus_by Origin.Answer words = []
+stimulus_by Origin.Callback words = codes "callback " ++ words
+stimulus_by Origin.Event words = event_stimulus words
+stimulus_by Origin.Synch words = event_stimulus words
+stimulus_by Origin.Poll words = event_stimulus words
 
-abbrev pub told_words : Turn → List ℕ
-told_words turn = told_by turn.origin turn.stimulus.now
+abbrev pub stimulus_words : Turn → List ℕ
+stimulus_words turn = stimulus_by turn.origin turn.stimulus.now
 
 -- ---- replies
 
@@ -165,7 +165,7 @@ answer_by answer None =
 
 -- after its call: a refusal by its reason, a value, and nothing where the call was done
 abbrev pub answer_words : List ℕ → List ℕ
-answer_words answer = answer_by answer (behind (codes "refused ") answer)
+answer_words answer = answer_by answer (after_prefix (codes "refused ") answer)
 
 -- ---- calls
 
@@ -186,7 +186,7 @@ abbrev pub call_by : List ℕ → List ℕ → List ℕ
 call_by front last = front ++ last_words (before_first is_space front) last
 
 abbrev pub HasNoSpace : List ℕ → Type 0
-HasNoSpace words = (place : ℕ) → place < length words → get_or words place 0 ≢ 32
+HasNoSpace words = (index : ℕ) → index < length words → get_or words index 0 ≢ 32
 
 -- the words of a call are these: its own, and bytes as they are shown; the last word is the one after the last space
 abbrev pub AreCallWords : List ℕ → List ℕ → Type 0

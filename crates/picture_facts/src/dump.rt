@@ -63,34 +63,34 @@ struct Walk {
     levels: Levels,
     dump: Dump,
     /// The values in the dump.
-    told: [Option<Value>; SIGNALS],
+    written: [Option<Value>; SIGNALS],
     applications: usize,
     scale: Scale,
     clock: u64,
     /// The number of lines at this clock so far.
-    place: u64,
+    lines_at_clock: u64,
 }
 
 impl Walk {
     /// Writes the value of the signal at a position among all, where it has changed.
-    fn tell(&mut self, place: usize) -> Result<(), AllocError> {
-        let value = self.levels.value(Signal::at(place));
-        let Some(told) = self.told.get_mut(place) else {
+    fn write(&mut self, index: usize) -> Result<(), AllocError> {
+        let value = self.levels.value(Signal::at(index));
+        let Some(written) = self.written.get_mut(index) else {
             return Ok(());
         };
-        if *told == Some(value) {
+        if *written == Some(value) {
             return Ok(());
         }
-        *told = Some(value);
+        *written = Some(value);
         let time = self.clock.saturating_mul(self.scale.units);
-        self.dump.go_to(time.saturating_add(self.place))?;
-        self.dump.set(place as u8, value)
+        self.dump.go_to(time.saturating_add(self.lines_at_clock))?;
+        self.dump.set(index as u8, value)
     }
 
     /// Writes the values that have changed at the present time.
-    fn tell_all(&mut self) -> Result<(), AllocError> {
-        for place in 0..self.applications.saturating_add(COMMON) {
-            self.tell(place)?;
+    fn write_all(&mut self) -> Result<(), AllocError> {
+        for index in 0..self.applications.saturating_add(COMMON) {
+            self.write(index)?;
         }
         Ok(())
     }
@@ -98,7 +98,7 @@ impl Walk {
     /// No line is left at this clock.
     fn rest(&mut self) -> Result<(), AllocError> {
         self.levels.rest();
-        self.tell_all()
+        self.write_all()
     }
 
     /// A line at a clock, after these changes.
@@ -106,11 +106,11 @@ impl Walk {
         if clock != self.clock {
             self.rest()?;
             self.clock = clock;
-            self.place = 0;
+            self.lines_at_clock = 0;
         }
         self.levels.take_line(line);
-        self.tell_all()?;
-        self.place = self.place.saturating_add(1);
+        self.write_all()?;
+        self.lines_at_clock = self.lines_at_clock.saturating_add(1);
         Ok(())
     }
 
@@ -143,11 +143,11 @@ fn walk_over(
     changes: &[Change],
 ) -> Result<(), AllocError> {
     let mut left = changes;
-    for place in 0..lines.len().min(clocks.len()) {
-        let (due, later) = parted(left, place.saturating_add(shown.first));
+    for index in 0..lines.len().min(clocks.len()) {
+        let (due, later) = parted(left, index.saturating_add(shown.first));
         walk.levels.apply_all(due);
         left = later;
-        walk.take_line(lines[place], clocks[place])?;
+        walk.take_line(lines[index], clocks[index])?;
     }
     walk.finish()
 }
@@ -181,11 +181,11 @@ fn dump_of(
     let mut walk = Walk {
         levels: Levels::new(settings.sizes),
         dump: Dump::new(alloc, clock.saturating_mul(scale.units))?,
-        told: [None; SIGNALS],
+        written: [None; SIGNALS],
         applications,
         scale,
         clock,
-        place: 0,
+        lines_at_clock: 0,
     };
     let lines = &lines[shown.first..shown.end];
     walk_over(&mut walk, lines, shown, clocks, changes.as_slice())?;

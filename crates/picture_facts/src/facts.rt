@@ -17,11 +17,11 @@ pub mod waiting;
 use crate::marks::{Marks, marks_of};
 use crate::memory::{Sizes, Stay};
 use crate::rows::{Shown, rows_of};
+use crate::transcript::{Line, read_line};
 use accepted::accepted_call;
 pub use chains::Chain;
 use chains::Lists;
 use std::alloc::{AllocError, Global};
-use transcript_lines::{Line, read_line};
 use waiting::Queue;
 pub use waiting::Wait;
 
@@ -40,8 +40,8 @@ fn exceeds(stays: &[Stay], size: u32) -> Option<usize>
     ensures { IsFirstExceeding size stays.now result }
 {
     let mut first: Option<usize> = None;
-    for place in 0..stays.len() {
-        let stay = stays[place];
+    for index in 0..stays.len() {
+        let stay = stays[index];
         if stay.at.saturating_add(stay.taken) > size as u64 {
             first = Some(first.unwrap_or(stay.first).min(stay.first));
         }
@@ -113,9 +113,9 @@ fn waits_and_chains(
     lines: &[&str],
     marks: &Marks,
 ) -> Result<(Vec<Wait>, Vec<Chain>), AllocError>
-    ensures chains { IfOk result (λ told. AreChains told.1.items) }
-    ensures waits { IfOk result (λ told. Ascend 0 (map (λ wait. wait.line) told.0.items) (length lines.now)) }
-    ensures order { IfOk result (λ told. Ascend 0 (map (λ chain. chain.line) told.1.items) (length lines.now)) }
+    ensures chains { IfOk result (λ found. AreChains found.1.items) }
+    ensures waits { IfOk result (λ found. Ascend 0 (map (λ wait. wait.line) found.0.items) (length lines.now)) }
+    ensures order { IfOk result (λ found. Ascend 0 (map (λ chain. chain.line) found.1.items) (length lines.now)) }
 {
     let mut lists = Lists::new(alloc)?;
     let mut queue = Queue::new(alloc);

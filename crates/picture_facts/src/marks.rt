@@ -5,7 +5,7 @@ ghost use Rattle.picture_facts.specs.Clocks as spec;
 ghost use Rattle.picture_facts.specs.Clocks.{clock_after, row_clock};
 ghost use Rattle.picture_facts.specs.Code.Ticks.{ticks_by};
 ghost use Rattle.picture_facts.specs.Rows.{Cover, bytes_of};
-ghost use Rattle.picture_facts.specs.Spans.{AllEndLater, AreMarks, ArmingEndsLater, IsToldLater};
+ghost use Rattle.picture_facts.specs.Spans.{AllEndLater, AreMarks, ArmingEndsLater, IsReceivedLater};
 
 pub mod posts;
 pub mod timers;
@@ -13,12 +13,12 @@ pub mod timers;
 use crate::memory::{Answered, Memory, Sizes, Stays};
 use crate::numbers::{asked_by, number_of};
 use crate::rows::{Row, Show};
+use crate::transcript::{Input, Line, Note, Origin, Turn, is_quiet, read_line, read_turn};
 pub use posts::Curve;
 use posts::Posts;
 use std::alloc::{AllocError, Global};
 pub use timers::{Arming, is_callback, number_in_kind};
 use timers::{Moment, Timers};
-use transcript_lines::{Input, Line, Note, Origin, Turn, is_quiet, read_line, read_turn};
 
 /// Processes have numbers below this one.
 const PROCESSES: usize = 20;
@@ -114,13 +114,13 @@ struct Awaited {
 /// What a line says of rows: in which of them the call was made to which it has the reply, if any, and the delay of its timer in
 /// ticks.
 #[derive(Clone, Copy)]
-struct Told {
+struct RowFacts {
     answered: Option<usize>,
     late: u64,
 }
 
 /// What a line says that tells nothing of rows.
-const NOTHING: Told = Told {
+const NO_FACTS: RowFacts = RowFacts {
     answered: None,
     late: 0,
 };
@@ -312,10 +312,10 @@ impl Walk {
         let row = moment.row;
         match turn.origin {
             Origin::Synch => self.give(turn.pid, row),
-            Origin::Event => self.posts.tell(lines, turn, row),
+            Origin::Event => self.posts.receive(lines, turn, row),
             _ => {}
         }
-        let late = self.timers.tell(turn, moment);
+        let late = self.timers.receive(turn, moment);
         self.count_late(late);
         self.is_whole &= self.active.push(turn.pid).is_ok();
         if let Some(process) = self.processes.get_mut(turn.pid) {
@@ -355,10 +355,10 @@ impl Walk {
 
     /// A process's activation ends in a row.
     fn end(&mut self, pid: usize, row: usize) {
-        for place in (0..self.active.len()).rev() {
-            match self.active.get(place) {
+        for index in (0..self.active.len()).rev() {
+            match self.active.get(index) {
                 Some(active) if *active == pid => {
-                    self.active.remove(place);
+                    self.active.remove(index);
                 }
                 _ => {}
             }
@@ -373,27 +373,27 @@ impl Walk {
         turn: &Turn<'_>,
         moment: Moment,
         number: usize,
-    ) -> Told {
+    ) -> RowFacts {
         let Moment { row, clock } = moment;
         let tally = &mut self.marks.tally;
         tally.turns = tally.turns.saturating_add(1);
         self.marks.processes = self.marks.processes.max(turn.pid.saturating_add(1));
-        let mut told = NOTHING;
+        let mut facts = NO_FACTS;
         if self.marks.is_quiet {
             self.take_quiet_turn(turn, row);
-            return told;
+            return facts;
         }
         if turn.origin == Origin::Answer {
             if let Some(awaited) = self.take_awaited(turn.pid) {
-                told.answered = Some(awaited.row);
+                facts.answered = Some(awaited.row);
                 self.take_answer(lines, turn, awaited, clock);
             }
         }
         if turn.origin != Origin::Answer || !self.active.as_slice().contains(&turn.pid) {
-            told.late = self.begin(lines, turn, moment);
+            facts.late = self.begin(lines, turn, moment);
         }
         self.take_call(turn, Awaited { row, number });
-        told
+        facts
     }
 
     /// A turn of a quiet transcript: this is all that is known of its activation.
@@ -431,20 +431,20 @@ impl Walk {
         line: Option<Line<'_>>,
         moment: Moment,
         number: usize,
-    ) -> Told {
+    ) -> RowFacts {
         if let Some(Line::Note(note)) = line {
             self.take_note(&note);
-            return NOTHING;
+            return NO_FACTS;
         }
         self.hold_frame();
         match line {
             Some(Line::Input(input)) => {
                 self.rest();
                 self.take_input(&input, moment.row, number);
-                NOTHING
+                NO_FACTS
             }
             Some(Line::Turn(turn)) => self.take_turn(lines, &turn, moment, number),
-            _ => NOTHING,
+            _ => NO_FACTS,
         }
     }
 
@@ -479,7 +479,7 @@ impl Walk {
         self.rest();
         self.hold_frame();
         self.close_lives();
-        let is_whole = self.is_whole & self.posts.is_whole;
+        let is_whole = self.is_whole & self.posts.is_whole();
         if is_whole & self.timers.close() & self.memory.close() {
             Ok(())
         } else {
@@ -510,18 +510,18 @@ struct ClockedWalk {
 
 impl ClockedWalk {
     /// What the line of that number, in a row, says of rows.
-    fn note(&mut self, told: Told, row: usize, number: usize)
+    fn note(&mut self, facts: RowFacts, row: usize, number: usize)
         ensures clock { self.new.clock ≡ self.old.clock }
         ensures clocks { self.new.clocks ≡ self.old.clocks }
         ensures answers { length self.new.answers.items ≡ length self.old.answers.items }
         ensures lateness { length self.new.lateness.items ≡ length self.old.lateness.items }
     {
-        match told.answered {
+        match facts.answered {
             Some(asked) if asked < self.answers.len() => self.answers[asked] = Some(number),
             _ => {}
         }
         if row < self.lateness.len() {
-            self.lateness[row] = self.lateness[row].max(told.late);
+            self.lateness[row] = self.lateness[row].max(facts.late);
         }
     }
 
@@ -540,8 +540,8 @@ impl ClockedWalk {
         let clock = self.clock.saturating_add(ticks_of(&line));
         self.clock = clock;
         let moment = Moment { row, clock };
-        let told = self.walk.take_line(lines, line, moment, number);
-        self.note(told, row, number);
+        let facts = self.walk.take_line(lines, line, moment, number);
+        self.note(facts, row, number);
     }
 
     /// The lines from one to another, in a row.
@@ -559,7 +559,7 @@ impl ClockedWalk {
     }
 
     /// The lines of a row.
-    fn take_row(&mut self, lines: &[&str], row: &Row, place: usize) -> Result<(), AllocError>
+    fn take_row(&mut self, lines: &[&str], row: &Row, index: usize) -> Result<(), AllocError>
         ensures clock { IfOk result (λ _. self.old.clock ≡ clock_after (take row.now.first (bytes_of lines.now))
             → self.new.clock ≡ row_clock (bytes_of lines.now) row.now) }
         ensures clocks { IfOk result (λ _. self.new.clocks.items ≡ self.old.clocks.items ++ self.new.clock ∷ []) }
@@ -570,7 +570,7 @@ impl ClockedWalk {
         self.lateness.push(0)?;
         self.walk.is_folded = matches!(row.show, Show::Again(_));
         let end = row.first.saturating_add(row.count);
-        self.take_lines(lines, place, row.first, end);
+        self.take_lines(lines, index, row.first, end);
         self.clocks.push(self.clock)?;
         Ok(())
     }
@@ -583,8 +583,8 @@ impl ClockedWalk {
         ensures answers { IfOk result (λ _. length self.new.answers.items ≡ length self.old.answers.items + length rows.now) }
         ensures lateness { IfOk result (λ _. length self.new.lateness.items ≡ length self.old.lateness.items + length rows.now) }
     {
-        for place in 0..rows.len() {
-            self.take_row(lines, &rows[place], place)?;
+        for index in 0..rows.len() {
+            self.take_row(lines, &rows[index], index)?;
         }
         Ok(())
     }
@@ -618,7 +618,7 @@ impl ClockedWalk {
         ensures clocks { result.clocks ≡ self.clocks }
         ensures answers { result.answers ≡ self.answers }
         ensures lateness { result.lateness ≡ self.lateness }
-        ensures curves { All IsToldLater result.curves.items }
+        ensures curves { All IsReceivedLater result.curves.items }
         ensures armings { All ArmingEndsLater result.armings.items }
         ensures stays { AllEndLater result.stays }
     {

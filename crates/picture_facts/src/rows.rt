@@ -2,17 +2,17 @@
 
 ghost use Rattle.std.specs.Prelude.{◌≡◌, ℕ, ◌-◌, ◌^◌, ◌<◌, ◌≤◌, length, take, All, IfOk};
 ghost use Rattle.std.specs.Bool.{OnTrue};
-ghost use Rattle.transcript_lines.specs.Lines as spec;
+ghost use Rattle.picture_facts.specs.Transcript.Lines as spec;
 ghost use Rattle.picture_facts.specs.Clocks.{LieBetween, clock_at};
 ghost use Rattle.picture_facts.specs.Rows.{Cover, IsPlain, IsTrueRow, bytes_of};
 
 mod folding;
 pub mod row;
 
+use crate::transcript::{Input, Line, read_line};
 use folding::{folded_rows, unfolded_rows};
 pub use row::{Row, Show};
 use std::alloc::{AllocError, Global};
-use transcript_lines::{Input, Line, read_line};
 
 /// The lines that are shown: from one on, and up to another, which isn't.
 #[derive(Clone, Copy)]
@@ -35,13 +35,13 @@ fn ticks_of(line: &str) -> u64
 fn count_before(lines: &[&str], clock: u64) -> usize
     ensures there { result ≤ length lines.now }
     ensures before { (line : ℕ) → line < result → clock_at (bytes_of lines.now) line < clock }
-    ensures behind { (line : ℕ) → result ≤ line → line < length lines.now → clock ≤ clock_at (bytes_of lines.now) line }
+    ensures after { (line : ℕ) → result ≤ line → line < length lines.now → clock ≤ clock_at (bytes_of lines.now) line }
 {
     let mut now: u64 = 0;
-    for place in 0..lines.len() {
-        now = now.saturating_add(ticks_of(lines[place]));
+    for index in 0..lines.len() {
+        now = now.saturating_add(ticks_of(lines[index]));
         if now >= clock {
-            return place;
+            return index;
         }
     }
     lines.len()
@@ -52,7 +52,7 @@ fn count_up_to(lines: &[&str], clock: u64) -> usize
     ensures there { result ≤ length lines.now }
     ensures last { clock ≡ 2 ^ 64 - 1 → result ≡ length lines.now }
     ensures within { (line : ℕ) → line < result → clock_at (bytes_of lines.now) line ≤ clock }
-    ensures behind { (line : ℕ) → result ≤ line → line < length lines.now → clock < clock_at (bytes_of lines.now) line }
+    ensures after { (line : ℕ) → result ≤ line → line < length lines.now → clock < clock_at (bytes_of lines.now) line }
 {
     if clock == u64::MAX {
         lines.len()

@@ -4,9 +4,10 @@ mod answers;
 mod bytes;
 mod calls;
 mod inputs;
-mod told;
+mod stimuli;
 
 pub use answers::{push_answer, refusal_in};
+pub use bytes::bytes_in;
 pub use calls::push_call;
 pub use inputs::{push_ending, push_input, push_note};
-pub use told::push_told;
+pub use stimuli::push_stimulus;

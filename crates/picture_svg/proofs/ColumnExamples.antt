@@ -6,7 +6,7 @@ use Rattle.picture_facts.specs.declared.memory.stay.Stay.{Stay}
 use Rattle.picture_svg.specs.declared.page.memory_columns.Column.{Column}
 use Rattle.picture_svg.specs.declared.page.Page.{Page}
 use Rattle.picture_svg.specs.declared.page.pen.Area.{Area}
-use Rattle.picture_svg.specs.Boxes.{area_in, at_place, beyond, beyond_text, heap_title, managed_title, name_in}
+use Rattle.picture_svg.specs.Boxes.{area_in, point_at, beyond, beyond_text, heap_title, managed_title, name_in}
 use Rattle.picture_svg.specs.Columns.{AddsColumn, IsRange, furthest, ground_area, heap_range, managed_range}
 use Rattle.picture_svg.specs.Elements.{words_element}
 use Rattle.picture_svg.specs.Pools.{block_area, column_text, columns_before, linked_class, linked_title, pool_ground}
@@ -24,21 +24,21 @@ column = record { left = 826; width = 180; bytes = 64 }
 abbrev block : Stay
 block = record { pid = 4; name = 2; at = 16; taken = 32; size = 20; first = 1; last = Some 3 }
 
-its_box : area_in page column block ≡ record { place = at_place 871 125; width = 90; height = 34 }
+its_box : area_in page column block ≡ record { corner = point_at 871 125; width = 90; height = 34 }
 its_box = refl
 
 -- bytes beyond the column are drawn at its end, and an empty block has one pixel
-beyond_the_column : area_in page column (record block { at = 100 }) ≡ record { place = at_place 1006 125; width = 1; height = 34 }
+beyond_the_column : area_in page column (record block { at = 100 }) ≡ record { corner = point_at 1006 125; width = 1; height = 34 }
 beyond_the_column = refl
 
 -- a block that is never freed stays to the last row
-never_goes : area_in page column (record block { last = None }) ≡ record { place = at_place 871 125; width = 90; height = 145 }
+never_goes : area_in page column (record block { last = None }) ≡ record { corner = point_at 871 125; width = 90; height = 145 }
 never_goes = refl
 
 abbrev area : ℕ → ℕ → Area
-area width height = record { place = at_place 871 125; width = width; height = height }
+area width height = record { corner = point_at 871 125; width = width; height = height }
 
-named : name_in (area 30 17) block ≡ text_of (words_element (codes "v") (at_place 874 136) (codes "4.2"))
+named : name_in (area 30 17) block ≡ text_of (words_element (codes "v") (point_at 874 136) (codes "4.2"))
 unfolding digits
 named = refl
 
@@ -81,7 +81,7 @@ twice_as_many (power, next, is) = absurd (omega (arith, next.1, next.2, is))
 more_than_there_are : IsRange (block ∷ []) 50 64 → ⊥
 more_than_there_are (power, next, is) = absurd (omega (arith, is))
 
-all_rows : ground_area page 826 180 ≡ record { place = at_place 826 100; width = 180; height = 170 }
+all_rows : ground_area page 826 180 ≡ record { corner = point_at 826 100; width = 180; height = 170 }
 all_rows = refl
 
 managed_words : managed_range 64 1000 ≡ codes "0 to 64 of 1000 bytes"
@@ -116,8 +116,8 @@ used = record block { at = 0 } ∷ record block { at = 35 } ∷ []
 two_columns : pools_of used ≡ record { are_used = true ∷ false ∷ true ∷ false ∷ [] }
 two_columns = refl
 
-behind_one : columns_before (pools_of used) 2 ≡ 1
-behind_one = refl
+after_one : columns_before (pools_of used) 2 ≡ 1
+after_one = refl
 
 unused_pool : column_text page (pools_of used) 1 ≡ []
 unused_pool = refl
@@ -130,10 +130,10 @@ nothing_used : pools_text page (pools_of []) [] [] ≡ []
 nothing_used = refl
 
 -- its mark is in the middle of its bar
-bar : block_area page (pools_of used) 5 (record block { at = 35 }) ≡ record { place = at_place 1513 125; width = 5; height = 34 }
+bar : block_area page (pools_of used) 5 (record block { at = 35 }) ≡ record { corner = point_at 1513 125; width = 5; height = 34 }
 bar = refl
 
-mark : block_area page (pools_of used) 2 (record block { at = 35 }) ≡ record { place = at_place 1514 125; width = 2; height = 34 }
+mark : block_area page (pools_of used) 2 (record block { at = 35 }) ≡ record { corner = point_at 1514 125; width = 2; height = 34 }
 mark = refl
 
 taken : used_title (record block { at = 35 }) ≡ codes "block 3 of pool 2, taken by process 4"

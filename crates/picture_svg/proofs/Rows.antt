@@ -29,8 +29,8 @@ Cover-within count first (row ∷ rows) end covered there =
 slice_range-split : {X : Type 0} (xs : List X) (a b c : ℕ) → a ≤ b → b ≤ c → slice_range xs a c ≡ slice_range xs a b ++ slice_range xs b c
 slice_range-split xs a b c order there =
     let count : c - a ≡ (b - a) + (c - b) = omega arith in
-    let place : a + (b - a) ≡ b = omega arith in
-    rw (count, take-add (b - a) (c - b) (drop a xs), drop-drop (b - a) a xs, place) refl
+    let whole : a + (b - a) ≡ b = omega arith in
+    rw (count, take-add (b - a) (c - b) (drop a xs), drop-drop (b - a) a xs, whole) refl
 
 -- the title of a row of one line is that line
 plain_title : (show : Show) (lines : List (List ℕ)) (first at count : ℕ) → show ≡ Show.Lines → at ≡ first → count ≡ 1
@@ -73,11 +73,11 @@ take-bytes : (lines : List (Bor (List ℕ))) (count : ℕ) → bytes_of (take co
 take-bytes lines count = rw (take-map (λ (line : Bor (List ℕ)). line.now) count lines) refl
 
 -- such rows and titles make the picture of the lines shown
-pub picture-told : (lines : List (Bor (List ℕ))) (from to : ℕ) (unfolded : Bool) (shown : Shown) (rows : List Row) (picture : List ℕ)
+pub picture-shown : (lines : List (Bor (List ℕ))) (from to : ℕ) (unfolded : Bool) (shown : Shown) (rows : List Row) (picture : List ℕ)
     → AreShown (bytes_of lines) from to shown → Cover shown.first rows shown.end → OnTrue unfolded (All IsPlain rows)
     → All (IsTrueRow (bytes_of (take shown.end lines))) rows → ShowsRows (bytes_of lines) rows picture
     → IsPicture (bytes_of lines) from to unfolded picture
-picture-told lines from to unfolded shown rows picture are_shown cover plain again shows_rows = record {
+picture-shown lines from to unfolded shown rows picture are_shown cover plain again shows_rows = record {
   shown = shown;
   are_shown = are_shown;
   rows = rows;

@@ -1,22 +1,22 @@
--- The boxes of memory: where each stands, what it shows, and what it tells.
+-- The boxes of memory: where each is, what it shows, and what it tells.
 use Rattle.std.specs.Prelude.{ℕ, ◌+◌, ◌-◌, ◌*◌, ◌/◌, min, max, ◌||◌, ◌==◌, nat_lt, if◌then◌else◌, List, [], ◌++◌, codes, decimal}
 use Rattle.picture_svg.specs.Parts.{text_of}
 use Rattle.picture_facts.specs.declared.memory.stay.Stay.{Stay}
 use Rattle.picture_svg.specs.declared.page.memory_columns.Column.{Column}
 use Rattle.picture_svg.specs.declared.page.Page.{Page}
 use Rattle.picture_svg.specs.declared.page.pen.Area.{Area}
-use Rattle.picture_svg.specs.declared.page.pen.Place.{Place}
+use Rattle.picture_svg.specs.declared.page.pen.Point.{Point}
 use Rattle.picture_svg.specs.Elements.{area_element, titled, words_element}
-use Rattle.picture_svg.specs.Places.{capped, end_of, row_middle}
+use Rattle.picture_svg.specs.Positions.{capped, end_of, row_middle}
 
-abbrev pub at_place : ℕ → ℕ → Place
-at_place left top = record { left = left; top = top }
+abbrev pub point_at : ℕ → ℕ → Point
+point_at left top = record { left = left; top = top }
 
 -- a rectangle of a class, which shows that
 abbrev pub area_text : List ℕ → Area → List ℕ → List ℕ
 area_text class area title = text_of (titled title (area_element class area))
 
--- ---- where a box stands
+-- ---- where a box is
 
 -- the position after a block's last byte
 abbrev pub block_end : Stay → ℕ
@@ -29,7 +29,7 @@ reach column bytes = capped (column.left + capped (column.width * min bytes colu
 -- a box goes from the block's first byte to its last one, and from its first row to its last one, a pixel at least
 abbrev pub area_in : Page → Column → Stay → Area
 area_in page column stay = record {
-  place = at_place (reach column stay.at) (row_middle page stay.first);
+  corner = point_at (reach column stay.at) (row_middle page stay.first);
   width = max (reach column (block_end stay) - reach column stay.at) 1;
   height = max (end_of page stay.last - row_middle page stay.first) 1;
 }
@@ -44,13 +44,13 @@ part_of stay from bytes = record stay { at = capped (stay.at + from); taken = by
 abbrev pub box_name : Stay → List ℕ
 box_name stay = if stay.pid == 3 then codes "frame" else decimal stay.pid ++ codes "." ++ decimal stay.name
 
-abbrev pub name_place : Area → Place
-name_place area = at_place (capped (area.place.left + 3)) (capped (area.place.top + 11))
+abbrev pub name_point : Area → Point
+name_point area = point_at (capped (area.corner.left + 3)) (capped (area.corner.top + 11))
 
 -- a name is in a box of 30 pixels and a row, at least
 abbrev pub name_in : Area → Stay → List ℕ
 name_in area stay =
-    if nat_lt area.width 30 || nat_lt area.height 17 then [] else text_of (words_element (codes "v") (name_place area) (box_name stay))
+    if nat_lt area.width 30 || nat_lt area.height 17 then [] else text_of (words_element (codes "v") (name_point area) (box_name stay))
 
 -- a box has its process's colour
 abbrev pub box_class : Stay → List ℕ
@@ -81,13 +81,13 @@ heap_name stay =
     codes "heap block " ++ decimal stay.name ++ codes " of process " ++ decimal stay.pid ++ codes ": " ++ decimal stay.size
     ++ codes " bytes"
 
-abbrev pub heap_place : ℕ → ℕ → ℕ → List ℕ
-heap_place at end room =
+abbrev pub heap_position : ℕ → ℕ → ℕ → List ℕ
+heap_position at end room =
     codes ", room for " ++ decimal room ++ codes ", from " ++ decimal at ++ codes " to " ++ decimal end ++ codes " with its header"
 
 -- a block has its header in front
 abbrev pub heap_title : Stay → ℕ → List ℕ
-heap_title stay header = heap_name stay ++ heap_place stay.at (block_end stay) (stay.taken - header)
+heap_title stay header = heap_name stay ++ heap_position stay.at (block_end stay) (stay.taken - header)
 
 -- what is after a block's header and its length
 abbrev pub beyond : Stay → ℕ → Stay

@@ -7,9 +7,9 @@ use Rattle.picture_facts.specs.declared.memory.stay.Stay.{Stay}
 use Rattle.picture_svg.specs.declared.page.memory_columns.Column.{Column}
 use Rattle.picture_svg.specs.declared.page.Page.{Page}
 use Rattle.picture_svg.specs.declared.page.pen.Area.{Area}
-use Rattle.picture_svg.specs.Boxes.{area_text, at_place, block_end, heap_box, managed_box}
+use Rattle.picture_svg.specs.Boxes.{area_text, point_at, block_end, heap_box, managed_box}
 use Rattle.picture_svg.specs.Elements.{words_element}
-use Rattle.picture_svg.specs.Places.{bottom, heap_left, managed_left}
+use Rattle.picture_svg.specs.Positions.{bottom, heap_left, managed_left}
 
 -- ---- bytes
 
@@ -27,14 +27,14 @@ IsRange stays size bytes =
 
 -- a column's ground: all rows
 abbrev pub ground_area : Page → ℕ → ℕ → Area
-ground_area page left width = record { place = at_place left page.top; width = width; height = bottom page - page.top }
+ground_area page left width = record { corner = point_at left page.top; width = width; height = bottom page - page.top }
 
 -- and above it two lines of words
 abbrev pub ground_of : Page → ℕ → ℕ → List ℕ → List ℕ → List ℕ
 ground_of page left width name range =
     area_text (codes "j") (ground_area page left width) []
-    ++ text_of (words_element (codes "b") (at_place left (page.top - 24)) name)
-    ++ text_of (words_element (codes "g") (at_place left (page.top - 12)) range)
+    ++ text_of (words_element (codes "b") (point_at left (page.top - 24)) name)
+    ++ text_of (words_element (codes "g") (point_at left (page.top - 12)) range)
 
 -- managed memory follows the words, and the heap follows that
 abbrev pub managed_column : Page → ℕ → Column

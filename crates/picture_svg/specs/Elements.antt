@@ -4,7 +4,7 @@ use Rattle.picture_svg.specs.declared.markup.names.Attribute.{Attribute}
 use Rattle.picture_svg.specs.declared.markup.names.Tag.{Tag}
 use Rattle.picture_svg.specs.Parts.{Parts, with_attribute, with_element, with_text}
 use Rattle.picture_svg.specs.declared.page.pen.Area.{Area}
-use Rattle.picture_svg.specs.declared.page.pen.Place.{Place}
+use Rattle.picture_svg.specs.declared.page.pen.Point.{Point}
 
 -- without attributes, and with nothing inside
 abbrev pub empty : Tag → Parts
@@ -22,12 +22,12 @@ abbrev pub area_element : List ℕ → Area → Parts
 area_element class area =
     with_attribute Attribute.Height (decimal area.height)
     (with_attribute Attribute.Width (decimal area.width)
-    (with_attribute Attribute.Top (decimal area.place.top)
-    (with_attribute Attribute.Left (decimal area.place.left)
+    (with_attribute Attribute.Top (decimal area.corner.top)
+    (with_attribute Attribute.Left (decimal area.corner.left)
     (with_attribute Attribute.Class class (empty Tag.Rect)))))
 
-abbrev pub text_element : Place → Parts
-text_element place = with_attribute Attribute.Top (decimal place.top) (with_attribute Attribute.Left (decimal place.left) (empty Tag.Text))
+abbrev pub text_element : Point → Parts
+text_element point = with_attribute Attribute.Top (decimal point.top) (with_attribute Attribute.Left (decimal point.left) (empty Tag.Text))
 
 -- with words of a class after what it says, if there are any
 abbrev pub with_span : List ℕ → List ℕ → Parts → Parts
@@ -37,5 +37,5 @@ with_span class words element =
 abbrev pub line_element : List ℕ → List ℕ → Parts
 line_element class commands = with_attribute Attribute.Commands commands (with_attribute Attribute.Class class (empty Tag.Path))
 
-abbrev pub words_element : List ℕ → Place → List ℕ → Parts
-words_element class place words = with_text words (with_attribute Attribute.Class class (text_element place))
+abbrev pub words_element : List ℕ → Point → List ℕ → Parts
+words_element class point words = with_text words (with_attribute Attribute.Class class (text_element point))

@@ -4,6 +4,6 @@ pub mod Elements
 pub mod Markup
 pub mod Names
 pub mod Parts
-pub mod Places
+pub mod Positions
 pub mod Pools
 pub mod Titles

@@ -6,9 +6,9 @@ use Rattle.picture_facts.specs.declared.memory.stay.Stay.{Stay}
 use Rattle.picture_svg.specs.declared.page.Page.{Page}
 use Rattle.picture_svg.specs.declared.page.pen.Area.{Area}
 use Rattle.picture_svg.specs.declared.page.pool_columns.Pools.{Pools}
-use Rattle.picture_svg.specs.Boxes.{area_text, at_place, box_class}
+use Rattle.picture_svg.specs.Boxes.{area_text, point_at, box_class}
 use Rattle.picture_svg.specs.Columns.{ground_of}
-use Rattle.picture_svg.specs.Places.{capped, end_of, pool_left, row_middle}
+use Rattle.picture_svg.specs.Positions.{capped, end_of, pool_left, row_middle}
 
 -- ---- which pools have a column
 
@@ -50,7 +50,7 @@ column_text page pools pool = if slice_index_or pools.are_used pool false then p
 -- a block has 5 pixels of its pool's column, and what is narrower is in the middle of these
 abbrev pub block_area : Page → Pools → ℕ → Stay → Area
 block_area page pools width stay = record {
-  place = at_place (capped (column_left page pools (pool_of stay) + 5 * block_of stay + (5 - width) / 2)) (row_middle page stay.first);
+  corner = point_at (capped (column_left page pools (pool_of stay) + 5 * block_of stay + (5 - width) / 2)) (row_middle page stay.first);
   width = width;
   height = max (end_of page stay.last - row_middle page stay.first) 1;
 }

@@ -42,21 +42,21 @@ pub data AreGrounds (lines : List (List ℕ)) : List Row → List ℕ → Type 0
   one_more : {rows : List Row} {before : List ℕ} → AreGrounds lines rows before → (row : Row) (element : Parts) → IsGround lines row element
       → AreGrounds lines (rows ++ row ∷ []) (before ++ text_of element)
 
--- a picture: one element, with what follows the rows' grounds, these, and what stands over them
-pub record IsDrawn (behind grounds over picture : List ℕ) : Type 0 where
+-- a picture: one element, with what is under the rows' grounds, these, and what is over them
+pub record IsDrawn (under grounds over picture : List ℕ) : Type 0 where
   pub attributes : List ℕ
   pub are_attributes : AreAttributes attributes
-  pub is_behind : IsContent behind
+  pub is_under : IsContent under
   pub is_over : IsContent over
-  pub whole : picture ≡ element_text Tag.Svg attributes (behind ++ grounds ++ over)
+  pub whole : picture ≡ element_text Tag.Svg attributes (under ++ grounds ++ over)
 
 -- the picture has a ground for each of the rows, in order
 pub record ShowsRows (lines : List (List ℕ)) (rows : List Row) (picture : List ℕ) : Type 0 where
-  pub behind : List ℕ
+  pub under : List ℕ
   pub grounds : List ℕ
   pub over : List ℕ
   pub are_grounds : AreGrounds lines rows grounds
-  pub is_drawn : IsDrawn behind grounds over picture
+  pub is_drawn : IsDrawn under grounds over picture
 
 -- the lines that are shown between two clocks: those at which the clock is between them, with the widest range all lines
 pub record AreShown (lines : List (List ℕ)) (from to : ℕ) (shown : Shown) : Type 0 where

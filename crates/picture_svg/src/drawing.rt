@@ -2,16 +2,16 @@
 
 use crate::grounds::lines_of;
 use crate::markup::Element;
-use crate::page::pen::{Area, Pen, Place, text_element, with_span};
+use crate::page::pen::{Area, Pen, Point, text_element, with_span};
 use crate::page::{CLOCK, Page, ROW};
 use itoa::Buffer;
 use picture_facts::marks::{Activation, Curve, Gift, Life, Marks};
 use picture_facts::rows::{Row, Show};
+use picture_facts::transcript::{Line, Origin, Turn, read_line, read_turn};
 use picture_facts::words::{
-    push_answer, push_call, push_ending, push_input, push_note, push_told, refusal_in,
+    push_answer, push_call, push_ending, push_input, push_note, push_stimulus, refusal_in,
 };
 use std::alloc::{AllocError, Global};
-use transcript_lines::{Line, Origin, Turn, read_line, read_turn};
 
 /// The clock before a row and at its end, as far as the transcript has it.
 #[derive(Clone, Copy, Drop)]
@@ -55,15 +55,15 @@ pub(crate) fn draw_activations(
     activations: &[Activation],
 ) -> Result<(), AllocError> {
     for activation in activations {
-        let place = Place {
+        let corner = Point {
             left: page.lane_of(activation.pid).saturating_sub(5),
             top: page.top_of(activation.first).saturating_add(2),
         };
         let end = page.top_of(activation.last).saturating_add(ROW - 2);
         let area = Area {
-            place,
+            corner,
             width: 10,
-            height: end.saturating_sub(place.top),
+            height: end.saturating_sub(corner.top),
         };
         let class = class_of(pen.alloc, "f", activation.pid)?;
         let title = format!(in pen.alloc; "an activation of process {}", activation.pid)?;
@@ -139,7 +139,7 @@ fn draw_turn(
     let element = text_element(alloc, page.words_of(row, 0))?;
     let element = match turn.origin {
         Origin::Answer => draw_going_on(alloc, element, turn.pid, beside.above)?,
-        _ => draw_told(alloc, element, turn, others, beside.late)?,
+        _ => draw_stimulus(alloc, element, turn, others, beside.late)?,
     };
     let mut words = String::new(alloc);
     push_call(alloc, &mut words, turn.call)?;
@@ -186,7 +186,7 @@ fn draw_going_on(
 }
 
 /// Adds which process receives something in a turn, what, and how late.
-fn draw_told(
+fn draw_stimulus(
     alloc: Global,
     element: Element,
     turn: &Turn<'_>,
@@ -195,13 +195,13 @@ fn draw_told(
 ) -> Result<Element, AllocError> {
     let who = format!(in alloc; "{}{others}\u{a0}\u{a0}", turn.pid)?;
     let element = with_span(alloc, element, "b", who.as_str())?;
-    let mut told = String::new(alloc);
-    push_told(alloc, &mut told, turn)?;
+    let mut stimulus = String::new(alloc);
+    push_stimulus(alloc, &mut stimulus, turn)?;
     if late == 0 {
-        told.push_str("\u{a0}→\u{a0}")?;
-        return with_span(alloc, element, "g", told.as_str());
+        stimulus.push_str("\u{a0}→\u{a0}")?;
+        return with_span(alloc, element, "g", stimulus.as_str());
     }
-    let element = with_span(alloc, element, "g", told.as_str())?;
+    let element = with_span(alloc, element, "g", stimulus.as_str())?;
     // Of several processes the longest delay is shown.
     let most = if others.is_empty() { "" } else { "up to " };
     draw_late(alloc, element, most, late)
@@ -235,7 +235,7 @@ fn others_in(alloc: Global, lines: &[&str], pid: usize) -> Result<String, AllocE
 fn draw_line(
     pen: &mut Pen,
     page: &Page,
-    place: usize,
+    index: usize,
     lines: &[&str],
     beside: Beside<'_>,
 ) -> Result<(), AllocError> {
@@ -259,11 +259,11 @@ fn draw_line(
         }
         Some(Line::Turn(turn)) => {
             let others = others_in(alloc, lines, turn.pid)?;
-            return draw_turn(pen, page, place, &turn, others.as_str(), beside);
+            return draw_turn(pen, page, index, &turn, others.as_str(), beside);
         }
         None => "n",
     };
-    pen.text(class, page.words_of(place, 0), words.as_str())
+    pen.text(class, page.words_of(index, 0), words.as_str())
 }
 
 /// The answer in a line, or nothing.
@@ -281,15 +281,15 @@ fn answer_in<'a>(lines: &[&'a str], number: Option<usize>) -> &'a str {
 }
 
 /// The clock's number at a row where it has changed.
-fn draw_clock(pen: &mut Pen, page: &Page, place: usize, clocks: Clocks) -> Result<(), AllocError> {
-    let is_same = clocks.before == clocks.clock && place > 0;
+fn draw_clock(pen: &mut Pen, page: &Page, index: usize, clocks: Clocks) -> Result<(), AllocError> {
+    let is_same = clocks.before == clocks.clock && index > 0;
     if is_same || !clocks.are_known {
         return Ok(());
     }
     let mut digits = Buffer::new();
-    let at = Place {
+    let at = Point {
         left: CLOCK,
-        top: page.base_of(place),
+        top: page.base_of(index),
     };
     pen.text("e b", at, digits.format(clocks.clock))
 }
@@ -298,7 +298,7 @@ fn draw_clock(pen: &mut Pen, page: &Page, place: usize, clocks: Clocks) -> Resul
 fn draw_again(
     pen: &mut Pen,
     page: &Page,
-    place: usize,
+    index: usize,
     row: &Row,
     period: usize,
     clocks: Clocks,
@@ -309,27 +309,27 @@ fn draw_again(
     if clocks.are_known {
         write!(words, ", clock {before} to {clock}")?;
     }
-    pen.text("g", page.words_of(place, 0), words.as_str())
+    pen.text("g", page.words_of(index, 0), words.as_str())
 }
 
 /// The words of a row, which has these lines.
 fn draw_row(
     pen: &mut Pen,
     page: &Page,
-    place: usize,
+    index: usize,
     row: &Row,
     own: &[&str],
     beside: Beside<'_>,
 ) -> Result<(), AllocError> {
     let Clocks { before, clock, .. } = beside.clocks;
     match row.show {
-        Show::Lines => draw_line(pen, page, place, own, beside),
+        Show::Lines => draw_line(pen, page, index, own, beside),
         Show::Ticks => {
             let ticks = clock.saturating_sub(before);
             let words = format!(in pen.alloc; "{} ticks, {ticks} in all", row.count)?;
-            pen.text("g", page.words_of(place, 0), words.as_str())
+            pen.text("g", page.words_of(index, 0), words.as_str())
         }
-        Show::Again(period) => draw_again(pen, page, place, row, period, beside.clocks),
+        Show::Again(period) => draw_again(pen, page, index, row, period, beside.clocks),
     }
 }
 
@@ -352,15 +352,15 @@ fn process_of(row: &Row, own: &[&str]) -> Option<usize> {
 fn beside_of<'a>(
     lines: &[&'a str],
     marks: &Marks,
-    place: usize,
+    index: usize,
     before: u64,
     above: Option<usize>,
 ) -> Beside<'a> {
-    let clock = marks.clocks.get(place).copied().unwrap_or(before);
+    let clock = marks.clocks.get(index).copied().unwrap_or(before);
     Beside {
         above,
-        answer: answer_in(lines, marks.answers.get(place).copied().flatten()),
-        late: marks.lateness.get(place).copied().unwrap_or(0),
+        answer: answer_in(lines, marks.answers.get(index).copied().flatten()),
+        late: marks.lateness.get(index).copied().unwrap_or(0),
         clocks: Clocks {
             are_known: !marks.is_quiet,
             before,
@@ -379,11 +379,11 @@ pub(crate) fn draw_words(
 ) -> Result<(), AllocError> {
     let mut before = marks.start;
     let mut above = None;
-    for (place, row) in rows.iter().enumerate() {
-        let beside = beside_of(lines, marks, place, before, above);
-        draw_clock(pen, page, place, beside.clocks)?;
+    for (index, row) in rows.iter().enumerate() {
+        let beside = beside_of(lines, marks, index, before, above);
+        draw_clock(pen, page, index, beside.clocks)?;
         let own = lines_of(lines, row);
-        draw_row(pen, page, place, row, own, beside)?;
+        draw_row(pen, page, index, row, own, beside)?;
         before = beside.clocks.clock;
         above = process_of(row, own);
     }

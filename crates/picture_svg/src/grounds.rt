@@ -1,4 +1,4 @@
-//! The grounds of the rows, each of which tells its lines when it is pointed at.
+//! The grounds of the rows, each of which shows its lines when it is pointed at.
 
 ghost use Rattle.std.specs.Prelude.{◌≡◌, ◌+◌, ◌^◌, ◌<◌, ◌≤◌, length, string_bytes, All, IfOk};
 ghost use Rattle.picture_svg.specs.Titles as spec;
@@ -6,7 +6,7 @@ ghost use Rattle.picture_svg.specs.Titles.{ended_lines, IsGround, AreGrounds};
 ghost use Rattle.picture_facts.specs.Rows.{bytes_of};
 
 use crate::markup::{Content, Element};
-use crate::page::pen::{Area, Place, area_element, title_element};
+use crate::page::pen::{Area, Point, area_element, title_element};
 use crate::page::{Page, ROW};
 use picture_facts::rows::{Row, Show};
 use std::alloc::{AllocError, Global};
@@ -69,16 +69,16 @@ fn ground_of(
     page: &Page,
     lines: &[&str],
     row: &Row,
-    place: usize,
+    index: usize,
 ) -> Result<Element, AllocError>
     requires some { 0 < row.now.count }
     requires there { row.now.first + row.now.count ≤ length lines.now }
     ensures { IfOk result (λ element. IsGround (bytes_of lines.now) row.now element) }
 {
     let area = Area {
-        place: Place {
+        corner: Point {
             left: 0,
-            top: page.top_of(place),
+            top: page.top_of(index),
         },
         width: page.words_end(),
         height: ROW,
@@ -102,11 +102,11 @@ pub(crate) fn grounds_of(
     ensures { IfOk result (λ grounds. AreGrounds (bytes_of lines.now) rows.now grounds) }
 {
     let mut grounds = Content::new(alloc);
-    let mut place: usize = 0;
+    let mut index: usize = 0;
     for row in rows {
-        let ground = ground_of(alloc, page, lines, row, place)?;
+        let ground = ground_of(alloc, page, lines, row, index)?;
         grounds.hold(&ground)?;
-        place = place.saturating_add(1);
+        index = index.saturating_add(1);
     }
     Ok(grounds)
 }

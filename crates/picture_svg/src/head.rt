@@ -1,6 +1,6 @@
 //! The head of a picture: its style, what was run, the numbers of the run, and the names of the columns.
 
-use crate::page::pen::{Area, Pen, Place};
+use crate::page::pen::{Area, Pen, Point};
 use crate::page::{CLOCK, Page, ROW};
 use crate::style::{COLOURS, STYLE};
 use itoa::Buffer;
@@ -10,7 +10,7 @@ use std::alloc::{AllocError, Global};
 /// Where the lines of the head begin.
 const LEFT: usize = 14;
 
-/// Where the first line of the head stands.
+/// Where the first line of the head is.
 const FIRST: usize = 24;
 
 /// How far a line of the title is from the next one.
@@ -43,7 +43,7 @@ pub(crate) fn push_style(style: &mut String, lanes: usize) -> Result<(), AllocEr
 
 /// What the head says of a run beside its numbers.
 #[derive(Clone, Copy, Drop)]
-pub(crate) struct Told<'a> {
+pub(crate) struct Summary<'a> {
     /// The clock before the first line that is shown, where not all lines are.
     pub(crate) from: Option<u64>,
     /// The clock at the last line that is shown, if one is.
@@ -53,11 +53,11 @@ pub(crate) struct Told<'a> {
     pub(crate) is_quiet: bool,
 }
 
-/// Appends what only a whole transcript tells, with what follows it.
-fn push_whole(out: &mut String, tally: &Tally, told: &Told<'_>) -> Result<(), AllocError> {
+/// Appends what only a whole transcript says, with what follows it.
+fn push_whole(out: &mut String, tally: &Tally, summary: &Summary<'_>) -> Result<(), AllocError> {
     let Tally { inputs, turns, .. } = *tally;
     write!(out, "inputs {inputs}, turns {turns}, ")?;
-    match (told.from, told.clock) {
+    match (summary.from, summary.clock) {
         (Some(from), Some(clock)) => write!(out, "clock {from} to {clock}, "),
         (None, Some(clock)) => write!(out, "clock {clock}, "),
         (_, None) => Ok(()),
@@ -75,11 +75,11 @@ fn push_late(out: &mut String, tally: &Tally) -> Result<(), AllocError> {
     }
 }
 
-/// Appends the numbers of a run in words: of a quiet transcript those alone that it tells.
+/// Appends the numbers of a run in words: of a quiet transcript only those that it has.
 pub(crate) fn push_tally(
     text: &mut String,
     tally: &Tally,
-    told: &Told<'_>,
+    summary: &Summary<'_>,
 ) -> Result<(), AllocError> {
     let Tally {
         printed,
@@ -88,15 +88,15 @@ pub(crate) fn push_tally(
         refused,
         ..
     } = *tally;
-    if !told.is_quiet {
-        push_whole(text, tally, told)?;
+    if !summary.is_quiet {
+        push_whole(text, tally, summary)?;
     }
     write!(text, "bytes printed {printed}, frames sent {sent}")?;
-    if !told.is_quiet {
+    if !summary.is_quiet {
         write!(text, ", lost {lost}, calls refused {refused}")?;
         push_late(text, tally)?;
     }
-    match told.end {
+    match summary.end {
         Some(end) => {
             text.push_str(", ends: ")?;
             text.push_str(end)
@@ -123,12 +123,12 @@ pub(crate) fn draw_lanes(pen: &mut Pen, page: &Page, names: &[&str]) -> Result<(
         let left = page.lane_of(pid);
         let top = page.top.saturating_sub(12);
         let mut digits = Buffer::new();
-        pen.text("b c", Place { left, top }, digits.format(pid))?;
+        pen.text("b c", Point { left, top }, digits.format(pid))?;
         if let Some(name) = names.get(lane) {
             let top = page
                 .top
                 .saturating_sub(if is_wide && lane % 2 == 1 { 36 } else { 24 });
-            pen.text("b c", Place { left, top }, name)?;
+            pen.text("b c", Point { left, top }, name)?;
         }
         let commands = format!(in pen.alloc; "M{left},{}V{}", page.top, page.bottom())?;
         pen.line("d", commands.as_str(), "")?;
@@ -169,13 +169,13 @@ fn draw_lines(
 ) -> Result<usize, AllocError> {
     let mut top = first;
     for line in lines.split('\n') {
-        pen.text(class, Place { left: LEFT, top }, line)?;
+        pen.text(class, Point { left: LEFT, top }, line)?;
         top = top.saturating_add(height);
     }
     Ok(top)
 }
 
-/// Draws what was run, and the numbers of the run, and answers where the next line may stand.
+/// Draws what was run, and the numbers of the run, and returns where the next line may be.
 pub(crate) fn draw_head(pen: &mut Pen, title: &str, tally: &str) -> Result<usize, AllocError> {
     let title = broken(pen.alloc, title, " ", TITLE_BYTES)?;
     let tally = broken(pen.alloc, tally, ", ", TALLY_BYTES)?;
@@ -183,8 +183,8 @@ pub(crate) fn draw_head(pen: &mut Pen, title: &str, tally: &str) -> Result<usize
     draw_lines(pen, "g", tally.as_str(), top, TALLY)
 }
 
-/// Tells from which line on the transcript can't be a run with memory of that size, if there is such a line, whose number is from 0 on,
-/// and answers where the next line may stand.
+/// Says from which line on the transcript can't be a run with memory of that size, if there is such a line, whose number is from 0 on,
+/// and returns where the next line may be.
 pub(crate) fn draw_difference(
     pen: &mut Pen,
     memory: &str,
@@ -196,7 +196,7 @@ pub(crate) fn draw_difference(
     };
     let line = number.saturating_add(1);
     let words = format!(in pen.alloc; "not the run's {memory} from line {line} on: other sizes?")?;
-    pen.text("r", Place { left: LEFT, top }, words.as_str())?;
+    pen.text("r", Point { left: LEFT, top }, words.as_str())?;
     Ok(top.saturating_add(TALLY))
 }
 
@@ -210,16 +210,16 @@ pub(crate) fn draw_legend(pen: &mut Pen, page: &Page, is_quiet: bool) -> Result<
     let top = page.top.saturating_sub(12);
     let left = page.words();
     if is_quiet {
-        return pen.text("g", Place { left, top }, "event → call");
+        return pen.text("g", Point { left, top }, "event → call");
     }
-    pen.text("g e", Place { left: CLOCK, top }, "clock")?;
-    pen.text("g", Place { left, top }, "event → call = reply")
+    pen.text("g e", Point { left: CLOCK, top }, "clock")?;
+    pen.text("g", Point { left, top }, "event → call = reply")
 }
 
 /// The ground of the whole picture.
 pub(crate) fn draw_ground(pen: &mut Pen, page: &Page) -> Result<(), AllocError> {
     let area = Area {
-        place: Place { left: 0, top: 0 },
+        corner: Point { left: 0, top: 0 },
         width: page.width(),
         height: page.height().max(ROW),
     };

@@ -1,15 +1,15 @@
-//! Where the parts of a picture stand.
+//! Where the parts of a picture are.
 
 ghost use Rattle.std.specs.Prelude.{◌≡◌, ◌+◌, if◌then◌else◌};
-ghost use Rattle.picture_svg.specs.Places as spec;
-ghost use Rattle.picture_svg.specs.Places.{capped, lane_width};
+ghost use Rattle.picture_svg.specs.Positions as spec;
+ghost use Rattle.picture_svg.specs.Positions.{capped, lane_width};
 
 mod ground;
 pub mod memory_columns;
 pub mod pen;
 pub mod pool_columns;
 
-use pen::Place;
+use pen::Point;
 use picture_facts::memory::Stay;
 
 /// The height of a row.
@@ -64,8 +64,8 @@ impl Columns {
 }
 
 /// The end of a column that begins there, with the gap after it.
-fn behind(left: usize, width: usize) -> usize
-    ensures { result ≡ spec.behind left width }
+fn after_column(left: usize, width: usize) -> usize
+    ensures { result ≡ spec.after_column left width }
 {
     if width == 0 {
         left
@@ -74,7 +74,7 @@ fn behind(left: usize, width: usize) -> usize
     }
 }
 
-/// The places of the parts of a picture.
+/// The positions of the parts of a picture.
 #[derive(Clone, Copy, Drop)]
 pub struct Page {
     /// How many processes have a lane: 4, 5, ..
@@ -118,7 +118,7 @@ impl Page {
         row.saturating_mul(ROW).saturating_add(self.top)
     }
 
-    /// Where the words of a row stand.
+    /// Where the words of a row are.
     pub fn base_of(&self, row: usize) -> usize
         ensures { result ≡ spec.row_base self.now row }
     {
@@ -182,14 +182,14 @@ impl Page {
     pub fn heap_left(&self) -> usize
         ensures { result ≡ spec.heap_left self.now }
     {
-        behind(self.managed_left(), self.columns.managed)
+        after_column(self.managed_left(), self.columns.managed)
     }
 
     /// Where the column of a pool begins, by the number of pools before it.
     pub fn pool_left(&self, others: usize) -> usize
         ensures { result ≡ spec.pool_left self.now others }
     {
-        behind(self.heap_left(), self.columns.heap).saturating_add(others.saturating_mul(
+        after_column(self.heap_left(), self.columns.heap).saturating_add(others.saturating_mul(
             POOL + BETWEEN,
         ))
     }
@@ -209,11 +209,11 @@ impl Page {
     }
 
     /// The position of a row's words, by their distance from the left of all words.
-    pub fn words_of(&self, row: usize, indent: usize) -> Place
+    pub fn words_of(&self, row: usize, indent: usize) -> Point
         ensures left { result.left ≡ capped (spec.words_left self.now + indent) }
         ensures top { result.top ≡ spec.row_base self.now row }
     {
-        Place {
+        Point {
             left: self.words().saturating_add(indent),
             top: self.base_of(row),
         }

@@ -8,7 +8,7 @@ ghost use Rattle.picture_svg.specs.Titles.{IsDrawn, ShowsRows, IsPicture};
 use crate::drawing::{draw_activations, draw_curves, draw_gifts, draw_lives, draw_words};
 use crate::grounds::grounds_of;
 use crate::head::{
-    Told, below, draw_difference, draw_ground, draw_head, draw_lanes, draw_legend, push_style,
+    Summary, below, draw_difference, draw_ground, draw_head, draw_lanes, draw_legend, push_style,
     push_tally,
 };
 use crate::markup::{Attribute, Content, Element, Tag};
@@ -21,13 +21,13 @@ use crate::timer_lines::draw_timers;
 use picture_facts::marks::{Marks, marks_of};
 use picture_facts::memory::Sizes;
 use picture_facts::rows::{Row, Shown, rows_of, shown_of};
+use picture_facts::transcript::{Ending, Line, read_line};
 use std::alloc::{AllocError, Global};
-use transcript_lines::{Ending, Line, read_line};
 
 /// What a picture shows of a transcript.
 #[derive(Clone, Copy, Drop)]
 pub struct Settings<'a> {
-    /// What stands above the picture.
+    /// The text above the picture.
     pub title: &'a str,
     /// The names of processes 4, 5, ..; those after them have none.
     pub names: &'a [&'a str],
@@ -54,7 +54,7 @@ fn end_of(lines: &[&str]) -> &'static str {
     }
 }
 
-/// The places of the parts of a picture with these rows, whose overview begins there.
+/// The positions of the parts of a picture with these rows, whose overview begins there.
 fn page_of(rows: &[Row], marks: &Marks, names: usize, strip: usize) -> Page {
     let lanes = names.max(marks.processes.saturating_sub(4)).min(16);
     let stays = &marks.stays;
@@ -75,10 +75,10 @@ struct Layout {
 }
 
 /// What the head says of the lines that are shown.
-fn told_of<'a>(lines: &[&str], shown: Shown, marks: &Marks) -> Told<'a> {
+fn summary_of<'a>(lines: &[&str], shown: Shown, marks: &Marks) -> Summary<'a> {
     let is_all = shown.first == 0 && shown.end == lines.len();
     let has_end = is_all || (shown.first < shown.end && shown.end == lines.len());
-    Told {
+    Summary {
         from: if is_all { None } else { Some(marks.start) },
         clock: match marks.clocks.as_slice().last() {
             Some(clock) => Some(*clock),
@@ -95,14 +95,14 @@ fn draw_title(
     pen: &mut Pen,
     settings: &Settings<'_>,
     marks: &Marks,
-    told: &Told<'_>,
+    summary: &Summary<'_>,
 ) -> Result<usize, AllocError> {
     let mut title = String::from_str(pen.alloc, settings.title)?;
     if marks.is_quiet {
         title.push_str(" (a quiet transcript)")?;
     }
     let mut tally = String::new(pen.alloc);
-    push_tally(&mut tally, &marks.tally, told)?;
+    push_tally(&mut tally, &marks.tally, summary)?;
     let stays = &marks.stays;
     let top = draw_head(pen, title.as_str(), tally.as_str())?;
     let top = draw_difference(pen, "managed memory", stays.managed_differs, top)?;
@@ -119,15 +119,15 @@ fn layout_of(
     settings: &Settings<'_>,
 ) -> Result<Layout, AllocError> {
     let marks = marks_of(alloc, lines, rows, settings.sizes)?;
-    let told = told_of(lines, shown, &marks);
+    let summary = summary_of(lines, shown, &marks);
     let mut pen = Pen::new(alloc);
-    let strip = draw_title(&mut pen, settings, &marks, &told)?;
+    let strip = draw_title(&mut pen, settings, &marks, &summary)?;
     let page = page_of(rows, &marks, settings.names.len(), strip);
     let head = pen.content;
     Ok(Layout { marks, head, page })
 }
 
-/// Draws all that stands over the grounds of the rows.
+/// Draws all that is over the grounds of the rows.
 fn draw_over(
     pen: &mut Pen,
     layout: &Layout,
@@ -153,7 +153,7 @@ fn draw_over(
 }
 
 /// The ground and the style of a picture.
-fn draw_behind(pen: &mut Pen, page: &Page) -> Result<(), AllocError> {
+fn draw_under(pen: &mut Pen, page: &Page) -> Result<(), AllocError> {
     let mut style = String::new(pen.alloc);
     push_style(&mut style, page.lanes)?;
     let style = Element::new(pen.alloc, Tag::Style).saying(style.as_str())?;
@@ -176,21 +176,21 @@ fn frame_of(alloc: Global, page: &Page) -> Result<Element, AllocError>
         .with(Attribute::Space, "preserve")
 }
 
-/// The text of a picture: what follows the rows, the rows' grounds, and what stands over them.
+/// The text of a picture: what is under the rows, the rows' grounds, and what is over them.
 fn document_of(
     alloc: Global,
     page: &Page,
-    behind: &Content,
+    under: &Content,
     grounds: &Content,
     over: &Content,
 ) -> Result<Vec<u8>, AllocError>
     ensures document { IfOk result (λ picture. IsDocument picture.items) }
-    ensures drawn { IfOk result (λ picture. IsDrawn behind.now grounds.now over.now picture.items) }
+    ensures drawn { IfOk result (λ picture. IsDrawn under.now grounds.now over.now picture.items) }
 {
-    behind.is_well_formed();
+    under.is_well_formed();
     over.is_well_formed();
     let picture = frame_of(alloc, page)?
-        .around(behind)?
+        .around(under)?
         .around(grounds)?
         .around(over)?;
     picture.is_well_formed();
@@ -213,11 +213,11 @@ fn draw_rows(
 {
     let page = &layout.page;
     let grounds = grounds_of(alloc, page, lines, rows)?;
-    let mut behind = Pen::new(alloc);
-    draw_behind(&mut behind, page)?;
+    let mut under = Pen::new(alloc);
+    draw_under(&mut under, page)?;
     let mut over = Pen::new(alloc);
     draw_over(&mut over, layout, lines, rows, settings)?;
-    document_of(alloc, page, &behind.content, &grounds, &over.content)
+    document_of(alloc, page, &under.content, &grounds, &over.content)
 }
 
 /// A picture: its text, and its height in units of a pixel.

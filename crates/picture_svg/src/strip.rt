@@ -1,6 +1,6 @@
 //! The overview: the whole run on one narrow band, from left to right.
 
-use crate::page::pen::{Area, Pen, Place};
+use crate::page::pen::{Area, Pen, Point};
 use crate::page::{CLOCK, Page};
 use itoa::Buffer;
 use picture_facts::marks::{Activation, Marks};
@@ -49,8 +49,8 @@ impl Band {
             .unit_of(activation.last.saturating_add(1))
             .max(first.saturating_add(1));
         for unit in first..end {
-            let place = lane.saturating_mul(WIDTH).saturating_add(unit);
-            if let Some(is_active) = self.is_active.as_mut_slice().get_mut(place) {
+            let index = lane.saturating_mul(WIDTH).saturating_add(unit);
+            if let Some(is_active) = self.is_active.as_mut_slice().get_mut(index) {
                 *is_active = true;
             }
         }
@@ -75,7 +75,7 @@ fn draw_units(
 ) -> Result<(), AllocError> {
     let lane = pid.saturating_sub(4);
     let area = Area {
-        place: Place {
+        corner: Point {
             left: first.saturating_add(CLOCK + 10),
             top: lane.saturating_mul(LANE).saturating_add(page.strip),
         },
@@ -108,20 +108,20 @@ fn draw_lane(pen: &mut Pen, page: &Page, pid: usize, units: &[bool]) -> Result<(
 
 /// Draws the clock over the overview, at equal distances, where it has changed.
 fn draw_clocks(pen: &mut Pen, page: &Page, marks: &Marks) -> Result<(), AllocError> {
-    let mut told = None;
+    let mut written = None;
     for label in 0..WIDTH / LABEL {
         let along = label.saturating_mul(LABEL);
         let row = along.saturating_mul(page.rows) / WIDTH;
         let clock = marks.clocks.get(row).copied().unwrap_or(marks.start);
-        if told != Some(clock) {
+        if written != Some(clock) {
             let mut digits = Buffer::new();
-            let place = Place {
+            let point = Point {
                 left: along.saturating_add(CLOCK + 10),
                 top: page.strip.saturating_sub(4),
             };
-            pen.text("g", place, digits.format(clock))?;
+            pen.text("g", point, digits.format(clock))?;
         }
-        told = Some(clock);
+        written = Some(clock);
     }
     Ok(())
 }
@@ -133,7 +133,7 @@ pub(crate) fn draw_strip(pen: &mut Pen, page: &Page, marks: &Marks) -> Result<()
         band.mark(activation);
     }
     let area = Area {
-        place: Place {
+        corner: Point {
             left: CLOCK + 10,
             top: page.strip,
         },

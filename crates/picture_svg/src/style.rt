@@ -1,10 +1,10 @@
 //! How the classes of a picture look.
 
 /// The style of a picture, without the colours of the processes: of texts `b` bold, `g` grey, `m` of one width, `p` printed, `r`
-/// refused, `h` the head, `e` ended where it stands, `c` in the middle; of grounds `i` an input, `t` a turn or a note, `x` an
-/// end; of lines `l` a life, `k` its end, `a` what was given at once, `cv` what was posted, `o` a timer, with `q` a callback timer, `y` one told late,
-/// `d` dots; of memory `j` a column, `z` a block, `v` its name, `u` a paler
-/// part of it, `c0` and `c1` that it is in the first or second list of its pool.
+/// refused, `h` the head, `e` ended where it is, `c` in the middle; of grounds `i` an input, `t` a turn or a note, `x` an end; of lines
+/// `l` a life, `k` its end, `a` what was given at once, `cv` what was posted, `o` a timer, with `q` a callback timer, `y` one received
+/// late, `d` dots; of memory `j` a column, `z` a block, `v` its name, `u` a paler part of it, `c0` and `c1` that it is in the first or
+/// second list of its pool.
 pub(crate) const STYLE: &str = "\
 svg{font:11px 'DejaVu Sans',Verdana,sans-serif}\
 text{fill:#222;white-space:pre;pointer-events:none}\

@@ -5,7 +5,7 @@ use crate::page::{Page, ROW};
 use picture_facts::marks::{Arming, is_callback, number_in_kind};
 use std::alloc::{AllocError, Global};
 
-/// Where a timer's line stands: those of event timers left of the lane, those of callback timers right of it.
+/// Where a timer's line is: those of event timers left of the lane, those of callback timers right of it.
 fn left_of(page: &Page, arming: &Arming) -> usize {
     let lane = page.lane_of(arming.pid);
     let off = number_in_kind(arming.timer)
@@ -29,7 +29,7 @@ fn title_of(alloc: Global, arming: &Arming) -> Result<String, AllocError> {
     let number = number_in_kind(arming.timer);
     let Arming { pid, due, .. } = *arming;
     let mut title = format!(in alloc; "{kind} {number} of process {pid}, due at clock {due}")?;
-    match (arming.told, arming.last) {
+    match (arming.received, arming.last) {
         (Some(clock), _) => {
             write!(title, ", told at {clock}")?;
             if clock > due {
@@ -55,7 +55,7 @@ fn commands_of(
     let from = left.saturating_sub(3);
     let (end, head) = match (due, arming.last) {
         (Some(due), _) => (middle_of(page, due), ""),
-        (None, Some(last)) if arming.told.is_some() => (middle_of(page, last), HEAD),
+        (None, Some(last)) if arming.received.is_some() => (middle_of(page, last), HEAD),
         (None, Some(last)) => (middle_of(page, last), "m-3,0h6"),
         (None, None) => (page.bottom(), ""),
     };
@@ -73,7 +73,7 @@ fn middle_of(page: &Page, row: usize) -> usize {
 /// The row in which a timer became due whose event came late, from that of its arming on.
 fn due_row(arming: &Arming, clocks: &[u64]) -> Option<usize> {
     let last = arming.last?;
-    if arming.told? <= arming.due {
+    if arming.received? <= arming.due {
         return None;
     }
     let before = &clocks[..last.min(clocks.len())];

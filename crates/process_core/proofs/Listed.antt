@@ -6,7 +6,7 @@ use Rattle.std.proofs.lemmas.Map.Views.{any-filter_same}
 use Rattle.process_core.proofs.MarkBits.{bit_other, bit_same, bit_small, counted, no_bit, only_bit, some_marked, unmarked_beyond}
 use Rattle.process_core.proofs.Sound.{none_from_is_one_of, same_number}
 
--- ---- what the list stands for
+-- ---- what the list means
 
 all_kept : (P : ℕ → Type 0) (p : ℕ) (ns : List ℕ) → AllByRecursion P ns → AllByRecursion P (others p ns)
 all_kept P p [] a = a

@@ -71,9 +71,9 @@ module _ {X : Type 0} where
     pub polls_begin : (left : List ℕ) → is_any_marked s.processes ≡ true
         → (passed : List ℕ) × (numbers s.processes ≡ passed ++ left) × (from_marked s.processes passed ≡ [])
         → Yields (in_front (Item.Polls ∷ []) s) None (in_front (map (λ p. Item.PollOne p) left) s)
-    polls_begin left marked behind =
+    polls_begin left marked walked =
         yields_next (in_front (Item.Polls ∷ []) s) None (in_front (map (λ p. Item.PollOne p) left) s) refl
-        (rw (marked, behind.1) (passed_by behind.0 left behind.2))
+        (rw (marked, walked.1) (passed_by walked.0 left walked.2))
 
     module _ (p : ℕ) where
       -- an application that doesn't run gets nothing
@@ -131,27 +131,27 @@ module _ (d : SchedulerFields) where
       → is_any_marked d.processes ≡ true
       → (passed : List ℕ) × (numbers d.processes ≡ passed ++ left) × (from_marked d.processes passed ≡ [])
       → Yields (scheduler_behind d) None (scheduler_behind (record d { base = Base.Deliver true; polls = left }))
-  polled_first true left bare unbegun marked behind = absurd (cc)
-  polled_first false left bare unbegun marked behind =
+  polled_first true left bare unbegun marked walked = absurd (cc)
+  polled_first false left bare unbegun marked walked =
       let given : Scheduler ℕ = in_front (Item.Deliver ∷ []) (scheduler_behind (record d { base = Base.Nothing; polls = [] })) in
       let start : scheduler_behind d ≡ in_front (Item.Polls ∷ []) given = rw (bare.stack, bare.polls, bare.base) refl in
-      rw (start, bare.stack) (polls_begin _ left marked behind)
+      rw (start, bare.stack) (polls_begin _ left marked walked)
 
   -- and before the next receiver
   pub polled_receiver : (is_polled : Bool) (walk left : List ℕ) → IsBare d (Base.Broadcast is_polled) → is_polled ≡ false
       → d.walk ≡ walk → is_empty walk ≡ false → is_any_marked d.processes ≡ true
       → (passed : List ℕ) × (numbers d.processes ≡ passed ++ left) × (from_marked d.processes passed ≡ [])
       → Yields (scheduler_behind d) None (scheduler_behind (record d { base = Base.Broadcast true; polls = left }))
-  polled_receiver true walk left bare unbegun is_walk some marked behind = absurd (cc)
-  polled_receiver false [] left bare unbegun is_walk some marked behind = absurd (cc)
-  polled_receiver false (p ∷ later) left bare unbegun is_walk some marked behind =
+  polled_receiver true walk left bare unbegun is_walk some marked walked = absurd (cc)
+  polled_receiver false [] left bare unbegun is_walk some marked walked = absurd (cc)
+  polled_receiver false (p ∷ later) left bare unbegun is_walk some marked walked =
       let given : Scheduler ℕ =
       in_front (Item.Give p Origin.Event (Stimulus.Event d.broadcast) ∷ [])
       (scheduler_behind (record d { base = Base.Broadcast false; walk = later; polls = [] })) in
       let start : scheduler_behind d ≡ in_front (Item.Polls ∷ []) given = rw (bare.stack, bare.polls, bare.base, is_walk) refl in
       let after : scheduler_behind (record d { base = Base.Broadcast true; polls = left }) ≡ in_front (poll_items left) given =
       rw (bare.stack, is_walk) refl in
-      rw (start, after) (polls_begin given left marked behind)
+      rw (start, after) (polls_begin given left marked walked)
 
   -- the poll round reaches its next marked process
   pub polls_yield : (later : List ℕ) (p : ℕ) (next : Option (Job ℕ)) (after : Scheduler ℕ)
@@ -173,9 +173,9 @@ module _ (d : SchedulerFields) where
       → d.stack.items ≡ [] → None ≡ slice_get (from_marked d.processes d.polls) 0 → left ≡ drop 1 (from_marked d.processes d.polls)
       → FindsJob (scheduler_behind (record d { polls = left })) ready buffer after
       → FindsJob (scheduler_behind d) ready buffer after
-  polls_end left bare none behind f =
+  polls_end left bare none walked f =
       let all = none_first (from_marked d.processes d.polls) (sym none) in
-      let over : left ≡ [] = rw all at behind in
+      let over : left ≡ [] = rw all at walked in
       let s = scheduler_behind (record d { polls = [] }) in
       let start : scheduler_behind d ≡ in_front (poll_items d.polls) s = rw bare refl in
       record {
@@ -184,7 +184,7 @@ module _ (d : SchedulerFields) where
             yields_after (in_front (poll_items d.polls) s) (in_front (poll_items (from_marked d.processes d.polls)) s) _ _
             (unmarked_pass s d.polls) (rw all (rw over at f.yields))
             );
-        told = f.told;
+        holds = f.holds;
         front = f.front;
         order = f.order;
       }
@@ -194,12 +194,12 @@ pub finds_from : {s t : Scheduler ℕ} {ready : Option NextJob} {buffer : Stimul
     → (Yields s (option_map (λ r. job_of r buffer) ready) (scheduler_behind after)
     → Yields t (option_map (λ r. job_of r buffer) ready) (scheduler_behind after))
     → FindsJob s ready buffer after → FindsJob t ready buffer after
-finds_from leads f = record { yields = leads f.yields; told = f.told; front = f.front; order = f.order }
+finds_from leads f = record { yields = leads f.yields; holds = f.holds; front = f.front; order = f.order }
 
 pub finds_next : {s : Scheduler ℕ} {ready : Option NextJob} {buffer : Stimulus} {after : SchedulerFields}
     → job s ≡ None → FindsJob (after_front s) ready buffer after → FindsJob s ready buffer after
-finds_next {s} none f = record { yields = yields_next s _ _ none f.yields; told = f.told; front = f.front; order = f.order }
+finds_next {s} none f = record { yields = yields_next s _ _ none f.yields; holds = f.holds; front = f.front; order = f.order }
 
-pub finds_after : {s : Scheduler ℕ} {ready : Option NextJob} {told buffer : Stimulus} {between after : SchedulerFields}
-    → FindsJob s None told between → FindsJob (scheduler_behind between) ready buffer after → FindsJob s ready buffer after
+pub finds_after : {s : Scheduler ℕ} {ready : Option NextJob} {stimulus buffer : Stimulus} {between after : SchedulerFields}
+    → FindsJob s None stimulus between → FindsJob (scheduler_behind between) ready buffer after → FindsJob s ready buffer after
 finds_after {s} {between = between} first f = finds_from (yields_after s (scheduler_behind between) _ _ first.yields) f

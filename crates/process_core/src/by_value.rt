@@ -16,16 +16,16 @@ use crate::scheduler::Scheduler;
 use mote_types::event::Stimulus;
 
 /// The job that a result of `next_to` and the buffer passed to it make up.
-fn job_told(ready: NextJob, told: Stimulus) -> Job
-    ensures { result ≡ by_value.job_told ready told }
+fn job_with(ready: NextJob, stimulus: Stimulus) -> Job
+    ensures { result ≡ by_value.job_with ready stimulus }
 {
     match ready {
         NextJob::TakeTurn { pid, origin } => Job::Give {
             pid,
             origin,
-            stimulus: told,
+            stimulus,
         },
-        NextJob::Serve(pid) => match told {
+        NextJob::Serve(pid) => match stimulus {
             Stimulus::Event(event) => Job::Serve { pid, event },
             _ => Job::Rest,
         },
@@ -63,8 +63,8 @@ impl Scheduler {
         ensures applications { self.new.state.applications ≡ self.old.state.applications }
         ensures standing { IsWellFormed self.new.state }
     {
-        let mut told = Stimulus::Callback(0);
-        let ready = self.next_to(&mut told);
-        job_told(ready, told)
+        let mut stimulus = Stimulus::Callback(0);
+        let ready = self.next_to(&mut stimulus);
+        job_with(ready, stimulus)
     }
 }

@@ -12,7 +12,7 @@ ghost use Rattle.process_core.specs.declared.front.Front.{Front};
 
 use crate::front::Front;
 use crate::next_job::NextJob;
-use crate::open_work::{Base, put_event, tell};
+use crate::open_work::{Base, put_event, write_event};
 use crate::queued::Queued;
 use crate::scheduler_fields::SchedulerFields;
 use crate::state::State;
@@ -40,15 +40,15 @@ fn drop_first(events: &mut HeapCircularBuffer<Queued>)
 impl SchedulerFields {
     /// Gives the process its next stimulus.
     #[inline(always)]
-    pub fn give(&mut self, pid: Pid, origin: Origin, told: &Stimulus) -> Option<NextJob>
+    pub fn give(&mut self, pid: Pid, origin: Origin, stimulus: &Stimulus) -> Option<NextJob>
         requires order { IsInOrder self.old }
         requires idle { self.old.front ≡ Front.Nothing }
-        ensures finds { FindsJob (in_front (Item.Give pid.0 origin told.now ∷ []) (scheduler_behind self.old))
-            result told.now self.new }
+        ensures finds { FindsJob (in_front (Item.Give pid.0 origin stimulus.now ∷ []) (scheduler_behind self.old))
+            result stimulus.now self.new }
         ensures kept { self.new ≡ record self.old { processes = self.new.processes; front = self.new.front } }
     {
         if pid.0 < FIRST_APPLICATION {
-            return match told {
+            return match stimulus {
                 Stimulus::Event(_) => Some(NextJob::Serve(pid)),
                 _ => None,
             };
@@ -64,18 +64,18 @@ impl SchedulerFields {
     }
 
     /// Starts the process, unless it's on the list.
-    pub fn start_one(&mut self, pid: Pid, told: &mut Stimulus) -> Option<NextJob>
+    pub fn start_one(&mut self, pid: Pid, stimulus: &mut Stimulus) -> Option<NextJob>
         requires known { pid.0 < 4 + self.old.applications }
         requires order { IsInOrder self.old }
         requires idle { self.old.front ≡ Front.Nothing }
-        ensures finds { FindsJob (in_front (Item.Start pid.0 ∷ []) (scheduler_behind self.old)) result told.new self.new }
+        ensures finds { FindsJob (in_front (Item.Start pid.0 ∷ []) (scheduler_behind self.old)) result stimulus.new self.new }
         ensures kept { self.new ≡ record self.old { processes = self.new.processes; front = self.new.front } }
     {
         match self.processes.state_of(pid) {
             State::Absent => {
                 self.processes.add(pid);
-                *told = Stimulus::Event(plain_event(event::INIT));
-                self.give(pid, Origin::Synch, told)
+                *stimulus = Stimulus::Event(plain_event(event::INIT));
+                self.give(pid, Origin::Synch, stimulus)
             }
             _ => None,
         }
@@ -83,36 +83,36 @@ impl SchedulerFields {
 
     /// A poll round reaches this process.
     #[inline(always)]
-    pub fn poll_one(&mut self, pid: Pid, told: &mut Stimulus) -> Option<NextJob>
+    pub fn poll_one(&mut self, pid: Pid, stimulus: &mut Stimulus) -> Option<NextJob>
         requires order { IsInOrder self.old }
         requires idle { self.old.front ≡ Front.Nothing }
-        ensures finds { FindsJob (in_front (Item.PollOne pid.0 ∷ []) (scheduler_behind self.old)) result told.new self.new }
+        ensures finds { FindsJob (in_front (Item.PollOne pid.0 ∷ []) (scheduler_behind self.old)) result stimulus.new self.new }
         ensures kept { self.new ≡ record self.old { processes = self.new.processes; front = self.new.front } }
     {
         if !self.processes.is_marked(pid) {
             return None;
         }
         self.processes.set_mark(pid, false);
-        *told = Stimulus::Event(plain_event(event::POLL));
-        self.give(pid, Origin::Poll, told)
+        *stimulus = Stimulus::Event(plain_event(event::POLL));
+        self.give(pid, Origin::Poll, stimulus)
     }
 
     /// Delivers the first event.
     #[inline(always)]
-    pub fn deliver(&mut self, told: &mut Stimulus) -> Option<NextJob>
+    pub fn deliver(&mut self, stimulus: &mut Stimulus) -> Option<NextJob>
         requires order { IsInOrder self.old }
         requires idle { self.old.front ≡ Front.Nothing }
         requires bare { IsBare self.old Base.Nothing }
-        ensures finds { FindsJob (in_front (Item.Deliver ∷ []) (scheduler_behind self.old)) result told.new self.new }
+        ensures finds { FindsJob (in_front (Item.Deliver ∷ []) (scheduler_behind self.old)) result stimulus.new self.new }
         ensures falls { IfNone result (weight self.new < weight self.old + 1300) }
     {
         // Delivers or stores an event without a copy of the whole slot: that takes fewer moves.
         match self.events.front() {
             Some(Queued::To(pid, event)) => {
                 let pid = *pid;
-                tell(told, event);
+                write_event(stimulus, event);
                 drop_first(&mut self.events);
-                self.give(pid, Origin::Event, told)
+                self.give(pid, Origin::Event, stimulus)
             }
             Some(Queued::ToAll(event)) => {
                 put_event(&mut self.broadcast, event);

@@ -1,7 +1,7 @@
 //! The pieces of open work.
 
 ghost use Rattle.std.specs.Prelude.{◌≡◌};
-ghost use Rattle.mote_types.specs.declared.event.Stimulus.{Stimulus as ToldStimulus};
+ghost use Rattle.mote_types.specs.declared.event.Stimulus.{Stimulus as Received};
 ghost use Rattle.mote_types.specs.declared.event.Payload.{Payload as Carried};
 ghost use Rattle.mote_types.specs.declared.reply.Reply.{Reply as Answered};
 
@@ -11,7 +11,7 @@ use arrayvec::ArrayVec;
 use mote_types::event::{Event, Payload, Pid, Stimulus};
 use mote_types::reply::Reply;
 
-/// Work within activations: a continuation of the stack, which stands for the items of the agenda that are left of it.
+/// Work within activations: a continuation of the stack, which means the items of the agenda that are left of it.
 #[derive(Drop)]
 pub enum Continuation {
     /// A process that has ended: the others that don't know it yet, and whether it then gets EXIT.
@@ -35,10 +35,10 @@ pub enum Base {
 
 // Writes an event that carries a number. In place where the buffer has one: mostly the same one, as a receiver got it that waits.
 #[inline(always)]
-fn tell_number(told: &mut Stimulus, code: u8, number: u32)
-    ensures { told.new ≡ ToldStimulus.Event (record { code = code; payload = Carried.Num number }) }
+fn write_number(stimulus: &mut Stimulus, code: u8, number: u32)
+    ensures { stimulus.new ≡ Received.Event (record { code = code; payload = Carried.Num number }) }
 {
-    match told {
+    match stimulus {
         Stimulus::Event(event) => {
             event.code = code;
             match &mut event.payload {
@@ -47,7 +47,7 @@ fn tell_number(told: &mut Stimulus, code: u8, number: u32)
             }
         }
         _ => {
-            *told = Stimulus::Event(Event {
+            *stimulus = Stimulus::Event(Event {
                 code,
                 payload: Payload::Num(number),
             });
@@ -56,12 +56,12 @@ fn tell_number(told: &mut Stimulus, code: u8, number: u32)
 }
 
 /// Writes an event as a stimulus, without allocating memory; the event stays. The bytes of a line are copied once.
-pub(crate) fn tell(told: &mut Stimulus, event: &Event)
-    ensures { told.new ≡ ToldStimulus.Event event.now }
+pub(crate) fn write_event(stimulus: &mut Stimulus, event: &Event)
+    ensures { stimulus.new ≡ Received.Event event.now }
 {
     match &event.payload {
         Payload::Line(line) => {
-            *told = Stimulus::Event(Event {
+            *stimulus = Stimulus::Event(Event {
                 code: event.code,
                 payload: Payload::Line(ArrayVec::new()),
             });
@@ -70,70 +70,70 @@ pub(crate) fn tell(told: &mut Stimulus, event: &Event)
                     payload: Payload::Line(copy),
                     ..
                 },
-            ) = told
+            ) = stimulus
             {
                 let _ = copy.try_extend_from_slice(line.as_slice());
             }
         }
-        Payload::Num(number) => tell_number(told, event.code, *number),
-        Payload::Empty => *told = Stimulus::Event(plain_event(event.code)),
+        Payload::Num(number) => write_number(stimulus, event.code, *number),
+        Payload::Empty => *stimulus = Stimulus::Event(plain_event(event.code)),
     }
 }
 
 /// Writes an event into a buffer, without allocating memory. The bytes of a line are copied once.
-pub(crate) fn put_event(place: &mut Event, event: &Event)
-    ensures { place.new ≡ event.now }
+pub(crate) fn put_event(slot: &mut Event, event: &Event)
+    ensures { slot.new ≡ event.now }
 {
-    place.code = event.code;
+    slot.code = event.code;
     match &event.payload {
         Payload::Line(line) => {
-            place.payload = Payload::Line(ArrayVec::new());
-            if let Payload::Line(copy) = &mut place.payload {
+            slot.payload = Payload::Line(ArrayVec::new());
+            if let Payload::Line(copy) = &mut slot.payload {
                 let _ = copy.try_extend_from_slice(line.as_slice());
             }
         }
-        _ => place.payload = event.payload.copied(),
+        _ => slot.payload = event.payload.copied(),
     }
 }
 
 // A separate function: it has room for bytes, which is cleared at its entry.
-fn put_telling_reply(place: &mut Reply, reply: &Reply)
-    ensures { place.new ≡ reply.now }
+fn put_reply(slot: &mut Reply, reply: &Reply)
+    ensures { slot.new ≡ reply.now }
 {
     match reply {
-        Reply::Done => *place = Reply::Done,
-        Reply::Refused(refusal) => *place = Reply::Refused(*refusal),
-        Reply::Num(n) => *place = Reply::Num(*n),
-        Reply::Wide(n) => *place = Reply::Wide(*n),
-        Reply::Flag(flag) => *place = Reply::Flag(*flag),
+        Reply::Done => *slot = Reply::Done,
+        Reply::Refused(refusal) => *slot = Reply::Refused(*refusal),
+        Reply::Num(n) => *slot = Reply::Num(*n),
+        Reply::Wide(n) => *slot = Reply::Wide(*n),
+        Reply::Flag(flag) => *slot = Reply::Flag(*flag),
         Reply::Bytes(bytes) => {
-            *place = Reply::Bytes(ArrayVec::new());
-            if let Reply::Bytes(copy) = place {
+            *slot = Reply::Bytes(ArrayVec::new());
+            if let Reply::Bytes(copy) = slot {
                 let _ = copy.try_extend_from_slice(bytes.as_slice());
             }
         }
-        Reply::Stats(stats) => *place = Reply::Stats(*stats),
+        Reply::Stats(stats) => *slot = Reply::Stats(*stats),
     }
 }
 
 // Prepares the buffer for a reply. A separate function: it has room for what it writes there, which is cleared at its
 // entry.
-fn begin_answer(told: &mut Stimulus)
-    ensures { told.new ≡ ToldStimulus.Answer Answered.Done }
+fn begin_reply(stimulus: &mut Stimulus)
+    ensures { stimulus.new ≡ Received.Answer Answered.Done }
 {
-    *told = Stimulus::Answer(Reply::Done);
+    *stimulus = Stimulus::Answer(Reply::Done);
 }
 
 /// Writes a reply as a stimulus; the reply stays. Most are Done, and all but bytes take fewer moves than a copy of the whole reply.
-pub(crate) fn tell_reply(told: &mut Stimulus, reply: &Reply)
-    ensures { told.new ≡ ToldStimulus.Answer reply.now }
+pub(crate) fn write_reply(stimulus: &mut Stimulus, reply: &Reply)
+    ensures { stimulus.new ≡ Received.Answer reply.now }
 {
-    begin_answer(told);
+    begin_reply(stimulus);
     if matches!(reply, Reply::Done) {
         return;
     }
-    if let Stimulus::Answer(place) = told {
-        put_telling_reply(place, reply);
+    if let Stimulus::Answer(slot) = stimulus {
+        put_reply(slot, reply);
     }
 }
 

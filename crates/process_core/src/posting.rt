@@ -53,7 +53,7 @@ impl Scheduler {
     }
 
     /// As `post`, for the expiry of a process's callback timer. The arming number is returned with the job, so that the
-    /// layer above can tell whether the timer was set or stopped since.
+    /// layer above can write_event whether the timer was set or stopped since.
     pub fn post_callback(&mut self, pid: Pid, number: u8, arming: u64) -> Result<(), Refusal>
         ensures accepted { IfOk result (λ _. (request.post_refusal self.old.state ≡ None)
             × (self.new ≡ record self.old { state = posted (QueuedEvent.Expiry pid.0 number arming) self.old.state })) }

@@ -146,7 +146,7 @@ impl ProcessList {
         requires absent { state_of pid.0 self.old ≡ State.Absent }
         ensures { self.new ≡ record { number = pid.0; state = State.Running; marked = false } ∷ self.old }
     {
-        self.on_list = ProcessNumbers::behind(pid.0, self.on_list.as_slice());
+        self.on_list = ProcessNumbers::with_first(pid.0, self.on_list.as_slice());
         self.states[pid.0 as usize] = State::Running;
     }
 

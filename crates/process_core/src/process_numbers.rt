@@ -10,7 +10,7 @@ use std::marker::Model;
 /// No `ArrayVec`: a walk is a copy of these, and to copy an `ArrayVec` is a call of memcpy for as much as it holds.
 #[derive(Drop)]
 pub struct ProcessNumbers {
-    places: [u8; PROCESSES],
+    numbers: [u8; PROCESSES],
     len: usize,
 }
 
@@ -20,9 +20,9 @@ impl Model for ProcessNumbers {
 
     ghost Value = { Items ℕ };
 
-    ghost view = { λ n. record { items = take n.len n.places } };
+    ghost view = { λ n. record { items = take n.len n.numbers } };
 
-    ghost invariant = { λ n. (n.len ≤ 20) × (length n.places ≡ 20) };
+    ghost invariant = { λ n. (n.len ≤ 20) × (length n.numbers ≡ 20) };
 }
 
 impl ProcessNumbers {
@@ -31,21 +31,21 @@ impl ProcessNumbers {
         ensures { result.items ≡ [] }
     {
         ProcessNumbers {
-            places: [0; PROCESSES],
+            numbers: [0; PROCESSES],
             len: 0,
         }
     }
 
     /// This number, and after it these.
-    pub fn behind(first: u8, rest: &[u8]) -> Self
+    pub fn with_first(first: u8, rest: &[u8]) -> Self
         requires { length rest.now < 20 }
         ensures { result.items ≡ first ∷ rest.now }
     {
-        let mut places = [0; PROCESSES];
+        let mut numbers = [0; PROCESSES];
         let len = 1 + rest.len();
-        places[0] = first;
-        places[1..len].copy_from_slice(rest);
-        ProcessNumbers { places, len }
+        numbers[0] = first;
+        numbers[1..len].copy_from_slice(rest);
+        ProcessNumbers { numbers, len }
     }
 
     /// The same numbers once more.
@@ -54,7 +54,7 @@ impl ProcessNumbers {
         ensures few { length result.items ≤ 20 }
     {
         ProcessNumbers {
-            places: self.places,
+            numbers: self.numbers,
             len: self.len,
         }
     }
@@ -71,7 +71,7 @@ impl ProcessNumbers {
         ensures value { result.now ≡ self.now.items }
         ensures few { length result.now ≤ 20 }
     {
-        &self.places[..self.len]
+        &self.numbers[..self.len]
     }
 
     /// Appends this number.
@@ -79,7 +79,7 @@ impl ProcessNumbers {
         requires { length self.old.items < 20 }
         ensures { self.new.items ≡ self.old.items ++ number ∷ [] }
     {
-        self.places[self.len] = number;
+        self.numbers[self.len] = number;
         self.len += 1;
     }
 }

@@ -3,7 +3,7 @@
 ghost use Rattle.std.specs.Prelude.{◌≡◌, ◌≤◌, ◌<◌, ◌+◌, ◌*◌, None, IfOk, IfSome, [], true, false, length};
 ghost use Rattle.mote_types.specs.declared.event.Event.{Event};
 ghost use Rattle.mote_types.specs.declared.event.Pid.{Pid};
-ghost use Rattle.mote_types.specs.declared.event.Stimulus.{Stimulus as ToldStimulus};
+ghost use Rattle.mote_types.specs.declared.event.Stimulus.{Stimulus as Received};
 ghost use Rattle.process_core.specs.Code.OpenWork.{agenda_of};
 ghost use Rattle.process_core.specs.Code.SchedulerView.{awaiting_nothing, job_of, turn_of, callback_of};
 ghost use Rattle.process_core.specs.Code.Conditions.{IsApplication};
@@ -99,11 +99,11 @@ impl Scheduler {
     /// The next job: the first thing on the agenda that the scheduler does not do by itself. Where nothing is on the agenda a
     /// round begins, if a process is marked or an event waits.
     ///
-    /// The buffer `told` then holds the stimulus (TakeTurn) or the event (Serve). For any other result it may hold what was meant
+    /// The buffer `stimulus` then holds the stimulus (TakeTurn) or the event (Serve). For any other result it may hold what was meant
     /// for a process that did not take it.
-    pub fn next_to(&mut self, told: &mut Stimulus) -> NextJob
+    pub fn next_to(&mut self, stimulus: &mut Stimulus) -> NextJob
         requires { self.old.turn ≡ None }
-        ensures job { ComesTo self.old.state (job_of result told.new) self.new.state }
+        ensures job { ComesTo self.old.state (job_of result stimulus.new) self.new.state }
         ensures turn { self.new.turn ≡ turn_of result }
         ensures callback { self.new.callback ≡ callback_of result }
 
@@ -111,14 +111,14 @@ impl Scheduler {
         ensures active { IfSome self.new.turn (λ p. IsApplication self.new.state.applications p.0
             × (is_in_activation (state_in self.new.state p.0) ≡ true)) }
         ensures served { (p : Pid) → result ≡ Answer.Serve p → (p.0 < 4)
-            × (event : Event) × (told.new ≡ ToldStimulus.Event event) }
+            × (event : Event) × (stimulus.new ≡ Received.Event event) }
         ensures rest { result ≡ Answer.Rest → (self.new.state.agenda ≡ []) × (wants_round self.new.state ≡ false) }
         ensures applications { self.new.state.applications ≡ self.old.state.applications }
         ensures standing { IsWellFormed self.new.state }
     {
-        let ready = match self.fields.take_front(told) {
+        let ready = match self.fields.take_front(stimulus) {
             Some(ready) => ready,
-            None => self.fields.work_on(told),
+            None => self.fields.work_on(stimulus),
         };
         // Does nothing: the call gives the proof the invariant of a process list, for the clause `standing`.
         self.fields.processes.each_is_once();

@@ -2,7 +2,7 @@
 
 ghost use Rattle.std.specs.Prelude.{◌≡◌, ◌<◌, [], ◌∷◌, Some, IfNone, length, reverse};
 ghost use Rattle.mote_types.specs.declared.event.Pid.{Pid as At};
-ghost use Rattle.mote_types.specs.declared.event.Stimulus.{Stimulus as ToldStimulus};
+ghost use Rattle.mote_types.specs.declared.event.Stimulus.{Stimulus as Received};
 ghost use Rattle.process_core.specs.Code.Weights.{weight, weight_over};
 ghost use Rattle.process_core.specs.Code.SchedulerFields.{scheduler_of, scheduler_behind, scheduler_over, found, IsBare, IsInOrder, IsOrdered};
 ghost use Rattle.process_core.specs.Code.FindsJob.{FindsJob};
@@ -13,7 +13,7 @@ ghost use Rattle.process_core.specs.declared.open_work.Continuation.{Continuatio
 use crate::front::Front;
 use crate::giving::plain_event;
 use crate::next_job::NextJob;
-use crate::open_work::{Base, Continuation, tell, tell_reply};
+use crate::open_work::{Base, Continuation, write_event, write_reply};
 use crate::scheduler_fields::SchedulerFields;
 use crate::state::State;
 use crate::walk::Walk;
@@ -23,16 +23,16 @@ use mote_types::reply::Reply;
 impl SchedulerFields {
     /// First what was reported since the last job.
     #[inline(always)]
-    pub fn take_front(&mut self, told: &mut Stimulus) -> Option<NextJob>
+    pub fn take_front(&mut self, stimulus: &mut Stimulus) -> Option<NextJob>
         requires order { IsInOrder self.old }
-        ensures { FindsJob (scheduler_of self.old) result told.new self.new }
+        ensures { FindsJob (scheduler_of self.old) result stimulus.new self.new }
     {
         if matches!(self.front, Front::Nothing) {
             return None;
         }
         match self.front {
             Front::Answer(pid) => {
-                tell_reply(told, &self.reply);
+                write_reply(stimulus, &self.reply);
                 self.front = Front::Call(pid);
                 Some(NextJob::TakeTurn {
                     pid,
@@ -40,7 +40,7 @@ impl SchedulerFields {
                 })
             }
             _ => {
-                if self.find_rare_front(told) {
+                if self.find_rare_front(stimulus) {
                     Some(self.ready)
                 } else {
                     None
@@ -52,12 +52,12 @@ impl SchedulerFields {
     // What few calls report, out of line: the buffers of events are cleared at the entry. The job is put into a field: as a
     // result it would keep each other job in memory, too.
     #[inline(never)]
-    fn find_rare_front(&mut self, told: &mut Stimulus) -> bool
+    fn find_rare_front(&mut self, stimulus: &mut Stimulus) -> bool
         requires order { IsInOrder self.old }
         requires rare { (p : At) → self.old.front ≡ Front.Answer p → ⊥ }
-        ensures { FindsJob (scheduler_of self.old) (found result self.new.ready) told.new self.new }
+        ensures { FindsJob (scheduler_of self.old) (found result self.new.ready) stimulus.new self.new }
     {
-        match self.take_rare_front(told) {
+        match self.take_rare_front(stimulus) {
             Some(ready) => {
                 self.ready = ready;
                 true
@@ -67,22 +67,22 @@ impl SchedulerFields {
     }
 
     // What few calls report.
-    fn take_rare_front(&mut self, told: &mut Stimulus) -> Option<NextJob>
+    fn take_rare_front(&mut self, stimulus: &mut Stimulus) -> Option<NextJob>
         requires order { IsInOrder self.old }
         requires rare { (p : At) → self.old.front ≡ Front.Answer p → ⊥ }
-        ensures { FindsJob (scheduler_of self.old) result told.new self.new }
+        ensures { FindsJob (scheduler_of self.old) result stimulus.new self.new }
     {
         let front = self.front;
         self.front = Front::Nothing;
         match front {
             Front::Give(pid) => {
-                tell(told, &self.synch);
-                self.give(pid, Origin::Synch, told)
+                write_event(stimulus, &self.synch);
+                self.give(pid, Origin::Synch, stimulus)
             }
-            Front::Start(pid) => self.start_one(pid, told),
+            Front::Start(pid) => self.start_one(pid, stimulus),
             Front::Callback { pid, number } => {
-                *told = Stimulus::Callback(number);
-                self.give(pid, Origin::Callback, told)
+                *stimulus = Stimulus::Callback(number);
+                self.give(pid, Origin::Callback, stimulus)
             }
             _ => None,
         }
@@ -94,12 +94,12 @@ impl SchedulerFields {
         pid: Pid,
         walk: Walk,
         exits: bool,
-        told: &mut Stimulus,
+        stimulus: &mut Stimulus,
     ) -> Option<NextJob>
         requires order { IsOrdered self.old (Continuation.Leave pid walk exits ∷ reverse self.old.stack.items) }
         requires idle { self.old.front ≡ Front.Nothing }
         ensures finds { FindsJob (scheduler_over self.old (Continuation.Leave pid walk exits ∷ reverse self.old.stack.items))
-            result told.new self.new }
+            result stimulus.new self.new }
         ensures falls { IfNone result
             (weight self.new < weight_over self.old (Continuation.Leave pid walk exits ∷ reverse self.old.stack.items)) }
     {
@@ -107,11 +107,11 @@ impl SchedulerFields {
         match walk.advance() {
             Some(other) => {
                 self.stack.push(Continuation::Leave { pid, walk, exits });
-                *told = Stimulus::Event(Event {
+                *stimulus = Stimulus::Event(Event {
                     code: event::EXITED,
                     payload: Payload::Num(pid.0 as u32),
                 });
-                self.give(other, Origin::Synch, told)
+                self.give(other, Origin::Synch, stimulus)
             }
             None => {
                 if !exits {
@@ -125,7 +125,7 @@ impl SchedulerFields {
                 });
                 self.processes.set_state(pid, State::Ending);
                 self.front = Front::Call(pid);
-                *told = Stimulus::Event(plain_event(event::EXIT));
+                *stimulus = Stimulus::Event(plain_event(event::EXIT));
                 Some(NextJob::TakeTurn {
                     pid,
                     origin: Origin::Synch,
@@ -136,14 +136,14 @@ impl SchedulerFields {
 
     // As `resume_boot`, out of line.
     #[inline(never)]
-    fn find_boot(&mut self, told: &mut Stimulus) -> bool
+    fn find_boot(&mut self, stimulus: &mut Stimulus) -> bool
         requires bare { IsBare self.old Base.Boot }
         requires order { IsInOrder self.old }
         requires idle { self.old.front ≡ Front.Nothing }
-        ensures finds { FindsJob (scheduler_behind self.old) (found result self.new.ready) told.new self.new }
+        ensures finds { FindsJob (scheduler_behind self.old) (found result self.new.ready) stimulus.new self.new }
         ensures falls { IfNone (found result self.new.ready) (weight self.new < weight self.old) }
     {
-        match self.resume_boot(told) {
+        match self.resume_boot(stimulus) {
             Some(ready) => {
                 self.ready = ready;
                 true
@@ -153,15 +153,15 @@ impl SchedulerFields {
     }
 
     // The next application is started.
-    fn resume_boot(&mut self, told: &mut Stimulus) -> Option<NextJob>
+    fn resume_boot(&mut self, stimulus: &mut Stimulus) -> Option<NextJob>
         requires bare { IsBare self.old Base.Boot }
         requires order { IsInOrder self.old }
         requires idle { self.old.front ≡ Front.Nothing }
-        ensures finds { FindsJob (scheduler_behind self.old) result told.new self.new }
+        ensures finds { FindsJob (scheduler_behind self.old) result stimulus.new self.new }
         ensures falls { IfNone result (weight self.new < weight self.old) }
     {
         match self.walk.advance() {
-            Some(pid) => self.start_one(pid, told),
+            Some(pid) => self.start_one(pid, stimulus),
             None => {
                 self.base = Base::Nothing;
                 None
@@ -171,11 +171,11 @@ impl SchedulerFields {
 
     // A round: the poll round, and then the delivery.
     #[inline(always)]
-    fn resume_deliver(&mut self, is_polled: bool, told: &mut Stimulus) -> Option<NextJob>
+    fn resume_deliver(&mut self, is_polled: bool, stimulus: &mut Stimulus) -> Option<NextJob>
         requires bare { IsBare self.old (Base.Deliver is_polled) }
         requires order { IsInOrder self.old }
         requires idle { self.old.front ≡ Front.Nothing }
-        ensures finds { FindsJob (scheduler_behind self.old) result told.new self.new }
+        ensures finds { FindsJob (scheduler_behind self.old) result stimulus.new self.new }
         ensures falls { IfNone result (weight self.new < weight self.old) }
     {
         if !is_polled && self.processes.is_any_marked() {
@@ -184,16 +184,16 @@ impl SchedulerFields {
             return None;
         }
         self.base = Base::Nothing;
-        self.deliver(told)
+        self.deliver(stimulus)
     }
 
     // The next receiver gets the event, after a poll round.
     #[inline(always)]
-    fn resume_broadcast(&mut self, is_polled: bool, told: &mut Stimulus) -> Option<NextJob>
+    fn resume_broadcast(&mut self, is_polled: bool, stimulus: &mut Stimulus) -> Option<NextJob>
         requires bare { IsBare self.old (Base.Broadcast is_polled) }
         requires order { IsInOrder self.old }
         requires idle { self.old.front ≡ Front.Nothing }
-        ensures finds { FindsJob (scheduler_behind self.old) result told.new self.new }
+        ensures finds { FindsJob (scheduler_behind self.old) result stimulus.new self.new }
         ensures falls { IfNone result (weight self.new < weight self.old) }
     {
         if !is_polled && self.processes.is_any_marked() && !self.walk.is_over() {
@@ -204,8 +204,8 @@ impl SchedulerFields {
         match self.walk.advance() {
             Some(pid) => {
                 self.base = Base::Broadcast { is_polled: false };
-                tell(told, &self.broadcast);
-                self.give(pid, Origin::Event, told)
+                write_event(stimulus, &self.broadcast);
+                self.give(pid, Origin::Event, stimulus)
             }
             None => {
                 self.base = Base::Nothing;
@@ -216,40 +216,40 @@ impl SchedulerFields {
 
     // No process is within an activation: the poll round reaches the next process that is marked, and after it the base.
     #[inline(always)]
-    fn resume_below(&mut self, told: &mut Stimulus) -> Option<NextJob>
+    fn resume_below(&mut self, stimulus: &mut Stimulus) -> Option<NextJob>
         requires bare { self.old.stack.items ≡ [] }
         requires order { IsInOrder self.old }
         requires idle { self.old.front ≡ Front.Nothing }
-        ensures finds { FindsJob (scheduler_behind self.old) result told.new self.new }
+        ensures finds { FindsJob (scheduler_behind self.old) result stimulus.new self.new }
         ensures falls { IfNone result (weight self.new < weight self.old) }
     {
         if let Some(pid) = self.polls.next_marked(&self.processes) {
-            return self.poll_one(pid, told);
+            return self.poll_one(pid, stimulus);
         }
         match self.base {
             Base::Nothing => Some(self.begin_round()),
             Base::Boot => {
-                if self.find_boot(told) {
+                if self.find_boot(stimulus) {
                     Some(self.ready)
                 } else {
                     None
                 }
             }
-            Base::Deliver { is_polled } => self.resume_deliver(is_polled, told),
-            Base::Broadcast { is_polled } => self.resume_broadcast(is_polled, told),
+            Base::Deliver { is_polled } => self.resume_deliver(is_polled, stimulus),
+            Base::Broadcast { is_polled } => self.resume_broadcast(is_polled, stimulus),
         }
     }
 
     // As `resume_within`, out of line.
     #[inline(never)]
-    fn find_within(&mut self, told: &mut Stimulus) -> bool
+    fn find_within(&mut self, stimulus: &mut Stimulus) -> bool
         requires open { 0 < length self.old.stack.items }
         requires order { IsInOrder self.old }
         requires idle { self.old.front ≡ Front.Nothing }
-        ensures finds { FindsJob (scheduler_behind self.old) (found result self.new.ready) told.new self.new }
+        ensures finds { FindsJob (scheduler_behind self.old) (found result self.new.ready) stimulus.new self.new }
         ensures falls { IfNone (found result self.new.ready) (weight self.new < weight self.old) }
     {
-        match self.resume_within(told) {
+        match self.resume_within(stimulus) {
             Some(ready) => {
                 self.ready = ready;
                 true
@@ -259,19 +259,19 @@ impl SchedulerFields {
     }
 
     // The topmost continuation is worked on.
-    fn resume_within(&mut self, told: &mut Stimulus) -> Option<NextJob>
+    fn resume_within(&mut self, stimulus: &mut Stimulus) -> Option<NextJob>
         requires open { 0 < length self.old.stack.items }
         requires order { IsInOrder self.old }
         requires idle { self.old.front ≡ Front.Nothing }
-        ensures finds { FindsJob (scheduler_behind self.old) result told.new self.new }
+        ensures finds { FindsJob (scheduler_behind self.old) result stimulus.new self.new }
         ensures falls { IfNone result (weight self.new < weight self.old) }
     {
         match self.stack.pop() {
             Some(Continuation::Leave { pid, walk, exits }) => self.resume_leave(
-                pid, walk, exits, told,
+                pid, walk, exits, stimulus,
             ),
             Some(Continuation::Answer(pid)) => {
-                tell_reply(told, &Reply::Done);
+                write_reply(stimulus, &Reply::Done);
                 self.front = Front::Call(pid);
                 Some(NextJob::TakeTurn {
                     pid,
@@ -284,15 +284,15 @@ impl SchedulerFields {
 
     /// The open work goes on, or where there is none a round begins.
     #[inline(always)]
-    pub fn resume(&mut self, told: &mut Stimulus) -> Option<NextJob>
+    pub fn resume(&mut self, stimulus: &mut Stimulus) -> Option<NextJob>
         requires order { IsInOrder self.old }
         requires idle { self.old.front ≡ Front.Nothing }
-        ensures finds { FindsJob (scheduler_behind self.old) result told.new self.new }
+        ensures finds { FindsJob (scheduler_behind self.old) result stimulus.new self.new }
         ensures falls { IfNone result (weight self.new < weight self.old) }
     {
         if self.stack.is_empty() {
-            self.resume_below(told)
-        } else if self.find_within(told) {
+            self.resume_below(stimulus)
+        } else if self.find_within(stimulus) {
             Some(self.ready)
         } else {
             None
@@ -301,13 +301,13 @@ impl SchedulerFields {
 
     /// The open work goes on up to a job.
     #[inline(always)]
-    pub fn work_on(&mut self, told: &mut Stimulus) -> NextJob
+    pub fn work_on(&mut self, stimulus: &mut Stimulus) -> NextJob
         requires order { IsInOrder self.old }
         requires idle { self.old.front ≡ Front.Nothing }
-        ensures { FindsJob (scheduler_behind self.old) (Some result) told.new self.new }
+        ensures { FindsJob (scheduler_behind self.old) (Some result) stimulus.new self.new }
     {
         'open: loop {
-            if let Some(ready) = self.resume(told) {
+            if let Some(ready) = self.resume(stimulus) {
                 break 'open ready;
             }
         }
@@ -319,7 +319,7 @@ impl SchedulerFields {
         requires order { IsInOrder self.old }
         requires idle { self.old.front ≡ Front.Nothing }
         requires bare { IsBare self.old Base.Nothing }
-        ensures { (told : ToldStimulus) → FindsJob (scheduler_behind self.old) (Some result) told self.new }
+        ensures { (stimulus : Received) → FindsJob (scheduler_behind self.old) (Some result) stimulus self.new }
     {
         if !self.processes.is_any_marked() && self.events.is_empty() {
             return NextJob::Rest;

@@ -64,7 +64,7 @@ impl Walk {
     /// Returns the next process that is marked. The walk passes it and those before it.
     pub(crate) fn next_marked(&mut self, processes: &ProcessList) -> Option<Pid>
         ensures next { option_map (λ (p : At). p.0) result ≡ slice_get (from_marked processes.now self.old) 0 }
-        ensures behind { self.new ≡ drop 1 (from_marked processes.now self.old) }
+        ensures rest { self.new ≡ drop 1 (from_marked processes.now self.old) }
     {
         while let Some(pid) = self.advance() {
             if processes.is_marked(pid) {

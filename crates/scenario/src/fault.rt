@@ -12,8 +12,8 @@ pub(crate) enum WordFault {
     NoScriptLine,
     NoTranscriptLine,
     NoClock,
-    /// It sets a network up below an input.
-    BehindInput,
+    /// It sets a network up, and is below an input.
+    AfterInput,
     NoEnd,
     Twice,
     /// Two runs have this name.
@@ -29,52 +29,10 @@ impl WordFault {
             WordFault::NoScriptLine => ("", " is no line of a script"),
             WordFault::NoTranscriptLine => ("", " is no line of a transcript"),
             WordFault::NoClock => ("", " is no clock"),
-            WordFault::BehindInput => ("", " sets a network up, and is below an input"),
+            WordFault::AfterInput => ("", " sets a network up, and is below an input"),
             WordFault::NoEnd => ("no end of a run: ", ""),
             WordFault::Twice => ("", " is given twice"),
             WordFault::SameName => ("two runs have the name ", ""),
-        }
-    }
-}
-
-/// A rule of files that a line breaks, whatever its words are.
-#[derive(Clone, Copy, Drop)]
-pub(crate) enum Rule {
-    RowsAbove,
-    OneRow,
-    LongestText,
-    /// `at` goes on by so many ticks.
-    MostTicks,
-    LongestLine,
-    NetworkAbove,
-    NetworkFirst,
-    LastLine,
-    Headers,
-    Quotas,
-    MostApplications,
-    RunAbove,
-    Name,
-}
-
-impl Rule {
-    /// What a person reads.
-    fn text(self) -> &'static str {
-        match self {
-            Rule::RowsAbove => "a row comes after a line rows, or after another row",
-            Rule::OneRow => "the row's stimulus has a row above",
-            Rule::LongestText => "a text has at most 255 bytes",
-            Rule::MostTicks => "the clock goes on by at most 4294967295 ticks at once",
-            Rule::LongestLine => "a line of a network's script has at most 1024 bytes",
-            Rule::NetworkAbove => "a run with a line mote begins with a line network",
-            Rule::NetworkFirst => "network is the first line of a run, or none",
-            Rule::LastLine => "the script has ended with its last line",
-            Rule::Headers => "header takes 16 or 8",
-            Rule::Quotas => {
-                "mmem has no room for a quota of each application and one of the frames"
-            }
-            Rule::MostApplications => "a run has at most 16 applications",
-            Rule::RunAbove => "a line above the first run",
-            Rule::Name => "a run has no name",
         }
     }
 }
@@ -83,7 +41,10 @@ impl Rule {
 #[derive(Clone, Copy, Drop)]
 pub(crate) enum Fault<'a> {
     Word(WordFault, &'a str),
-    Rule(Rule),
+    /// It breaks a rule of files, or something is wrong with its letters.
+    Rule(&'static str),
+    /// It should be another line, which a typing mistake may have spoilt.
+    Form(&'static str),
     /// A text is no application, no call or no number.
     Call(CallFault<'a>),
     Row(RowFault<'a>),
@@ -91,10 +52,6 @@ pub(crate) enum Fault<'a> {
     ClockIsPast(u64),
     NoMote(u32),
     BadSize { name: &'static str, least: u32 },
-    /// A line sets nothing up: its form.
-    Form(&'static str),
-    /// What is wrong with the letters of the line.
-    Flaw(&'static str),
     OutOfMemory,
 }
 
@@ -104,9 +61,8 @@ impl Fault<'_> {
         match self {
             Fault::Word(fault, _) => !matches!(
                 fault,
-                WordFault::BehindInput | WordFault::Twice | WordFault::SameName
+                WordFault::AfterInput | WordFault::Twice | WordFault::SameName
             ),
-            Fault::Rule(rule) => matches!(rule, Rule::RunAbove),
             _ => matches!(self, Fault::Call(_) | Fault::Row(_) | Fault::Form(_)),
         }
     }
@@ -114,22 +70,22 @@ impl Fault<'_> {
 
 impl fmt::Display for Fault<'_> {
     fn fmt<W: fmt::Write>(&self, f: &mut fmt::Formatter<W>) -> fmt::Result {
-        match self {
+        let text = match self {
             Fault::Word(fault, word) => {
-                let (before, behind) = fault.around();
-                write!(f, "{before}{word}{behind}")
+                let (before, after) = fault.around();
+                return write!(f, "{before}{word}{after}");
             }
-            Fault::Rule(rule) => f.write_str(rule.text()),
-            Fault::Call(fault) => fault.fmt(f),
-            Fault::Row(fault) => fault.fmt(f),
-            Fault::ClockIsPast(clock) => write!(f, "the clock is at {clock} already"),
-            Fault::NoMote(number) => write!(f, "there is no mote {number}"),
+            Fault::Call(fault) => return fault.fmt(f),
+            Fault::Row(fault) => return fault.fmt(f),
+            Fault::ClockIsPast(clock) => return write!(f, "the clock is at {clock} already"),
+            Fault::NoMote(number) => return write!(f, "there is no mote {number}"),
             Fault::BadSize { name, least } => {
-                write!(f, "{name} takes a multiple of 4 from {least} to 65536")
+                return write!(f, "{name} takes a multiple of 4 from {least} to 65536");
             }
-            Fault::Form(text) | Fault::Flaw(text) => f.write_str(text),
-            Fault::OutOfMemory => f.write_str("out of memory"),
-        }
+            Fault::Rule(text) | Fault::Form(text) => text,
+            Fault::OutOfMemory => "out of memory",
+        };
+        f.write_str(text)
     }
 }
 

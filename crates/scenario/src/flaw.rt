@@ -18,12 +18,7 @@ fn has_calls(line: &str) -> bool {
 
 /// Whether no space follows some comma.
 fn lacks_space(line: &str) -> bool {
-    for behind in line.split(',').skip(1) {
-        if !behind.starts_with(' ') {
-            return true;
-        }
-    }
-    false
+    line.matches(',').count() > line.matches(", ").count()
 }
 
 /// What is wrong with the commas of a list of calls.
@@ -41,7 +36,7 @@ fn flaw_of_commas(line: &str) -> Option<&'static str> {
     }
 }
 
-/// What is wrong with bytes that are hard to see.
+/// What is wrong with bytes that are hard to see, or with a quote.
 fn flaw_of_bytes(line: &str) -> Option<&'static str> {
     if line.starts_with('\u{feff}') {
         Some("the file begins with a byte order mark")
@@ -53,14 +48,8 @@ fn flaw_of_bytes(line: &str) -> Option<&'static str> {
         Some("the line begins with a space")
     } else if line.contains('\t') {
         Some("there is a tab in the line")
-    } else {
-        None
-    }
-}
-
-/// A quote is left that could not be replaced by hex: it has no end, has another escape, or is in a wrong place.
-fn flaw_of_quotes(line: &str) -> Option<&'static str> {
-    if line.contains('"') {
+    } else if line.contains('"') {
+        // It has no end, has another escape, or is in a wrong position: otherwise hex has replaced it.
         Some(
             "quotes hold a text with \\n for byte 10, \\\" and \\\\, and stand where hex digits do",
         )
@@ -73,7 +62,6 @@ fn flaw_of_quotes(line: &str) -> Option<&'static str> {
 /// line, hex has replaced all well-formed quotes.
 pub(crate) fn flaw_of(line: &str) -> Option<&'static str> {
     flaw_of_bytes(line)
-        .or(flaw_of_quotes(line))
         .or(flaw_of_commas(line))
         .or(flaw_of_spaces(line))
 }

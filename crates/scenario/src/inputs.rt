@@ -1,6 +1,8 @@
 //! The script of a run, line by line, and the clock that it reaches.
 
-use crate::fault::{Fault, Rule, WordFault};
+use crate::fault::{Fault, WordFault};
+use crate::line::Line;
+use crate::rule;
 use mote_text::by_value::read_input;
 use mote_types::entry::Input;
 use std::alloc::{AllocError, Global};
@@ -27,32 +29,28 @@ impl Inputs {
         }
     }
 
-    /// Appends the line of the script that a line of a file says, a number of times.
+    /// Appends the line of the script that a line of a file says.
     ///
     /// # Errors
     ///
     /// `Unknown` where the line says none.
-    pub(crate) fn read_line<'a>(
-        &mut self,
-        alloc: Global,
-        count: u32,
-        line: &'a str,
-    ) -> Result<(), Fault<'a>> {
-        let (word, rest) = line.split_once(' ').unwrap_or((line, ""));
-        match word {
-            "script" => self.push(count, rest),
-            "tick" | "serial" | "frame" if input_of(line).is_some() => self.push(count, line),
-            "tick" | "serial" | "frame" => Err(Fault::Word(WordFault::NoScriptLine, line)),
-            "text" => self.push(count, serial_line(alloc, rest)?.as_str()),
-            "mote" => Err(Fault::Rule(Rule::NetworkAbove)),
-            _ => Err(Fault::Word(WordFault::Unknown, word)),
+    pub(crate) fn read_line<'a>(&mut self, alloc: Global, line: Line<'a>) -> Result<(), Fault<'a>> {
+        match line.word {
+            "script" => self.push(line.count, line.rest),
+            "tick" | "serial" | "frame" if input_of(line.text).is_some() => {
+                self.push(line.count, line.text)
+            }
+            "tick" | "serial" | "frame" => Err(Fault::Word(WordFault::NoScriptLine, line.text)),
+            "text" => self.push(line.count, serial_line(alloc, line.rest)?.as_str()),
+            "mote" => Err(Fault::Rule(rule::NETWORK_ABOVE)),
+            _ => Err(Fault::Word(WordFault::Unknown, line.word)),
         }
     }
 
     /// Appends a line a number of times.
     pub(crate) fn push<'a>(&mut self, count: u32, line: &str) -> Result<(), Fault<'a>> {
         if self.has_ended {
-            return Err(Fault::Rule(Rule::LastLine));
+            return Err(Fault::Rule(rule::LAST_LINE));
         }
         let ticks = ticks_of(line).saturating_mul(u64::from(count));
         self.clock = self.clock.saturating_add(ticks);
@@ -63,7 +61,7 @@ impl Inputs {
     /// Appends the script's last line, with no line end.
     pub(crate) fn end_with<'a>(&mut self, line: &str) -> Result<(), Fault<'a>> {
         if self.has_ended {
-            return Err(Fault::Rule(Rule::LastLine));
+            return Err(Fault::Rule(rule::LAST_LINE));
         }
         self.has_ended = true;
         self.script.push_str(line)?;
@@ -71,7 +69,7 @@ impl Inputs {
     }
 
     /// Appends the ticks that are left up to this clock, and nothing where it has been reached.
-    pub(crate) fn go_on_to<'a>(&mut self, alloc: Global, word: &'a str) -> Result<(), Fault<'a>> {
+    pub(crate) fn advance_to<'a>(&mut self, alloc: Global, word: &'a str) -> Result<(), Fault<'a>> {
         let clock = clock_in(word).ok_or(Fault::Word(WordFault::NoClock, word))?;
         let Some(left) = clock.checked_sub(self.clock) else {
             return Err(Fault::ClockIsPast(self.clock));
@@ -79,7 +77,7 @@ impl Inputs {
         match u32::try_from(left) {
             Ok(0) => Ok(()),
             Ok(left) => self.push(1, format!(in alloc; "tick {left}")?.as_str()),
-            Err(_) => Err(Fault::Rule(Rule::MostTicks)),
+            Err(_) => Err(Fault::Rule(rule::MOST_TICKS)),
         }
     }
 }
@@ -108,12 +106,10 @@ fn ticks_of(line: &str) -> u64 {
 /// The line of a script by which this text and a line end arrive on the serial line.
 fn serial_line<'a>(alloc: Global, text: &str) -> Result<String, Fault<'a>> {
     if text.len() > LONGEST_TEXT {
-        return Err(Fault::Rule(Rule::LongestText));
+        return Err(Fault::Rule(rule::LONGEST_TEXT));
     }
-    let mut line = String::from_str(alloc, "serial ")?;
-    line.push_str(hex::encode(alloc, text.as_bytes())?.as_str())?;
-    line.push_str("0a")?;
-    Ok(line)
+    let digits = hex::encode(alloc, text.as_bytes())?;
+    Ok(format!(in alloc; "serial {}0a", digits.as_str())?)
 }
 
 /// Appends a line a number of times.

@@ -2,163 +2,131 @@
 //! that it ends; what a run writes is promised by the contracts of `mote_run`'s `run` and `network_setup`'s `run_script`.
 #![tactic(auto)]
 
+mod actor;
 mod alignment;
 mod change;
-mod command_line;
+mod comparison;
 mod fault;
 mod files;
 mod flaw;
+mod forms;
 mod gaps;
 mod inputs;
-mod letters;
+mod line;
 mod network;
-mod network_script;
+mod options;
 mod parts;
 mod program;
 mod reader;
 mod record;
+mod rule;
 mod run;
+mod runs;
 mod scenario;
 mod sizes;
 mod spelled;
-mod status;
 mod writing;
 
-use clap::Error;
-use clap::error::ErrorKind;
-use command_line::{Request, Wish};
+use command_line::{Failure, exit_code, finish, texts_of, words_of};
 use files::ScenarioFile;
-use status::Status;
-use std::alloc::{AllocError, Global};
+use options::{PROGRAM, Wish, parse};
+use std::io;
 use std::process::ExitCode;
 use std::rt::Files;
-use std::{env, io};
-use writing::write_in_place;
 
-/// Reads the files of these paths, and checks whether all are well-formed. Those that aren't are reported on standard
-/// error, and no files are returned then.
+/// Each run came out as its file says, or was written.
+const AS_SAID: u8 = 0;
+/// Some run did not come out as its file says, or failed.
+const DIFFERS: u8 = 1;
+/// A file is malformed or can't be read, and nothing was run.
+const MALFORMED: u8 = 2;
+/// A file can't be written, and the reason was reported.
+const NOT_WRITTEN: u8 = 6;
+
+/// Reads the files of these paths. Returns whether all are well-formed; those that aren't are reported on standard error.
 fn read_files<'a, R: AllocGlobal + Files + Eprint>(
     rt: &R,
     paths: &[&'a str],
-) -> io::Result<Option<Vec<ScenarioFile<'a>>>> {
-    let mut files = Vec::new(rt.alloc());
-    let mut have_form = true;
+    files: &mut Vec<ScenarioFile<'a>>,
+) -> io::Result<bool> {
+    let mut are_well_formed = true;
     for path in paths {
         match ScenarioFile::read(rt, *path)? {
-            Some(file) => {
-                have_form = file.has_form(rt)? && have_form;
-                files.push(file)?;
-            }
-            None => have_form = false,
+            Some(file) => files.push(file)?,
+            None => are_well_formed = false,
         }
     }
-    Ok(if have_form { Some(files) } else { None })
+    Ok(are_well_formed)
 }
 
-/// Does with the files of these paths what is wished.
+/// Does with all files what is wished, and returns the status that the program exits with.
+fn process_files<R: AllocGlobal + Files + Print + Eprint>(
+    rt: &R,
+    files: &[ScenarioFile<'_>],
+    wish: Wish,
+) -> io::Result<u8> {
+    let mut are_as_said = true;
+    for file in files {
+        are_as_said = file.process(rt, wish)? && are_as_said;
+    }
+    Ok(if are_as_said {
+        AS_SAID
+    } else if wish.writes {
+        NOT_WRITTEN
+    } else {
+        DIFFERS
+    })
+}
+
+/// Does with the files of these paths what is wished, and returns the status that the program exits with.
 fn run_files<R: AllocGlobal + Files + Print + Eprint>(
     rt: &R,
     paths: &[&str],
     wish: Wish,
-) -> io::Result<Status> {
-    let Some(files) = read_files(rt, paths)? else {
-        return Ok(Status::NoForm);
-    };
-    if wish.writes {
-        return write_files(rt, files.as_slice());
-    }
-    let mut are_as_told = true;
-    for file in files {
-        if wish.records {
-            file.write_records(rt)?;
-        } else {
-            are_as_told = file.carry_out(rt, wish)? && are_as_told;
-        }
-    }
-    Ok(if are_as_told {
-        Status::AsTold
+) -> io::Result<u8> {
+    let mut files = Vec::new(rt.alloc());
+    if read_files(rt, paths, &mut files)? {
+        process_files(rt, files.as_slice(), wish)
     } else {
-        Status::Differs
-    })
+        Ok(MALFORMED)
+    }
 }
 
-/// Writes the transcripts into all files.
-fn write_files<R: AllocGlobal + Files + Print + Eprint>(
+/// Does what the arguments ask for, of which the first is the program's name.
+fn run_words<R: AllocGlobal + Files + Print + Eprint>(
     rt: &R,
-    files: &[ScenarioFile<'_>],
-) -> io::Result<Status> {
-    let mut are_written = true;
-    for file in files {
-        are_written = write_in_place(rt, file)? && are_written;
-    }
-    Ok(if are_written {
-        Status::AsTold
-    } else {
-        Status::NotWritten
-    })
-}
-
-/// Writes what the parser says of the arguments: the help or the version to standard output, and a mistake to standard error.
-fn tell_parser_text<R: Print + Eprint>(rt: &R, error: Error) -> io::Result<Status> {
-    match error.kind() {
-        ErrorKind::OutOfMemory => Ok(Status::OutOfMemory),
-        ErrorKind::DisplayHelp | ErrorKind::DisplayVersion => {
-            print!(rt; "{error}")?;
-            Ok(Status::AsTold)
-        }
-        _ => {
-            let _ = eprint!(rt; "{error}");
-            Ok(Status::Words)
-        }
+    words: &[&str],
+) -> Result<u8, Failure<'static>> {
+    let matches = parse(rt.alloc(), words)?;
+    // The parser refuses arguments without a file.
+    let paths = matches.get_strs("FILE").unwrap_or(&[]);
+    match run_files(rt, paths, Wish::of(&matches, paths.len())) {
+        Ok(status) => Ok(status),
+        Err(error) if error.kind() == io::ErrorKind::OutOfMemory => Err(Failure::OutOfMemory),
+        Err(_) => Err(Failure::Write),
     }
 }
 
-/// The arguments, the program's name first; nothing where one is no text.
-fn words_of<R: AllocGlobal + env::Env>(rt: &R) -> io::Result<Option<Vec<String>>> {
-    let arguments = match env::args(rt) {
-        Ok(arguments) => arguments,
-        Err(error) if error.kind() == io::ErrorKind::OutOfMemory => return Err(error),
-        Err(_) => return Ok(None),
-    };
-    let mut words = Vec::new(rt.alloc());
-    for word in arguments {
-        words.push(word)?;
-    }
-    Ok(Some(words))
-}
-
-/// The arguments as texts.
-fn texts_of(alloc: Global, words: &[String]) -> Result<Vec<&str>, AllocError> {
-    let mut texts = Vec::new(alloc);
-    for word in words {
-        texts.push(word.as_str())?;
-    }
-    Ok(texts)
-}
-
-/// Executes what the arguments ask for.
-fn work<R: AllocGlobal + env::Env + Files + Print + Eprint>(rt: &R) -> io::Result<Status> {
-    let Some(words) = words_of(rt)? else {
-        return Ok(Status::NotText);
-    };
-    let texts = texts_of(rt.alloc(), words.as_slice())?;
-    match Request::of(rt.alloc(), texts.as_slice()) {
-        Ok(request) => match request.paths() {
-            Some(paths) => run_files(rt, paths, request.wish(paths.len())),
-            None => Ok(Status::Words),
-        },
-        Err(error) => tell_parser_text(rt, error),
+/// What the program does with its arguments. Returns the status that it exits with.
+///
+/// # Errors
+///
+/// `OutOfMemory` where memory was refused for the arguments.
+fn work<R: AllocGlobal + Files + Print + Eprint>(
+    rt: &R,
+    words: &[String],
+) -> Result<u8, Failure<'static>> {
+    let texts = texts_of(rt.alloc(), words)?;
+    match run_words(rt, texts.as_slice()) {
+        Ok(status) => Ok(status),
+        Err(failure) => Ok(finish(rt, PROGRAM, Err(failure))),
     }
 }
 
 fn main(rt: HostRuntime) -> ExitCode {
-    let status = match work(&rt) {
-        Ok(status) => status,
-        Err(error) if error.kind() == io::ErrorKind::OutOfMemory => Status::OutOfMemory,
-        Err(_) => Status::Write,
+    let outcome = match words_of(&rt) {
+        Ok(words) => work(&rt, words.as_slice()),
+        Err(failure) => Err(failure),
     };
-    if let Some(reason) = status.reason() {
-        let _ = eprintln!(rt; "scenario: {reason}");
-    }
-    ExitCode::from(status.number())
+    exit_code(&rt, PROGRAM, outcome)
 }

@@ -1,12 +1,14 @@
 //! The lines of a run of a network.
 
-use crate::fault::{Fault, Rule, WordFault};
-use crate::letters::{begins_with_digit, begins_with_letter};
-use call_lists::Application;
+use crate::fault::{Fault, WordFault};
+use crate::forms::{FORM_WITH_LOSSES, form_of, says_losses};
+use crate::line::{Line, begins_with_digit};
+use crate::rule;
+use call_lists::{Application, CallFault};
 use mote_text::script::LINE_LIMIT;
 use network_setup::fault::LineFault;
 use network_setup::setup::Setup;
-use network_text::input::{NetworkInput, read_network_input};
+use network_steps::input::{NetworkInput, read_network_input};
 use std::alloc::Global;
 
 /// The network that the lines of a script have set up so far.
@@ -18,59 +20,50 @@ pub(crate) struct NetworkLines {
 }
 
 /// Whether a line begins as those of a network's transcript do. A mote's input has `serial` or `frame` after the number, its entries never.
-pub(crate) fn is_of_transcript(line: &str) -> bool {
-    let (word, rest) = line.split_once(' ').unwrap_or((line, ""));
-    let (second, _) = rest.split_once(' ').unwrap_or((rest, ""));
+pub(crate) fn is_of_transcript(line: Line<'_>) -> bool {
+    let (second, _) = line.rest.split_once(' ').unwrap_or((line.rest, ""));
     matches!(
-        word,
+        line.word,
         "=" | "lost" | "full" | "missed" | "halt" | "bad" | "too"
-    ) || begins_with_digit(line) && !matches!(second, "serial" | "frame")
+    ) || begins_with_digit(line.text) && !matches!(second, "serial" | "frame")
 }
 
-/// What a line that begins with this word sets up.
-fn form_of(word: &str) -> Option<&'static str> {
-    match word {
-        "mote" => Some(
-            "mote N WORD.. sets up the next motes, N or N..M, as mote does with these words",
-        ),
-        "link" => Some("link A B delay D is for two motes that there are, and D is at least 1"),
-        "line" | "mesh" => Some(
-            "line and mesh N..M delay D are for motes that there are, and D is at least 1",
-        ),
-        "ring" => Some(
-            "ring N..M delay D is for three motes or more that there are, and D is at least 1",
-        ),
-        "grid" => Some(
-            "grid N..M width W delay D is for motes that there are, and W and D are at least 1",
-        ),
-        "room" | "rounds" => Some("room and rounds take a number up to 4294967295"),
-        _ => None,
-    }
-}
-
-/// What a malformed line should be: another text where it has links with a rule for losses.
-fn form_with_rule(form: &'static str, word: &str, line: &str) -> &'static str {
-    let has_links = matches!(word, "link" | "line" | "mesh" | "ring" | "grid");
-    if has_links && (line.contains(" every ") || line.contains(" lot ")) {
-        "links are between motes that there are, with a delay of at least 1; every N takes at least 1, lot C seed S at most 65536 for C"
+/// What a malformed line should be: another text where it says which frames are lost.
+fn form_with_losses(form: &'static str, line: Line<'_>) -> &'static str {
+    let has_links = matches!(line.word, "link" | "line" | "mesh" | "ring" | "grid");
+    if has_links && says_losses(line.text) {
+        FORM_WITH_LOSSES
     } else {
         form
     }
 }
 
+/// Whether a text begins with a letter of ASCII.
+fn begins_with_letter(text: &str) -> bool {
+    matches!(text.as_bytes().first(), Some(b'a'..=b'z' | b'A'..=b'Z'))
+}
+
 /// What is wrong with the words of a mote, if that is one of its applications.
-fn fault_of_mote(text: &str) -> Option<Fault<'_>> {
+fn fault_of_mote(text: &str) -> Option<CallFault<'_>> {
     let (words, calls) = text.split_once(" calls ").unwrap_or((text, ""));
     for word in words.split(' ') {
         if begins_with_letter(word) {
             if let Err(fault) = Application::named(word) {
-                return Some(Fault::Call(fault));
+                return Some(fault);
             }
         }
     }
-    match Application::listed(calls) {
-        Ok(_) => None,
-        Err(fault) => Some(Fault::Call(fault)),
+    Application::listed(calls).err()
+}
+
+/// What is wrong with a malformed line that sets something up, and should have this form.
+fn fault_of_form<'a>(line: Line<'a>, form: &'static str) -> Fault<'a> {
+    if line.word != "mote" {
+        return Fault::Form(form_with_losses(form, line));
+    }
+    match fault_of_mote(line.rest) {
+        Some(fault) => Fault::Call(fault),
+        None => Fault::Form(form),
     }
 }
 
@@ -82,54 +75,52 @@ impl NetworkLines {
         }
     }
 
-    /// The line of the script that a line of a file says, this number of times. After `script` it may be malformed.
+    /// The line of the script that a line of a file says. After `script` it may be malformed.
     ///
     /// # Errors
     ///
     /// `Unknown` where the line is neither an input nor sets anything up.
-    pub(crate) fn script_line<'a>(
+    pub(crate) fn read_line<'a>(
         &mut self,
         alloc: Global,
-        count: u32,
-        line: &'a str,
+        line: Line<'a>,
     ) -> Result<&'a str, Fault<'a>> {
-        let (word, rest) = line.split_once(' ').unwrap_or((line, ""));
-        if word == "script" {
-            let _ = self.take(alloc, count, rest);
-            return Ok(rest);
+        if line.word == "script" {
+            let _ = self.take(alloc, Line::of(line.number, line.count, line.rest));
+            return Ok(line.rest);
         }
-        self.take(alloc, count, line)?;
-        Ok(line)
+        self.take(alloc, line)?;
+        Ok(line.text)
     }
 
-    fn take<'a>(&mut self, alloc: Global, count: u32, line: &'a str) -> Result<(), Fault<'a>> {
-        let (word, rest) = line.split_once(' ').unwrap_or((line, ""));
-        let Some(form) = form_of(word) else {
-            return self.take_input(word, line);
-        };
-        if self.has_input {
-            return Err(Fault::Word(WordFault::BehindInput, word));
+    fn take<'a>(&mut self, alloc: Global, line: Line<'a>) -> Result<(), Fault<'a>> {
+        match form_of(line.word) {
+            Some(_) if self.has_input => Err(Fault::Word(WordFault::AfterInput, line.word)),
+            Some(_) if line.text.len() > LINE_LIMIT => Err(Fault::Rule(rule::LONGEST_LINE)),
+            Some(form) => self.set_up(alloc, line, form),
+            None => self.take_input(line),
         }
-        if line.len() > LINE_LIMIT {
-            return Err(Fault::Rule(Rule::LongestLine));
-        }
-        for _ in 0..count {
-            match self.setup.take_line(alloc, line) {
+    }
+
+    /// Sets up what a line says, which should have this form.
+    fn set_up<'a>(
+        &mut self,
+        alloc: Global,
+        line: Line<'a>,
+        form: &'static str,
+    ) -> Result<(), Fault<'a>> {
+        for _ in 0..line.count {
+            match self.setup.take_line(alloc, line.text) {
                 Ok(()) => {}
                 Err(LineFault::Memory) => return Err(Fault::OutOfMemory),
-                Err(LineFault::Malformed) if word == "mote" => {
-                    return Err(fault_of_mote(rest).unwrap_or(Fault::Form(form)));
-                }
-                Err(LineFault::Malformed) => return Err(Fault::Form(form_with_rule(
-                    form, word, line,
-                ))),
+                Err(LineFault::Malformed) => return Err(fault_of_form(line, form)),
             }
         }
         Ok(())
     }
 
-    fn take_input<'a>(&mut self, word: &'a str, line: &'a str) -> Result<(), Fault<'a>> {
-        match read_network_input(line.as_bytes()) {
+    fn take_input<'a>(&mut self, line: Line<'a>) -> Result<(), Fault<'a>> {
+        match read_network_input(line.text.as_bytes()) {
             Some(NetworkInput::ForMote(number, _)) if !self.has_mote(number) => {
                 Err(Fault::NoMote(number))
             }
@@ -137,10 +128,10 @@ impl NetworkLines {
                 self.has_input = true;
                 Ok(())
             }
-            None if word == "tick" || begins_with_digit(word) => {
-                Err(Fault::Word(WordFault::NoScriptLine, line))
+            None if line.word == "tick" || begins_with_digit(line.word) => {
+                Err(Fault::Word(WordFault::NoScriptLine, line.text))
             }
-            None => Err(Fault::Word(WordFault::Unknown, word)),
+            None => Err(Fault::Word(WordFault::Unknown, line.word)),
         }
     }
 

@@ -1,8 +1,10 @@
 //! The runs of a file: where the text of each begins.
 
-use crate::fault::{Fault, Rule, WordFault};
+use crate::fault::{Fault, WordFault};
 use crate::reader::Misread;
-use std::alloc::{AllocError, Global};
+use crate::rule;
+use std::alloc::Global;
+use std::fmt;
 
 /// What is before a run's name.
 const HEAD: &str = "== ";
@@ -10,6 +12,8 @@ const HEAD: &str = "== ";
 /// The part of a file with one run.
 #[derive(Clone, Copy, Drop)]
 pub(crate) struct Part<'a> {
+    /// The file's path.
+    pub(crate) path: &'a str,
     /// The run's name, where the file has one.
     pub(crate) name: Option<&'a str>,
     /// The number of the first line below the name.
@@ -17,105 +21,124 @@ pub(crate) struct Part<'a> {
     pub(crate) lines: &'a str,
 }
 
-/// The parts of a file's text.
+impl fmt::Display for Part<'_> {
+    /// The name of the run in messages.
+    fn fmt<W: fmt::Write>(&self, f: &mut fmt::Formatter<W>) -> fmt::Result {
+        match self.name {
+            Some(name) => write!(f, "{}: {name}", self.path),
+            None => f.write_str(self.path),
+        }
+    }
+}
+
+/// The parts of the text of the file of this path.
 ///
 /// # Errors
 ///
 /// A line above the first run that is neither empty nor a comment, and a run with no name, or with one that another has.
-pub(crate) fn parts_of<'a>(alloc: Global, text: &'a str) -> Result<Vec<Part<'a>>, Misread<'a>> {
-    let Some((above, runs)) = parted(text) else {
-        return Ok(whole_part(alloc, text)?);
-    };
-    look_above(above)?;
-    let line = line_ends_in(text).saturating_sub(line_ends_in(runs));
-    let parts = named_parts(alloc, line.saturating_add(1), runs)?;
-    for (index, part) in parts.iter().enumerate() {
-        let above = parts.as_slice().get(..index);
-        look_at_name(above.unwrap_or(&[]), *part)?;
+pub(crate) fn parts_of<'a>(
+    alloc: Global,
+    path: &'a str,
+    text: &'a str,
+) -> Result<Vec<Part<'a>>, Misread<'a>> {
+    let mut parts = Vec::new(alloc);
+    match text_with_heads(text) {
+        Some((above, runs)) => {
+            check_above(above)?;
+            push_parts(&mut parts, path, line_of(text, runs), runs)?;
+        }
+        // A text with no heads is one run.
+        None => parts.push(Part {
+            path,
+            name: None,
+            first_line: 1,
+            lines: text,
+        })?,
     }
     Ok(parts)
 }
 
-/// A text with no heads is one run.
-fn whole_part<'a>(alloc: Global, text: &'a str) -> Result<Vec<Part<'a>>, AllocError> {
-    let mut parts = Vec::new(alloc);
-    parts.push(Part {
-        name: None,
-        first_line: 1,
-        lines: text,
-    })?;
-    Ok(parts)
-}
-
-/// The parts of a text that begins after the first head, which is in the line of this number.
-fn named_parts<'a>(alloc: Global, line: usize, text: &'a str) -> Result<Vec<Part<'a>>, AllocError> {
-    let mut parts = Vec::new(alloc);
-    let mut line = line;
-    for part in text.split("\n== ") {
-        let (name, lines) = part.split_once('\n').unwrap_or((part, ""));
-        let first_line = line.saturating_add(1);
-        parts.push(Part {
-            name: Some(name),
-            first_line,
-            lines,
-        })?;
-        line = first_line.saturating_add(line_ends_in(part));
-    }
-    Ok(parts)
-}
-
-/// What is above the first head, and what after it, where the text has one.
-fn parted(text: &str) -> Option<(&str, &str)> {
+/// What is above the first head, and what is after it, where the text has one.
+fn text_with_heads(text: &str) -> Option<(&str, &str)> {
     match text.strip_prefix(HEAD) {
         Some(runs) => Some(("", runs)),
         None => text.split_once("\n== "),
     }
 }
 
+/// The number of the line in which the rest of a text begins.
+fn line_of(text: &str, rest: &str) -> usize {
+    let lines = line_ends_in(text.as_bytes()).saturating_sub(line_ends_in(rest.as_bytes()));
+    lines.saturating_add(1)
+}
+
 /// The number of line ends in a text.
-fn line_ends_in(text: &str) -> usize {
+pub(crate) fn line_ends_in(text: &[u8]) -> usize {
     let mut count = 0usize;
-    for byte in text.bytes() {
-        count = count.saturating_add(usize::from(byte == b'\n'));
+    for byte in text {
+        count = count.saturating_add(usize::from(*byte == b'\n'));
     }
     count
 }
 
 /// Above the first run a file has only comments and empty lines.
-fn look_above(text: &str) -> Result<(), Misread<'_>> {
-    for (index, line) in text.split('\n').enumerate() {
+fn check_above(text: &str) -> Result<(), Misread<'_>> {
+    let mut number = 0usize;
+    for line in text.split('\n') {
+        number = number.saturating_add(1);
         if !line.is_empty() && !line.starts_with('#') {
+            let fault = Fault::Form(rule::RUN_ABOVE);
             return Err(Misread {
-                line: index.saturating_add(1),
-                fault: Fault::Rule(Rule::RunAbove),
+                line: number,
+                fault,
             });
         }
     }
     Ok(())
 }
 
+/// Appends the parts of a text that begins after the first head, which is in the line of this number.
+fn push_parts<'a>(
+    parts: &mut Vec<Part<'a>>,
+    path: &'a str,
+    line: usize,
+    text: &'a str,
+) -> Result<(), Misread<'a>> {
+    let mut line = line;
+    for part in text.split("\n== ") {
+        let (name, lines) = part.split_once('\n').unwrap_or((part, ""));
+        check_name(parts.as_slice(), line, name)?;
+        let first_line = line.saturating_add(1);
+        parts.push(Part {
+            path,
+            name: Some(name),
+            first_line,
+            lines,
+        })?;
+        line = first_line.saturating_add(line_ends_in(part.as_bytes()));
+    }
+    Ok(())
+}
+
 /// Whether one of these parts has the name.
-fn has_name(parts: &[Part<'_>], name: Option<&str>) -> bool {
+fn has_name(parts: &[Part<'_>], name: &str) -> bool {
     for part in parts {
-        if part.name == name {
+        if part.name == Some(name) {
             return true;
         }
     }
     false
 }
 
-/// A run has a name that none of those above has.
-fn look_at_name<'a>(above: &[Part<'a>], part: Part<'a>) -> Result<(), Misread<'a>> {
-    let name = part.name.unwrap_or("");
-    let fault = if name.trim().is_empty() {
-        Fault::Rule(Rule::Name)
-    } else if has_name(above, part.name) {
-        Fault::Word(WordFault::SameName, name)
+/// The run whose head is in this line has a name that none of those above has.
+fn check_name<'a>(above: &[Part<'a>], line: usize, name: &'a str) -> Result<(), Misread<'a>> {
+    if name.trim().is_empty() {
+        let fault = Fault::Rule(rule::NAME);
+        Err(Misread { line, fault })
+    } else if has_name(above, name) {
+        let fault = Fault::Word(WordFault::SameName, name);
+        Err(Misread { line, fault })
     } else {
-        return Ok(());
-    };
-    Err(Misread {
-        line: part.first_line.saturating_sub(1),
-        fault,
-    })
+        Ok(())
+    }
 }

@@ -1,6 +1,8 @@
 //! The applications of a run.
 
-use crate::fault::{Fault, Rule, WordFault};
+use crate::fault::{Fault, WordFault};
+use crate::line::Line;
+use crate::rule;
 use call_lists::{Application, Row, Trigger, row_of};
 use std::alloc::Global;
 
@@ -11,6 +13,19 @@ pub(crate) enum Acts {
     ByName(Application),
     /// As its rows say.
     ByRows(Vec<Row>),
+}
+
+impl Acts {
+    /// What the application of a line does that begins with `app`, `calls` or `rows`.
+    fn of<'a>(alloc: Global, line: Line<'a>) -> Result<Self, Fault<'a>> {
+        match line.word {
+            "app" => Ok(Acts::ByName(Application::named(line.rest)?)),
+            "calls" => Ok(Acts::ByName(Application::listed(line.rest)?)),
+            "rows" if line.rest.is_empty() => Ok(Acts::ByRows(Vec::new(alloc))),
+            "rows" => Err(Fault::Word(WordFault::TakesNoWord, line.word)),
+            _ => Err(Fault::Word(WordFault::Unknown, line.word)),
+        }
+    }
 }
 
 /// An application of a run.
@@ -35,21 +50,13 @@ fn has_row(rows: &[Row], trigger: Trigger) -> bool {
 
 impl<'a> Program<'a> {
     /// The application of a line that begins with `app`, `calls` or `rows`.
-    pub(crate) fn of(alloc: Global, number: usize, line: &'a str) -> Result<Self, Fault<'a>> {
-        let (word, rest) = line.split_once(' ').unwrap_or((line, ""));
-        let acts = match word {
-            "app" => Acts::ByName(Application::named(rest)?),
-            "calls" => Acts::ByName(Application::listed(rest)?),
-            "rows" if rest.is_empty() => Acts::ByRows(Vec::new(alloc)),
-            "rows" => return Err(Fault::Word(WordFault::TakesNoWord, word)),
-            _ => return Err(Fault::Word(WordFault::Unknown, word)),
-        };
+    pub(crate) fn of(alloc: Global, line: Line<'a>) -> Result<Self, Fault<'a>> {
         let mut text = Vec::new(alloc);
-        text.push(line)?;
+        text.push(line.text)?;
         Ok(Program {
-            line: number,
+            line: line.number,
             text,
-            acts,
+            acts: Acts::of(alloc, line)?,
         })
     }
 
@@ -57,20 +64,20 @@ impl<'a> Program<'a> {
     ///
     /// # Errors
     ///
-    /// `RowsAbove` where the application has none, `OneRow` where one has the same stimulus.
-    pub(crate) fn take_row(
+    /// Where the application has no rows, where the row is malformed, and where one has the same stimulus.
+    pub(crate) fn read_row(
         &mut self,
         alloc: Global,
         line: &'a str,
         text: &'a str,
     ) -> Result<(), Fault<'a>> {
         let Acts::ByRows(rows) = &mut self.acts else {
-            return Err(Fault::Rule(Rule::RowsAbove));
+            return Err(Fault::Rule(rule::ROWS_ABOVE));
         };
         let row = row_of(alloc, text)?;
         let trigger = row.trigger();
         if has_row(rows.as_slice(), trigger) {
-            return Err(Fault::Rule(Rule::OneRow));
+            return Err(Fault::Rule(rule::ONE_ROW));
         }
         rows.push(row)?;
         self.text.push(line)?;

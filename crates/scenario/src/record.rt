@@ -1,114 +1,144 @@
 //! What a file says of a run, as JSON, so that other programs needn't parse the format.
 
+use crate::parts::Part;
+use crate::reader::reread_scenario;
 use crate::scenario::Scenario;
-use serde_json::{Map, Value};
-use std::alloc::{AllocError, Global};
+use std::{fmt, io};
 
-/// Texts as a list.
-fn list_of(alloc: Global, texts: &[&str]) -> Result<Value, AllocError> {
-    let mut list = Vec::new(alloc);
-    for text in texts {
-        list.push(Value::String(String::from_str(alloc, text)?))?;
-    }
-    Ok(Value::Array(list))
+/// A text in JSON; null where there is none.
+#[derive(Clone, Copy, Drop)]
+struct Text<'a> {
+    text: Option<&'a str>,
 }
 
-/// A text, where there is one.
-fn text_of(alloc: Global, text: Option<&str>) -> Result<Value, AllocError> {
-    match text {
-        Some(text) => Ok(Value::String(String::from_str(alloc, text)?)),
-        None => Ok(Value::Null),
+impl fmt::Display for Text<'_> {
+    fn fmt<W: fmt::Write>(&self, f: &mut fmt::Formatter<W>) -> fmt::Result {
+        let Some(text) = self.text else {
+            return f.write_str("null");
+        };
+        f.write_char('"')?;
+        for c in text.chars() {
+            write_char(f, c)?;
+        }
+        f.write_char('"')
     }
 }
 
-/// The arguments of `mote` and `mote-picture` for the sizes of a run, and `--quiet`; for a network those of `network`.
-fn words_of(alloc: Global, scenario: &Scenario<'_>) -> Result<Value, AllocError> {
-    let mut words = Vec::new(alloc);
-    let sizes = scenario.sizes();
-    for (name, size) in [
-        ("--mmem", Some(sizes.mmem)),
-        ("--heap", Some(sizes.heap)),
-        ("--quota", sizes.quota),
-        ("--header", Some(sizes.header)),
-    ] {
-        match size {
-            Some(size) if !scenario.is_network => {
-                words.push(Value::String(String::from_str(alloc, name)?))?;
-                words.push(Value::String(format!(in alloc; "{size}")?))?;
+/// Writes a character of a text in JSON.
+fn write_char<W: fmt::Write>(f: &mut fmt::Formatter<W>, c: char) -> fmt::Result {
+    let text = match c {
+        '"' => "\\\"",
+        '\\' => "\\\\",
+        '\n' => "\\n",
+        '\r' => "\\r",
+        '\t' => "\\t",
+        '\u{8}' => "\\b",
+        '\u{c}' => "\\f",
+        '\0'..='\u{1f}' => return write!(f, "\\u{:04x}", u32::from(c)),
+        _ => return f.write_char(c),
+    };
+    f.write_str(text)
+}
+
+/// What a file says of a run.
+#[derive(Drop)]
+struct Record<'s, 'a> {
+    part: Part<'a>,
+    scenario: &'s Scenario<'a>,
+}
+
+impl fmt::Display for Record<'_, '_> {
+    /// An object of JSON.
+    fn fmt<W: fmt::Write>(&self, f: &mut fmt::Formatter<W>) -> fmt::Result {
+        let scenario = self.scenario;
+        f.write_str("{\"applications\":[")?;
+        self.write_applications(f)?;
+        let ends = Text {
+            text: scenario.end(),
+        };
+        let file = Text {
+            text: Some(self.part.path),
+        };
+        let name = Text {
+            text: self.part.name,
+        };
+        let network = scenario.is_network();
+        let script = Text {
+            text: Some(scenario.inputs.script.as_str()),
+        };
+        let transcript = Text {
+            text: scenario.transcript_shown(),
+        };
+        write!(
+            f,
+            "],\"ends\":{ends},\"file\":{file},\"name\":{name},\"network\":{network}"
+        )?;
+        write!(
+            f,
+            ",\"script\":{script},\"transcript\":{transcript},\"words\":["
+        )?;
+        self.write_words(f)?;
+        f.write_str("]}")
+    }
+}
+
+impl Record<'_, '_> {
+    /// Writes the applications of the run, each as a list of its lines.
+    fn write_applications<W: fmt::Write>(&self, f: &mut fmt::Formatter<W>) -> fmt::Result {
+        let mut before = "";
+        for program in &self.scenario.programs {
+            f.write_str(before)?;
+            write_list(f, program.text.as_slice())?;
+            before = ",";
+        }
+        Ok(())
+    }
+
+    /// Writes the arguments of `mote` and `mote-picture` for the sizes of the run, and `--quiet`; for a network those of `network`.
+    fn write_words<W: fmt::Write>(&self, f: &mut fmt::Formatter<W>) -> fmt::Result {
+        let sizes = self.scenario.sizes();
+        if !self.scenario.is_network() {
+            write!(
+                f,
+                "\"--mmem\",\"{}\",\"--heap\",\"{}\",",
+                sizes.mmem, sizes.heap
+            )?;
+            if let Some(quota) = sizes.quota {
+                write!(f, "\"--quota\",\"{quota}\",")?;
             }
-            _ => {}
+            write!(f, "\"--header\",\"{}\"", sizes.header)?;
+        }
+        match (self.scenario.quiet, self.scenario.is_network()) {
+            (true, true) => f.write_str("\"--quiet\""),
+            (true, false) => f.write_str(",\"--quiet\""),
+            (false, _) => Ok(()),
         }
     }
-    if scenario.quiet {
-        words.push(Value::String(String::from_str(alloc, "--quiet")?))?;
+}
+
+/// Writes texts as a list.
+fn write_list<W: fmt::Write>(f: &mut fmt::Formatter<W>, texts: &[&str]) -> fmt::Result {
+    let mut before = "[";
+    for text in texts {
+        write!(f, "{before}{}", Text { text: Some(*text) })?;
+        before = ",";
     }
-    Ok(Value::Array(words))
+    f.write_str("]")
 }
 
-/// The applications of a run, each as its lines.
-fn applications_of(alloc: Global, scenario: &Scenario<'_>) -> Result<Value, AllocError> {
-    let mut applications = Vec::new(alloc);
-    for program in scenario.programs.iter() {
-        applications.push(list_of(alloc, program.text.as_slice())?)?;
+/// Writes what the file says of its runs, as JSON, a line for each. Returns true.
+pub(crate) fn write_records<R: AllocGlobal + Print>(
+    rt: &R,
+    parts: &[Part<'_>],
+) -> io::Result<bool> {
+    for part in parts {
+        let scenario = reread_scenario(rt.alloc(), *part)?;
+        let record = Record {
+            part: *part,
+            scenario: &scenario,
+        };
+        let json = record.to_string(rt.alloc())?;
+        println!(rt; "{}", json.as_str())?;
     }
-    Ok(Value::Array(applications))
-}
-
-/// The transcript that a file has of a run, if it has one.
-fn transcript_of<'s>(scenario: &'s Scenario<'_>) -> Option<&'s str> {
-    if scenario.transcript.is_empty() {
-        None
-    } else {
-        Some(scenario.transcript.as_str())
-    }
-}
-
-/// Adds a member to an object.
-fn put(
-    alloc: Global,
-    members: &mut Map<String, Value>,
-    name: &str,
-    value: Value,
-) -> Result<(), AllocError> {
-    let _ = members.insert(String::from_str(alloc, name)?, value)?;
-    Ok(())
-}
-
-/// Adds what a file says of a run.
-fn put_all(
-    alloc: Global,
-    members: &mut Map<String, Value>,
-    path: &str,
-    name: Option<&str>,
-    scenario: &Scenario<'_>,
-) -> Result<(), AllocError> {
-    for (member, text) in [
-        ("file", Some(path)),
-        ("name", name),
-        ("script", Some(scenario.inputs.script.as_str())),
-        ("transcript", transcript_of(scenario)),
-        ("ends", scenario.end()),
-    ] {
-        put(alloc, members, member, text_of(alloc, text)?)?;
-    }
-    put(alloc, members, "network", Value::Bool(scenario.is_network))?;
-    put(alloc, members, "words", words_of(alloc, scenario)?)?;
-    put(
-        alloc,
-        members,
-        "applications",
-        applications_of(alloc, scenario)?,
-    )
-}
-
-/// A run as a line of JSON.
-pub(crate) fn record_of(
-    alloc: Global,
-    path: &str,
-    name: Option<&str>,
-    scenario: &Scenario<'_>,
-) -> Result<String, AllocError> {
-    let mut members = Map::new(alloc);
-    put_all(alloc, &mut members, path, name, scenario)?;
-    Value::Object(members).to_string(alloc)
+    Ok(true)
 }

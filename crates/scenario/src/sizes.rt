@@ -1,122 +1,108 @@
 //! The sizes that a file states, with the lines that state them.
 
-use crate::fault::{Fault, Rule, WordFault};
+use crate::fault::{Fault, WordFault};
+use crate::line::Line;
+use crate::reader::Misread;
+use crate::rule;
+use call_lists::number_of;
 use mote_kit::mote::DEFAULT_SIZES;
-use mote_types::event::MOST_APPLICATIONS;
 use node_memory::Sizes;
 
 /// The most that a size may be.
 const MOST: u32 = 65_536;
 
-/// A size, and the number of its line.
+/// The least that managed memory, a quota of it and heap memory may be.
+const LEAST_MMEM: u32 = 4;
+
+const LEAST_HEAP: u32 = 20;
+
+/// The sizes of a mote, and the number of the line that states each: 0 where none does.
 #[derive(Clone, Copy, Drop)]
-pub(crate) struct Given {
-    pub(crate) size: u32,
-    pub(crate) line: usize,
+pub(crate) struct StatedSizes {
+    pub(crate) sizes: Sizes,
+    mmem_line: usize,
+    heap_line: usize,
+    quota_line: usize,
+    header_line: usize,
 }
 
-/// The sizes that a file states.
-#[derive(Clone, Copy, Drop)]
-pub(crate) struct GivenSizes {
-    mmem: Option<Given>,
-    heap: Option<Given>,
-    quota: Option<Given>,
-    header: Option<Given>,
+/// Whether a size is a multiple of 4 within its bounds.
+fn is_size(size: u32, least: u32) -> bool {
+    size % 4 == 0 && least <= size && size <= MOST
 }
 
-/// The default size, where the file states none.
-fn size_or(given: Option<Given>, size: u32) -> u32 {
-    match given {
-        Some(given) => given.size,
-        None => size,
-    }
-}
-
-/// That a size is a multiple of 4 within its bounds.
-fn check_size<'a>(
-    name: &'static str,
-    given: Option<Given>,
-    least: u32,
-) -> Option<(usize, Fault<'a>)> {
-    let given = given?;
-    if given.size % 4 == 0 && least <= given.size && given.size <= MOST {
-        None
-    } else {
-        Some((given.line, Fault::BadSize { name, least }))
-    }
-}
-
-impl GivenSizes {
-    pub(crate) fn none() -> Self {
-        GivenSizes {
-            mmem: None,
-            heap: None,
-            quota: None,
-            header: None,
+impl StatedSizes {
+    /// The default sizes, of which none is stated.
+    pub(crate) fn new() -> Self {
+        StatedSizes {
+            sizes: DEFAULT_SIZES,
+            mmem_line: 0,
+            heap_line: 0,
+            quota_line: 0,
+            header_line: 0,
         }
     }
 
-    /// Stores the size of this name.
+    /// Stores the size that a line states.
     ///
     /// # Errors
     ///
     /// `Twice` where it was stated before.
-    pub(crate) fn take<'a>(&mut self, name: &'a str, given: Given) -> Result<(), Fault<'a>> {
-        let place = match name {
-            "mmem" => &mut self.mmem,
-            "heap" => &mut self.heap,
-            "quota" => &mut self.quota,
-            _ => &mut self.header,
+    pub(crate) fn read<'a>(&mut self, line: Line<'a>) -> Result<(), Fault<'a>> {
+        let size = number_of(line.rest, 0, u32::MAX)?;
+        let stated = match line.word {
+            "mmem" => {
+                self.sizes.mmem = size;
+                &mut self.mmem_line
+            }
+            "heap" => {
+                self.sizes.heap = size;
+                &mut self.heap_line
+            }
+            "quota" => {
+                self.sizes.quota = Some(size);
+                &mut self.quota_line
+            }
+            _ => {
+                self.sizes.header = size;
+                &mut self.header_line
+            }
         };
-        if place.is_some() {
-            return Err(Fault::Word(WordFault::Twice, name));
+        if *stated > 0 {
+            return Err(Fault::Word(WordFault::Twice, line.word));
         }
-        *place = Some(given);
+        *stated = line.number;
         Ok(())
     }
 
-    /// The sizes of the mote.
-    pub(crate) fn sizes(&self) -> Sizes {
-        let mut sizes = DEFAULT_SIZES;
-        sizes.mmem = size_or(self.mmem, sizes.mmem);
-        sizes.heap = size_or(self.heap, sizes.heap);
-        sizes.header = size_or(self.header, sizes.header);
-        if let Some(quota) = self.quota {
-            sizes.quota = Some(quota.size);
-        }
-        sizes
-    }
-
-    /// The line of a size with which no mote with that number of applications boots, and why. Nothing where it boots.
-    pub(crate) fn fault<'a>(&self, applications: usize) -> Option<(usize, Fault<'a>)> {
-        check_size("mmem", self.mmem, 4)
-            .or(check_size("heap", self.heap, 20))
-            .or(check_size("quota", self.quota, 4))
-            .or(self.header_fault())
-            .or(self.quota_fault(applications))
-    }
-
-    fn header_fault<'a>(&self) -> Option<(usize, Fault<'a>)> {
-        let given = self.header?;
-        match given.size {
-            16 | 8 => None,
-            _ => Some((given.line, Fault::Rule(Rule::Headers))),
-        }
-    }
-
-    /// That managed memory has a quota for each application and one for the frames.
-    fn quota_fault<'a>(&self, applications: usize) -> Option<(usize, Fault<'a>)> {
-        let given = self.quota?;
-        let quotas = (applications as u64).saturating_add(1);
-        if quotas.saturating_mul(u64::from(given.size)) <= u64::from(self.sizes().mmem) {
-            None
+    /// The line of a size with which no mote with that number of applications boots. Nothing where it boots.
+    pub(crate) fn misread<'a>(&self, applications: usize) -> Option<Misread<'a>> {
+        let sizes = self.sizes;
+        let quota = sizes.quota.unwrap_or(LEAST_MMEM);
+        let (line, fault) = if !is_size(sizes.mmem, LEAST_MMEM) {
+            (self.mmem_line, bad_size("mmem", LEAST_MMEM))
+        } else if !is_size(sizes.heap, LEAST_HEAP) {
+            (self.heap_line, bad_size("heap", LEAST_HEAP))
+        } else if !is_size(quota, LEAST_MMEM) {
+            (self.quota_line, bad_size("quota", LEAST_MMEM))
+        } else if !matches!(sizes.header, 16 | 8) {
+            (self.header_line, Fault::Rule(rule::HEADERS))
+        } else if !self.has_room_for_quotas(applications) {
+            (self.quota_line, Fault::Rule(rule::QUOTAS))
         } else {
-            Some((given.line, Fault::Rule(Rule::Quotas)))
-        }
+            return None;
+        };
+        Some(Misread { line, fault })
+    }
+
+    /// Whether managed memory has a quota for each application and one for the frames.
+    fn has_room_for_quotas(&self, applications: usize) -> bool {
+        let quotas = (applications as u64).saturating_add(1);
+        let quota = u64::from(self.sizes.quota.unwrap_or(0));
+        quotas.saturating_mul(quota) <= u64::from(self.sizes.mmem)
     }
 }
 
-/// Whether a mote may have that number of applications.
-pub(crate) fn are_few(applications: usize) -> bool {
-    applications <= usize::from(MOST_APPLICATIONS)
+fn bad_size<'a>(name: &'static str, least: u32) -> Fault<'a> {
+    Fault::BadSize { name, least }
 }

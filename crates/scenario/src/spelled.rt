@@ -1,6 +1,6 @@
 //! What a person may write instead of numbers and bytes: names of events, and texts in quotes.
 
-use crate::letters::begins_with_digit;
+use crate::line::begins_with_digit;
 use mote_types::event;
 use std::alloc::{AllocError, Global};
 
@@ -33,105 +33,141 @@ fn may_have(line: &str) -> bool {
     ) || begins_with_digit(line)
 }
 
-/// The count of a line that is repeated, where it is, and that line.
-fn repeated(line: &str) -> (Option<&str>, &str) {
+/// A line without `times` and the number after it.
+fn once(line: &str) -> &str {
     let Some(rest) = line.strip_prefix("times ") else {
-        return (None, line);
+        return line;
     };
     match rest.split_once(' ') {
-        Some((count, repeated)) => (Some(count), repeated),
-        None => (None, line),
+        Some((_, repeated)) => repeated,
+        None => line,
     }
+}
+
+/// A text in which numbers and hex replace names and quotes, and room for one of its lines.
+#[derive(Drop)]
+struct PlainText {
+    text: String,
+    /// The line with hex instead of quotes.
+    line: String,
+    /// What is within the last quotes.
+    quoted: String,
+}
+
+/// Where a character is.
+#[derive(Clone, Copy, Drop)]
+enum Quoting {
+    Outside,
+    Within,
+    /// After a backslash within quotes.
+    Escaped,
 }
 
 /// A text of a file in which numbers and hex have replaced all names and quotes, line by line. A line with malformed quotes
 /// stays as it is.
 pub(crate) fn plain_text(alloc: Global, text: &str) -> Result<String, AllocError> {
-    let mut plain = String::new(alloc);
-    for line in text.split_inclusive('\n') {
-        let (count, line) = repeated(line);
-        if let Some(count) = count {
-            plain.push_str("times ")?;
-            plain.push_str(count)?;
-            plain.push(' ')?;
-        }
-        push_plain(alloc, &mut plain, line)?;
-    }
-    Ok(plain)
-}
-
-/// Appends a line so.
-fn push_plain(alloc: Global, plain: &mut String, line: &str) -> Result<(), AllocError> {
-    let unquoted = if may_have(line) {
-        unquoted(alloc, line)?
-    } else {
-        None
+    let mut plain = PlainText {
+        text: String::new(alloc),
+        line: String::new(alloc),
+        quoted: String::new(alloc),
     };
-    match unquoted {
-        Some(unquoted) => push_numbered(alloc, plain, unquoted.as_str()),
-        None => plain.push_str(line),
-    }
+    plain.push_lines(alloc, text)?;
+    Ok(plain.text)
 }
 
-/// A line with hex instead of each text in quotes. None where a quote has no end, or an escape is malformed.
-fn unquoted(alloc: Global, line: &str) -> Result<Option<String>, AllocError> {
-    let mut plain = String::new(alloc);
-    let mut bytes = String::new(alloc);
-    let mut is_within = false;
-    let mut is_escaped = false;
-    for c in line.chars() {
-        match c {
-            '\n' if is_within => return Ok(None),
-            'n' if is_escaped => bytes.push('\n')?,
-            '"' | '\\' if is_escaped => bytes.push(c)?,
-            _ if is_escaped => return Ok(None),
-            '\\' if is_within => {}
-            '"' if is_within => {
-                push_hex(alloc, &mut plain, bytes.as_str())?;
-                bytes.clear();
-                is_within = false;
+impl PlainText {
+    fn push_lines(&mut self, alloc: Global, text: &str) -> Result<(), AllocError> {
+        for line in text.split_inclusive('\n') {
+            let rest = once(line);
+            self.text.push_str(line.strip_suffix(rest).unwrap_or(""))?;
+            if may_have(rest) && self.unquote(alloc, rest)? {
+                push_numbered(alloc, &mut self.text, self.line.as_str())?;
+            } else {
+                self.text.push_str(rest)?;
             }
-            _ if is_within => bytes.push(c)?,
-            '"' => is_within = true,
-            _ => plain.push(c)?,
         }
-        is_escaped = is_within && c == '\\' && !is_escaped;
+        Ok(())
     }
-    Ok(if is_within { None } else { Some(plain) })
+
+    /// Stores a line with hex instead of each text in quotes. Returns whether it could: not where a quote has no end, or an escape is
+    /// malformed.
+    fn unquote(&mut self, alloc: Global, line: &str) -> Result<bool, AllocError> {
+        self.line.clear();
+        self.quoted.clear();
+        let mut at = Quoting::Outside;
+        for c in line.chars() {
+            at = match (at, c) {
+                (Quoting::Within | Quoting::Escaped, '\n') => return Ok(false),
+                (Quoting::Outside, '"') => Quoting::Within,
+                (Quoting::Outside, _) => {
+                    self.line.push(c)?;
+                    Quoting::Outside
+                }
+                (Quoting::Within, '"') => {
+                    self.push_hex(alloc)?;
+                    Quoting::Outside
+                }
+                (Quoting::Within, '\\') => Quoting::Escaped,
+                (Quoting::Escaped, c) if !matches!(c, 'n' | '"' | '\\') => return Ok(false),
+                (at, c) => {
+                    self.quoted.push(unescaped(at, c))?;
+                    Quoting::Within
+                }
+            };
+        }
+        Ok(matches!(at, Quoting::Outside))
+    }
+
+    /// Appends the hex of what is within quotes. For nothing that is a dash, but nothing after the `x` of a line.
+    fn push_hex(&mut self, alloc: Global) -> Result<(), AllocError> {
+        if self.quoted.is_empty() && !self.line.ends_with('x') {
+            return self.line.push('-');
+        }
+        let digits = hex::encode(alloc, self.quoted.as_bytes())?;
+        self.quoted.clear();
+        self.line.push_str(digits.as_str())
+    }
 }
 
-/// Appends the hex of a text. For an empty one that is a dash, but nothing after the `x` of a line.
-fn push_hex(alloc: Global, plain: &mut String, text: &str) -> Result<(), AllocError> {
-    if text.is_empty() && !plain.ends_with('x') {
-        return plain.push('-');
+/// The character that a character within quotes is for.
+fn unescaped(at: Quoting, c: char) -> char {
+    match (at, c) {
+        (Quoting::Escaped, 'n') => '\n',
+        _ => c,
     }
-    plain.push_str(hex::encode(alloc, text.as_bytes())?.as_str())
 }
 
 /// Appends a line, with numbers instead of the names of events.
 fn push_numbered(alloc: Global, plain: &mut String, line: &str) -> Result<(), AllocError> {
     let mut before = ("", "");
-    for (index, word) in line.split(' ').enumerate() {
+    let mut index = 0usize;
+    for word in line.split(' ') {
         if index > 0 {
             plain.push(' ')?;
         }
-        let (name, behind) = match word.strip_suffix(':') {
-            Some(name) => (name, ":"),
-            None => (word, ""),
-        };
-        match event_number(name) {
-            Some(number) if is_code_behind(before, index) => {
-                plain.push_str(format!(in alloc; "{number}{behind}")?.as_str())?;
-            }
-            _ => plain.push_str(word)?,
+        if is_code_after(before, index) {
+            push_code(alloc, plain, word)?;
+        } else {
+            plain.push_str(word)?;
         }
         before = (before.1, word);
+        index = index.saturating_add(1);
     }
     Ok(())
 }
 
+/// Appends the word of an event's code, with the number instead of a name.
+fn push_code(alloc: Global, plain: &mut String, word: &str) -> Result<(), AllocError> {
+    let name = word.strip_suffix(':').unwrap_or(word);
+    let Some(number) = event_number(name) else {
+        return plain.push_str(word);
+    };
+    let after = word.strip_prefix(name).unwrap_or("");
+    plain.push_str(format!(in alloc; "{number}{after}")?.as_str())
+}
+
 /// Whether an event's code follows these two words, as the word of this number.
-fn is_code_behind(before: (&str, &str), index: usize) -> bool {
+fn is_code_after(before: (&str, &str), index: usize) -> bool {
     match before {
         ("post" | "post-synch", _) => true,
         (_, "broadcast") => true,

@@ -1,231 +1,204 @@
 //! The text of a file in which each run has its transcript, and replaces the file by it.
 
+use crate::comparison::is_shown;
 use crate::files::ScenarioFile;
-use crate::gaps::fits;
 use crate::parts::Part;
-use crate::reader::read_scenario;
-use crate::run::{Outcome, WHOLE, lines_of, outcome_of};
-use crate::scenario::{Scenario, ToldLine};
+use crate::reader::reread_scenario;
+use crate::run::{Outcome, WHOLE, outcome_of};
+use crate::scenario::{Scenario, ShownLine};
 use std::alloc::{AllocError, Global};
 use std::fs::{File, OpenFile};
 use std::io::Write;
 use std::rt::Files;
 use std::{fs, io};
 
-/// How the lines of a run change in a file.
+/// The lines of a file, of which some change.
 #[derive(Drop)]
-struct Patch {
-    exchange: Exchange,
-    /// The number of the line that says how the run ends, where there is one.
-    end_line: Option<usize>,
-    /// How the run ended.
-    end: String,
+struct NewLines {
+    /// Each line with its line end, the last one may have none, and what comes after it. First what comes above them all.
+    lines: Vec<String>,
 }
 
-/// A file's text that grows by whole lines.
-#[derive(Drop)]
-struct Text {
-    text: String,
-}
-
-impl Text {
-    /// Appends lines, of which the last may lack its end.
-    fn push(&mut self, lines: &str) -> Result<(), AllocError> {
-        if !lines.is_empty() && !self.text.is_empty() && !self.text.ends_with('\n') {
-            self.text.push('\n')?;
-        }
-        self.text.push_str(lines)
-    }
-}
-
-/// The number of lines of a file, from its first on, that match the beginning of the transcript, and the bytes of that.
-fn front_of(told: &[ToldLine], wanted: &str, found: &str) -> (usize, usize) {
-    let mut size = 0usize;
-    for (index, line) in told.iter().enumerate() {
-        let end = size.saturating_add(line.size);
-        let is_same = match (wanted.get(..end), found.get(..end)) {
-            (Some(wanted), Some(found)) => wanted == found,
-            _ => false,
+impl NewLines {
+    /// The lines of a text.
+    fn of(alloc: Global, text: &str) -> Result<Self, AllocError> {
+        let mut new = NewLines {
+            lines: Vec::new(alloc),
         };
-        if !is_same {
-            return (index, size);
+        new.push(alloc, "")?;
+        for line in text.split_inclusive('\n') {
+            new.push(alloc, line)?;
         }
-        size = end;
+        Ok(new)
     }
-    (told.len(), size)
-}
 
-/// The number of lines of a file, up to its last, that match the end of the transcript, and the bytes of that.
-fn back_of(told: &[ToldLine], wanted: &str, found: &str) -> (usize, usize) {
-    let mut size = 0usize;
-    for (index, line) in told.iter().rev().enumerate() {
-        let end = size.saturating_add(line.size);
-        let is_same = match (wanted.len().checked_sub(end), found.len().checked_sub(end)) {
-            (Some(wanted_at), Some(found_at)) => wanted.get(wanted_at..) == found.get(found_at..),
-            _ => false,
+    fn push(&mut self, alloc: Global, line: &str) -> Result<(), AllocError> {
+        self.lines.push(String::from_str(alloc, line)?)?;
+        Ok(())
+    }
+
+    /// All lines as a text.
+    fn text(&self, alloc: Global) -> Result<String, AllocError> {
+        let mut text = String::new(alloc);
+        for line in &self.lines {
+            text.push_str(line.as_str())?;
+        }
+        Ok(text)
+    }
+
+    /// Removes the line of this number.
+    fn remove(&mut self, number: usize) {
+        if number < self.lines.len() {
+            self.lines[number].clear();
+        }
+    }
+
+    /// Appends lines after the line of this number.
+    fn append(&mut self, number: usize, lines: &str) -> Result<(), AllocError> {
+        if number >= self.lines.len() {
+            return Ok(());
+        }
+        let line = &mut self.lines[number];
+        if !lines.is_empty() && !line.is_empty() && !line.ends_with('\n') {
+            line.push('\n')?;
+        }
+        line.push_str(lines)
+    }
+
+    /// Appends the line of a run's end after the line of this number.
+    fn append_end(
+        &mut self,
+        alloc: Global,
+        number: usize,
+        outcome: &Outcome,
+    ) -> Result<(), AllocError> {
+        let end = format!(in alloc; "ends {}\n", outcome.end)?;
+        self.append(number, end.as_str())
+    }
+
+    /// Puts the result of a run into its lines. Returns whether they change.
+    fn put(
+        &mut self,
+        alloc: Global,
+        scenario: &Scenario<'_>,
+        outcome: &Outcome,
+    ) -> Result<bool, AllocError> {
+        let is_shown = is_shown(alloc, scenario, outcome.text())?;
+        if is_shown && scenario.has_result() && outcome.ended_as_said(scenario) {
+            return Ok(false);
+        }
+        if let Some((_, number)) = scenario.end {
+            self.remove(number);
+            self.append_end(alloc, number, outcome)?;
+        }
+        let last = if is_shown {
+            scenario.last_line
+        } else {
+            self.put_transcript(scenario, outcome.text())?
         };
-        if !is_same {
-            return (index, size);
+        if scenario.end.is_none() && outcome.transcript.is_empty() {
+            self.append_end(alloc, last, outcome)?;
         }
-        size = end;
+        Ok(true)
     }
-    (told.len(), size)
+
+    /// Puts a transcript into the lines of a run in place of the lines that don't match it. Those before them and after them stay.
+    /// Returns the number of the line after which it is.
+    fn put_transcript(
+        &mut self,
+        scenario: &Scenario<'_>,
+        found: &str,
+    ) -> Result<usize, AllocError> {
+        let wanted = scenario.transcript.as_str();
+        let shown = scenario.shown.as_slice();
+        let front = common_front(shown, wanted, found);
+        let rest = shown.get(front.lines..).unwrap_or(&[]);
+        let wanted_rest = wanted.get(front.size..).unwrap_or("");
+        let found_rest = found.get(front.size..).unwrap_or("");
+        let back = common_back(rest, wanted_rest, found_rest);
+        let gone = rest
+            .get(..rest.len().saturating_sub(back.lines))
+            .unwrap_or(&[]);
+        let size = found_rest.len().saturating_sub(back.size);
+        let last = line_before(scenario, front.lines, gone);
+        for line in gone {
+            self.remove(line.line);
+        }
+        self.append(last, found_rest.get(..size).unwrap_or(""))?;
+        Ok(last)
+    }
 }
 
-/// Whether the transcript is the expected one.
-fn is_shown(alloc: Global, scenario: &Scenario<'_>, found: &str) -> Result<bool, AllocError> {
-    let wanted = lines_of(alloc, scenario.transcript.as_str())?;
-    let found = lines_of(alloc, found)?;
-    Ok(fits(wanted.as_slice(), found.as_slice()))
+/// Lines of a file that match a part of a transcript.
+#[derive(Clone, Copy, Drop)]
+struct Common {
+    /// The number of lines.
+    lines: usize,
+    /// The number of bytes of the transcript.
+    size: usize,
 }
 
-/// Which lines of a file are replaced by which lines of a transcript.
-#[derive(Drop)]
-struct Exchange {
-    /// The numbers of the lines that go, in their order.
-    gone: Vec<usize>,
-    /// The number of the line after which the new ones are, and those.
-    behind: usize,
-    lines: String,
+/// The lines of a file, from its first on, that match the beginning of the transcript.
+fn common_front(shown: &[ShownLine], wanted: &str, found: &str) -> Common {
+    let mut common = Common { lines: 0, size: 0 };
+    for line in shown {
+        let end = common.size.saturating_add(line.size);
+        if wanted.get(common.size..end) != found.get(common.size..end) {
+            return common;
+        }
+        common.lines = common.lines.saturating_add(1);
+        common.size = end;
+    }
+    common
 }
 
-/// What replaces the lines that don't match this transcript. Those before them and after them stay.
-fn exchange_of(
-    alloc: Global,
-    scenario: &Scenario<'_>,
-    found: &str,
-) -> Result<Exchange, AllocError> {
-    let wanted = scenario.transcript.as_str();
-    let told = scenario.told.as_slice();
-    let (front, front_size) = front_of(told, wanted, found);
-    let rest = told.get(front..).unwrap_or(&[]);
-    let found_rest = found.get(front_size..).unwrap_or("");
-    let (back, back_size) = back_of(rest, wanted.get(front_size..).unwrap_or(""), found_rest);
-    let mut gone = Vec::new(alloc);
-    for line in rest.iter().take(rest.len().saturating_sub(back)) {
-        gone.push(line.line)?;
+/// The lines of a file, up to its last, that match the end of the transcript.
+fn common_back(shown: &[ShownLine], wanted: &str, found: &str) -> Common {
+    let mut common = Common { lines: 0, size: 0 };
+    for line in shown.iter().rev() {
+        let size = common.size.saturating_add(line.size);
+        if from_end(wanted, size, common.size) != from_end(found, size, common.size) {
+            return common;
+        }
+        common.lines = common.lines.saturating_add(1);
+        common.size = size;
     }
-    let size = found_rest.len().saturating_sub(back_size);
-    Ok(Exchange {
-        behind: place_behind(scenario, gone.as_slice(), front),
-        gone,
-        lines: String::from_str(alloc, found_rest.get(..size).unwrap_or(""))?,
-    })
+    common
 }
 
-/// How the text of a run changes, so that it states the result of the run. Nothing where it already does.
-fn patch_of(
-    alloc: Global,
-    scenario: &Scenario<'_>,
-    outcome: &Outcome,
-) -> Result<Option<Patch>, AllocError> {
-    let is_shown = is_shown(alloc, scenario, outcome.text())?;
-    if is_shown && scenario.is_told() && outcome.ended_as_told(scenario) {
-        return Ok(None);
-    }
-    let mut exchange = Exchange {
-        gone: Vec::new(alloc),
-        behind: scenario.last_line,
-        lines: String::new(alloc),
-    };
-    if !is_shown {
-        exchange = exchange_of(alloc, scenario, outcome.text())?;
-    }
-    if outcome.transcript.is_empty() && scenario.end.is_none() {
-        let line = format!(in alloc; "ends {}\n", outcome.end)?;
-        exchange.lines.push_str(line.as_str())?;
-    }
-    Ok(Some(Patch {
-        exchange,
-        end_line: scenario.end.map(|end| end.1),
-        end: String::from_str(alloc, outcome.end.as_str())?,
-    }))
+/// The part of a text that begins so many bytes before its end, and ends so many before it.
+fn from_end(text: &str, begin: usize, end: usize) -> Option<&str> {
+    let begin = text.len().checked_sub(begin)?;
+    text.get(begin..text.len().checked_sub(end)?)
 }
 
-/// The number of the line after which new lines of a transcript are put, where these are removed, and `front` ones before them stay.
-fn place_behind(scenario: &Scenario<'_>, gone: &[usize], front: usize) -> usize {
+/// The number of the line after which new lines of a transcript are put, where these lines are removed, and `front` ones before them
+/// stay.
+fn line_before(scenario: &Scenario<'_>, front: usize, gone: &[ShownLine]) -> usize {
     if let Some(line) = gone.first() {
-        return line.saturating_sub(1);
+        return line.line.saturating_sub(1);
     }
-    match scenario.told.as_slice().get(front.saturating_sub(1)) {
-        Some(told) if front > 0 => told.line,
-        Some(told) => told.line.saturating_sub(1),
+    match scenario.shown.as_slice().get(front.saturating_sub(1)) {
+        Some(line) if front > 0 => line.line,
+        Some(line) => line.line.saturating_sub(1),
         None => scenario.last_line,
     }
 }
 
-/// The changes of all runs of a file whose results it does not state in full, and the number of its runs.
-fn patches_of(alloc: Global, file: &ScenarioFile<'_>) -> Result<(Vec<Patch>, usize), AllocError> {
-    let mut patches = Vec::new(alloc);
-    let parts = match file.parts(alloc) {
-        Ok(parts) => parts,
-        Err(_) => Vec::new(alloc),
-    };
-    let runs = parts.len();
-    for part in parts {
-        if let Some(patch) = part_patch(alloc, part)? {
-            patches.push(patch)?;
-        }
-    }
-    Ok((patches, runs))
-}
-
-/// The change of one run, if it needs one.
-fn part_patch(alloc: Global, part: Part<'_>) -> Result<Option<Patch>, AllocError> {
-    let Ok(mut scenario) = read_scenario(alloc, part) else {
-        return Ok(None);
-    };
+/// Puts the result of the run of a part into the lines of its file. Returns whether they change.
+fn put_part(alloc: Global, new: &mut NewLines, part: Part<'_>) -> Result<bool, AllocError> {
+    let mut scenario = reread_scenario(alloc, part)?;
     let outcome = outcome_of(alloc, &mut scenario, WHOLE)?;
-    patch_of(alloc, &scenario, &outcome)
+    new.put(alloc, &scenario, &outcome)
 }
 
-/// A file's text with these changes.
-fn patched(alloc: Global, text: &str, patches: &[Patch]) -> Result<String, AllocError> {
-    let mut new = Text {
-        text: String::new(alloc),
-    };
-    push_behind(&mut new, patches, 0)?;
-    for (index, line) in text.split_inclusive('\n').enumerate() {
-        let number = index.saturating_add(1);
-        push_line(alloc, &mut new, patches, number, line)?;
-        push_behind(&mut new, patches, number)?;
+/// Puts the results of all runs into the lines of their file. Returns the number of runs whose lines change.
+fn put_parts(alloc: Global, new: &mut NewLines, parts: &[Part<'_>]) -> Result<usize, AllocError> {
+    let mut changed = 0usize;
+    for part in parts {
+        changed = changed.saturating_add(usize::from(put_part(alloc, new, *part)?));
     }
-    Ok(new.text)
-}
-
-/// Appends the new lines after the line of this number.
-fn push_behind(new: &mut Text, patches: &[Patch], number: usize) -> Result<(), AllocError> {
-    for patch in patches {
-        if patch.exchange.behind == number {
-            new.push(patch.exchange.lines.as_str())?;
-        }
-    }
-    Ok(())
-}
-
-/// Appends a line of the old text, unless it is removed.
-fn push_line(
-    alloc: Global,
-    new: &mut Text,
-    patches: &[Patch],
-    number: usize,
-    line: &str,
-) -> Result<(), AllocError> {
-    for patch in patches {
-        if patch
-            .exchange
-            .gone
-            .as_slice()
-            .binary_search(&number)
-            .is_ok()
-        {
-            return Ok(());
-        }
-        if patch.end_line == Some(number) {
-            return new.push(format!(in alloc; "ends {}\n", patch.end)?.as_str());
-        }
-    }
-    new.push(line)
+    Ok(changed)
 }
 
 /// Replaces a file by a text: writes it to a new file beside it, which replaces the file once all of it is on the disk.
@@ -269,45 +242,39 @@ fn reason(kind: io::ErrorKind) -> &'static str {
     }
 }
 
-/// Writes the transcripts of all runs into a file, and reports how many changed. Returns whether the file could be written;
-/// where it couldn't, it is as it was, and the reason is reported on standard error.
-pub(crate) fn write_in_place<R: AllocGlobal + Files + Print + Eprint>(
+/// Writes new lines into the file of this path. Returns whether it could be written; where it couldn't, it is as it was, and the reason is
+/// reported on standard error.
+fn write_lines<R: AllocGlobal + Files + Eprint>(
     rt: &R,
-    file: &ScenarioFile<'_>,
+    path: &str,
+    new: &NewLines,
 ) -> io::Result<bool> {
-    let (patches, runs) = patches_of(rt.alloc(), file)?;
-    let is_written = write_patches(rt, file, patches.as_slice())?;
-    if is_written {
-        println!(rt;
-            "{}: {} of {runs} transcripts put in place",
-            file.path,
-            patches.len()
-        )?;
-    }
-    Ok(is_written)
-}
-
-/// Writes the changes of a file's runs into it, if there are any. Returns whether it could be written, and reports the reason where it
-/// couldn't.
-fn write_patches<R: AllocGlobal + Files + Eprint>(
-    rt: &R,
-    file: &ScenarioFile<'_>,
-    patches: &[Patch],
-) -> io::Result<bool> {
-    if patches.is_empty() {
-        return Ok(true);
-    }
-    let text = patched(rt.alloc(), file.text.as_str(), patches)?;
-    match replace(rt, file.path, text.as_str()) {
+    let text = new.text(rt.alloc())?;
+    match replace(rt, path, text.as_str()) {
         Ok(()) => Ok(true),
         Err(error) if error.kind() == io::ErrorKind::OutOfMemory => Err(error),
         Err(error) => {
-            let _ = eprintln!(rt;
-                "scenario: {}: not written: {}",
-                file.path,
-                reason(error.kind())
-            );
+            let _ = eprintln!(rt; "scenario: {path}: not written: {}", reason(error.kind()));
             Ok(false)
         }
     }
+}
+
+/// Writes the transcripts of all runs into a file, and reports how many changed. Returns whether the file could be written.
+pub(crate) fn write_in_place<R: AllocGlobal + Files + Print + Eprint>(
+    rt: &R,
+    file: &ScenarioFile<'_>,
+    parts: &[Part<'_>],
+) -> io::Result<bool> {
+    let mut new = NewLines::of(rt.alloc(), file.text.as_str())?;
+    let changed = put_parts(rt.alloc(), &mut new, parts)?;
+    if changed > 0 && !write_lines(rt, file.path, &new)? {
+        return Ok(false);
+    }
+    println!(rt;
+        "{}: {changed} of {} transcripts put in place",
+        file.path,
+        parts.len()
+    )?;
+    Ok(true)
 }

@@ -1,5 +1,7 @@
 -- What the application says that beats by an event timer. Its state is whether the reply to its print is awaited.
-use Rattle.std.specs.Prelude.{ℕ, Bool, true, false, List, Option, Some, None, bytes_eq, codes, ◌==◌, if◌then◌else◌}
+use Rattle.std.specs.Prelude.{ℕ, Bool, true, false, List, codes, ◌==◌, if◌then◌else◌}
+use Rattle.mote_types.specs.Applications.{Says}
+use Rattle.mote_types.specs.Code.StateMachines.{fold_says}
 use Rattle.mote_types.specs.declared.call.Call.{Call}
 use Rattle.mote_types.specs.declared.event.Stimulus.{Stimulus}
 use Rattle.mote_types.specs.EventNumbers.{INIT, TIMER}
@@ -26,6 +28,5 @@ beat_next printed (Stimulus.Event event) =
 beat_next printed (Stimulus.Answer reply) = false
 beat_next printed (Stimulus.Callback timer) = printed
 
--- the program's one application, as it is before its first turn
-abbrev pub by_name : List ℕ → Option Beat
-by_name name = if bytes_eq name (codes "beat") then Some (record { printed = false }) else None
+abbrev pub beat_says : Beat → Says
+beat_says beat = fold_says beat_answer beat_next beat.printed

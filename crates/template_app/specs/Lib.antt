@@ -1,1 +1,3 @@
 pub mod Beat
+pub mod Averager
+pub mod Applications

@@ -1,10 +1,9 @@
 //! An application that beats.
 
 ghost use Rattle.std.specs.Prelude.{◌≡◌, false};
-ghost use Rattle.mote_types.specs.Code.StateMachines.{fold_says};
-ghost use Rattle.template_app.specs.Beat.{beat_answer, beat_next, by_name};
+ghost use Rattle.template_app.specs.Beat.{beat_says};
 
-use mote_kit::{FromName, chunk_of};
+use mote_kit::chunk_of;
 use mote_types::app::App;
 use mote_types::call::Call;
 use mote_types::event::{Event, INIT, Stimulus, TIMER};
@@ -27,25 +26,8 @@ impl Beat {
     }
 }
 
-impl Default for Beat {
-    fn default() -> Self {
-        Beat::new()
-    }
-}
-
-impl FromName for Beat {
-    ghost by_name = { by_name };
-
-    fn from_name(name: &str) -> Option<Self> {
-        match name {
-            "beat" => Some(Beat::new()),
-            _ => None,
-        }
-    }
-}
-
 impl App for Beat {
-    ghost says = { λ beat. fold_says beat_answer beat_next beat.printed };
+    ghost says = { beat_says };
 
     fn turn(&mut self, stimulus: &Stimulus) -> Call {
         match stimulus {

@@ -1,12 +1,14 @@
-//! A template to copy: an application of your own, and a program that runs it by its name.
+//! A template to copy: two applications, and a program that runs them by their names.
 #![tactic(auto)]
 
+mod application;
+mod averager;
 mod beat;
 mod runner;
 #[cfg(test)]
 mod tests;
 
-use beat::Beat;
+use application::Application;
 use mote_shell::{Program, after_help, exit_code, words_of, work};
 use runner::Boxing;
 use std::process::ExitCode;
@@ -15,7 +17,8 @@ const PROGRAM: Program = Program {
     name: "template_app",
     version: "0.2.0",
     after_help: after_help!(
-        "  beat     prints 'beat' every 10 ticks",
+        "  beat     prints 'beat' every 10 ticks
+  averager prints the average of the first bytes of the last eight frames",
         "which prints 'beat' at the clock's tick 10:
   printf 'tick 10\\n' | template_app beat"
     ),
@@ -23,7 +26,7 @@ const PROGRAM: Program = Program {
 
 fn main(rt: HostRuntime) -> ExitCode {
     let outcome = match words_of(&rt) {
-        Ok(words) => work::<Beat, Boxing, _>(&rt, PROGRAM, words.as_slice()),
+        Ok(words) => work::<Application, Boxing, _>(&rt, PROGRAM, words.as_slice()),
         Err(failure) => Err(failure),
     };
     exit_code(&rt, PROGRAM, outcome)

@@ -1,6 +1,6 @@
 //! The run of the program's own applications.
 
-use crate::beat::Beat;
+use crate::application::Application;
 use mote_run::End;
 use mote_shell::{Failure, Program, Runner, read_words, run_boxed};
 use mote_types::app::App;
@@ -10,7 +10,7 @@ use std::alloc::Global;
 /// Boxes applications and runs them: here their type is known. The contract is that of `Runner`.
 pub struct Boxing;
 
-impl Runner<Beat> for Boxing {
+impl Runner<Application> for Boxing {
     fn run_words<'a, S: ByteSource, K: ByteSink>(
         alloc: Global,
         program: Program,
@@ -18,7 +18,7 @@ impl Runner<Beat> for Boxing {
         source: &mut S,
         sink: &mut K,
     ) -> Result<End, Failure<'a>> {
-        let named = read_words::<Beat>(alloc, program, words)?;
+        let named = read_words::<Application>(alloc, program, words)?;
         let mut boxes: Vec<Box<dyn App>> = Vec::new(alloc);
         for application in named.applications {
             boxes.push(Box::new(alloc, application)?)?;

@@ -1,5 +1,5 @@
 -- The cells by name are the cells of the table by slot.
-use Rattle.timer_core.proofs.Words.{◌≡◌, ℕ, zero, suc, ◌+◌, ◌-◌, ◌<◌, ◌≤◌, true, false, List, [], ◌∷◌, length, refl, arith, set, get_or, map, replicate, get_or-set_same, Timer, Cell, LinkedCell, IsNamed, all_timers, is_timer, with_cell, cell_under, zero_cell, place_of, are_placed, named_cells, zero_linked}
+use Rattle.timer_core.proofs.Words.{◌≡◌, ℕ, zero, suc, ◌+◌, ◌-◌, ◌<◌, ◌≤◌, true, false, List, [], ◌∷◌, length, refl, arith, set, get_or, map, replicate, get_or-set_same, Timer, Cell, LinkedCell, IsNamed, all_timers, is_timer, with_cell, cell_under, zero_cell, slot_of, are_placed, named_cells, zero_linked}
 
 all_placed : are_placed 0 all_timers ≡ true
 unfolding all_timers
@@ -14,7 +14,7 @@ module _ (n : ℕ) where
     module _ (later : List Timer) where
       -- the first of the placed names
       record IsPlaced : Type 0 where
-        pub place : place_of timer ≡ n
+        pub slot : slot_of timer ≡ n
         pub named : IsNamed timer
         pub rest : are_placed (n + 1) later ≡ true
 
@@ -22,28 +22,28 @@ module _ (n : ℕ) where
       first_placed e = grind arith
 
 module _ (t : Timer) where
-  apart : (u : Timer) → (place_of t ≡ place_of u → ⊥) → is_timer t u ≡ false
+  apart : (u : Timer) → (slot_of t ≡ slot_of u → ⊥) → is_timer t u ≡ false
   apart u far = grind arith
 
   -- the timer's slot is before all of these
-  unchanged : (cell : Cell) (n : ℕ) (names : List Timer) (cells : List LinkedCell) → place_of t < n → are_placed n names ≡ true →
+  unchanged : (cell : Cell) (n : ℕ) (names : List Timer) (cells : List LinkedCell) → slot_of t < n → are_placed n names ≡ true →
       with_cell t cell (named_cells names cells) ≡ named_cells names cells
   unchanged cell n [] cells low e = refl
   unchanged cell n (u ∷ us) [] low e = refl
   unchanged cell n (u ∷ us) (c ∷ cs) low e = grind (arith, unchanged cell (n + 1) us cs)
 
-  set_from : (x : LinkedCell) (n : ℕ) (names : List Timer) (cells : List LinkedCell) → IsNamed t → n ≤ place_of t
+  set_from : (x : LinkedCell) (n : ℕ) (names : List Timer) (cells : List LinkedCell) → IsNamed t → n ≤ slot_of t
       → are_placed n names ≡ true →
-      named_cells names (set cells (place_of t - n) x) ≡ with_cell t x.cell (named_cells names cells)
+      named_cells names (set cells (slot_of t - n) x) ≡ with_cell t x.cell (named_cells names cells)
   set_from x n [] cells named from e = refl
   set_from x n (u ∷ us) [] named from e = refl
   set_from x n (u ∷ us) (c ∷ cs) named from e =
       let kept = unchanged x.cell (n + 1) us cs in
       grind (arith, apart, first_placed n u us e, set_from x (n + 1) us cs named)
 
-  read_from : (n : ℕ) (names : List Timer) (cells : List LinkedCell) → IsNamed t → n ≤ place_of t → place_of t < n + length names
+  read_from : (n : ℕ) (names : List Timer) (cells : List LinkedCell) → IsNamed t → n ≤ slot_of t → slot_of t < n + length names
       → are_placed n names ≡ true →
-      cell_under t (named_cells names cells) ≡ (get_or cells (place_of t - n) zero_linked).cell
+      cell_under t (named_cells names cells) ≡ (get_or cells (slot_of t - n) zero_linked).cell
   read_from n [] cells named from below e = absurd (omega arith)
   read_from n (u ∷ us) [] named from below e = refl
   read_from n (u ∷ us) (c ∷ cs) named from below e =
@@ -69,15 +69,15 @@ module _ (cells : List LinkedCell) where
 
   module _ (t : Timer) where
     pub cell_read : IsNamed t
-        → cell_under t (named_cells all_timers cells) ≡ (get_or cells (place_of t) zero_linked).cell
+        → cell_under t (named_cells all_timers cells) ≡ (get_or cells (slot_of t) zero_linked).cell
     cell_read named = grind (arith, read_from, count, all_placed)
 
     module _ (x : LinkedCell) where
       pub cells_set : IsNamed t →
-          named_cells all_timers (set cells (place_of t) x) ≡ with_cell t x.cell (named_cells all_timers cells)
+          named_cells all_timers (set cells (slot_of t) x) ≡ with_cell t x.cell (named_cells all_timers cells)
       cells_set named =
-          let whole : place_of t - 0 ≡ place_of t = omega arith in grind (arith, set_from, all_placed)
+          let whole : slot_of t - 0 ≡ slot_of t = omega arith in grind (arith, set_from, all_placed)
 
-pub cell_given : (cells : List LinkedCell) (t : Timer) (x : LinkedCell) → IsNamed t → place_of t < length cells →
-    cell_under t (named_cells all_timers (set cells (place_of t) x)) ≡ x.cell
+pub cell_given : (cells : List LinkedCell) (t : Timer) (x : LinkedCell) → IsNamed t → slot_of t < length cells →
+    cell_under t (named_cells all_timers (set cells (slot_of t) x)) ≡ x.cell
 cell_given cells t x named within = grind (arith, cell_read, get_or-set_same)

@@ -1,7 +1,7 @@
 -- How changes of the table affect the cells and the timer list.
-use Rattle.timer_core.proofs.Words.{◌≡◌, ℕ, ◌<◌, ◌≤◌, true, false, List, [], ◌∷◌, ◌++◌, length, refl, sym, subst, ◌∙◌, ap, arith, set, get_or, Option, Some, None, is_armed, replicate, All, ◌^◌, list_any, length-set, All-set, Timer, Cell, LinkedCell, place_of, timer_at, led_to, link_of, IsNamed, all_timers, is_timer, Timers, no_timers, armed_with, stop_timer, next_of, flag_of, listed_from, named_cells, AreFlagged, Names, IsTable, timers_of, zero_linked, StandsBehind}
+use Rattle.timer_core.proofs.Words.{◌≡◌, ℕ, ◌<◌, ◌≤◌, true, false, List, [], ◌∷◌, ◌++◌, length, refl, sym, subst, ◌∙◌, ap, arith, set, get_or, Option, Some, None, is_armed, replicate, All, ◌^◌, list_any, length-set, All-set, Timer, Cell, LinkedCell, slot_of, timer_at, led_to, link_of, IsNamed, all_timers, is_timer, Timers, no_timers, armed_with, stop_timer, next_of, flag_of, listed_from, named_cells, AreFlagged, Names, IsTable, timers_of, zero_linked, Follows}
 use Rattle.timer_core.specs.declared.table.TimerTable.TheInside.{Inside}
-use Rattle.timer_core.proofs.NameLemmas.{place_at}
+use Rattle.timer_core.proofs.NameLemmas.{slot_at}
 use Rattle.timer_core.proofs.Cells.{cells_set, cells_kept, cells_at_boot}
 use Rattle.timer_core.proofs.Flags.{flags_kept, flags_added, flags_removed}
 use Rattle.timer_core.proofs.LinkLemmas.{Relinked, passes, next_of_same, listed_from_none, relinked_kept, relinked_first}
@@ -18,7 +18,7 @@ HasStarts cells = All (λ linked_cell. linked_cell.cell.start ≤ 2 ^ 63) cells
 
 stands_for : (table : Inside) (timers : Timers) → length table.cells ≡ 192 → HasStarts table.cells → AreFlagged table.cells timers.armed
     → named_cells all_timers table.cells ≡ timers.cells → Relinked table.cells (led_to table.first) timers.armed → StandsFor table timers
-stands_for table timers places starts flags cells r = grind arith
+stands_for table timers slots starts flags cells r = grind arith
 
 pub timers_at_boot : timers_of (record { cells = replicate 192 zero_linked; first = None }) ≡ no_timers
 timers_at_boot = grind (arith, cells_at_boot, listed_from_none)
@@ -37,8 +37,8 @@ module _ (cells : List LinkedCell) where
   abbrev pub link_at : ℕ → Option ℕ
   link_at k = (get_or cells k zero_linked).next
 
-  start_at : (t : Timer) → place_of t < length cells → HasStarts cells
-      → (get_or cells (place_of t) zero_linked).cell.start ≤ 2 ^ 63
+  start_at : (t : Timer) → slot_of t < length cells → HasStarts cells
+      → (get_or cells (slot_of t) zero_linked).cell.start ≤ 2 ^ 63
   start_at t within starts = grind arith
 
 -- the table after its head, in slot k, was removed from the list
@@ -59,36 +59,36 @@ nothing_removed timer timers none = grind (arith, others_none)
 
 module _ (table : Inside) where
   module _ (t : Timer) where
-    head_removed : IsTable table → IsNamed t → StandsBehind None t (listed_from table.cells (led_to table.first)) →
-        StandsFor (without_head table (place_of t)) (stop_timer t (timers_of table))
+    head_removed : IsTable table → IsNamed t → Follows None t (listed_from table.cells (led_to table.first)) →
+        StandsFor (without_head table (slot_of t)) (stop_timer t (timers_of table))
     head_removed h named head =
-        let within : place_of t < length table.cells = grind arith in
-        let x = unflagged table.cells (place_of t) in
+        let within : slot_of t < length table.cells = grind arith in
+        let x = unflagged table.cells (slot_of t) in
         let names = subst (Names table.cells (led_to table.first)) (rw head.ends at head.listed) h.listed.ends in
         let step = passes table.cells (led_to table.first) t names.0 h.listed in
         let r = relinked_kept table.cells (next_of table.cells t) t x within refl step.later in
-        stands_for _ _ (length-set table.cells (place_of t) x ∙ h.places)
-        (starts_set table.cells (place_of t) x (start_at table.cells t within h.starts) h.starts)
-        (flags_removed table.cells t x _ named within h.flags refl) (cells_kept table.cells (place_of t) x refl)
+        stands_for _ _ (length-set table.cells (slot_of t) x ∙ h.slots)
+        (starts_set table.cells (slot_of t) x (start_at table.cells t within h.starts) h.starts)
+        (flags_removed table.cells t x _ named within h.flags refl) (cells_kept table.cells (slot_of t) x refl)
         (record { sound = r.sound; listed = r.listed ∙ others_itself table.cells (led_to table.first) t step })
 
     link_closed : (before : Timer) (earlier later : List Timer) → IsTable table → IsNamed t → IsNamed before
         → listed_from table.cells (led_to table.first) ≡ (earlier ++ before ∷ []) ++ t ∷ later →
-        StandsFor (closed_over table (place_of t) (place_of before)) (stop_timer t (timers_of table))
+        StandsFor (closed_over table (slot_of t) (slot_of before)) (stop_timer t (timers_of table))
     link_closed before earlier later h named is_named listed =
-        let within : place_of t < length table.cells = grind arith in
-        let x = unflagged table.cells (place_of t) in let cells = without_flag table.cells (place_of t) in
-        let places : length cells ≡ 192 = grind (arith, length-set) in
+        let within : slot_of t < length table.cells = grind arith in
+        let x = unflagged table.cells (slot_of t) in let cells = without_flag table.cells (slot_of t) in
+        let slots : length cells ≡ 192 = grind (arith, length-set) in
         let starts : HasStarts cells = grind (arith, starts_set, start_at) in
         let kept = relinked_kept table.cells (led_to table.first) t x within refl h.listed in
-        let inside : place_of before < length cells = grind arith in
-        let y : LinkedCell = record (get_or cells (place_of before) zero_linked) { next = link_of table.cells t } in
+        let inside : slot_of before < length cells = grind arith in
+        let y : LinkedCell = record (get_or cells (slot_of before) zero_linked) { next = link_of table.cells t } in
         let r = relinked_without cells (led_to table.first) t before y earlier later is_named inside
         (sym (next_of_same table.cells t x within)) (kept.listed ∙ listed) kept.sound in
-        stands_for _ _ (length-set cells (place_of before) y ∙ places)
-        (starts_set cells (place_of before) y (start_at cells before inside starts) starts)
+        stands_for _ _ (length-set cells (slot_of before) y ∙ slots)
+        (starts_set cells (slot_of before) y (start_at cells before inside starts) starts)
         (flags_kept cells before y _ is_named inside (flags_removed table.cells t x _ named within h.flags refl) refl)
-        (cells_kept cells (place_of before) y refl ∙ cells_kept table.cells (place_of t) x refl)
+        (cells_kept cells (slot_of before) y refl ∙ cells_kept table.cells (slot_of t) x refl)
         (record { sound = r.sound; listed = r.listed ∙ ap (others t) kept.listed })
 
     module _ (cell : Cell) where
@@ -97,14 +97,14 @@ module _ (table : Inside) where
           list_any (is_timer t) (listed_from table.cells (led_to table.first)) ≡ true →
           StandsFor
           (record {
-            cells = set table.cells (place_of t) (record { cell = cell; is_armed = flag_of table.cells t; next = link_of table.cells t });
+            cells = set table.cells (slot_of t) (record { cell = cell; is_armed = flag_of table.cells t; next = link_of table.cells t });
             first = table.first;
           })
           (armed_with t cell (timers_of table))
       cell_changed h named start e =
-          let within : place_of t < length table.cells = grind arith in
+          let within : slot_of t < length table.cells = grind arith in
           let x : LinkedCell = record { cell = cell; is_armed = flag_of table.cells t; next = link_of table.cells t } in
-          rw e (stands_for _ _ (length-set table.cells (place_of t) x ∙ h.places) (starts_set table.cells (place_of t) x start h.starts)
+          rw e (stands_for _ _ (length-set table.cells (slot_of t) x ∙ h.slots) (starts_set table.cells (slot_of t) x start h.starts)
           (flags_kept table.cells t x _ named within h.flags refl) (cells_set table.cells t x named)
           (relinked_kept table.cells (led_to table.first) t x within refl h.listed))
 
@@ -112,46 +112,46 @@ module _ (table : Inside) where
       pub head_added : IsTable table → IsNamed t → cell.start ≤ 2 ^ 63 →
           list_any (is_timer t) (listed_from table.cells (led_to table.first)) ≡ false →
           StandsFor (record {
-            cells = set table.cells (place_of t) (record { cell = cell; is_armed = true; next = table.first });
+            cells = set table.cells (slot_of t) (record { cell = cell; is_armed = true; next = table.first });
             first =
-                Some (place_of t);
+                Some (slot_of t);
           })
           (armed_with t cell (timers_of table))
       head_added h named start e =
-          let within : place_of t < length table.cells = grind arith in
+          let within : slot_of t < length table.cells = grind arith in
           let x : LinkedCell = record { cell = cell; is_armed = true; next = table.first } in
-          rw e (stands_for _ _ (length-set table.cells (place_of t) x ∙ h.places) (starts_set table.cells (place_of t) x start h.starts)
+          rw e (stands_for _ _ (length-set table.cells (slot_of t) x ∙ h.slots) (starts_set table.cells (slot_of t) x start h.starts)
           (flags_added table.cells t x _ named within h.flags refl) (cells_set table.cells t x named)
-          (subst (λ link. Relinked (set table.cells (place_of t) x) link (t ∷ listed_from table.cells (led_to table.first)))
+          (subst (λ link. Relinked (set table.cells (slot_of t) x) link (t ∷ listed_from table.cells (led_to table.first)))
           (sym (grind arith))
           (relinked_first table.cells (led_to table.first) t x named within refl e h.listed)))
 
-  module _ (place : ℕ) where
-    abbrev IsBehind : Option ℕ → Type 0
-    IsBehind before = StandsBehind before (timer_at place) (listed_from table.cells (led_to table.first))
+  module _ (slot : ℕ) where
+    abbrev IsAfter : Option ℕ → Type 0
+    IsAfter before = Follows before (timer_at slot) (listed_from table.cells (led_to table.first))
 
-    pub head_removed_at : IsTable table → IsNamed (timer_at place) → IsBehind None →
-        StandsFor (without_head table place) (stop_timer (timer_at place) (timers_of table))
-    head_removed_at h named behind =
-        grind (arith, place_at, head_removed)
+    pub head_removed_at : IsTable table → IsNamed (timer_at slot) → IsAfter None →
+        StandsFor (without_head table slot) (stop_timer (timer_at slot) (timers_of table))
+    head_removed_at h named after =
+        grind (arith, slot_at, head_removed)
 
     module _ (before : ℕ) where
-      pub named_behind : IsTable table → IsBehind (Some before) → IsNamed (timer_at before)
-      named_behind h behind = grind (arith, named_last)
+      pub named_after : IsTable table → IsAfter (Some before) → IsNamed (timer_at before)
+      named_after h after = grind (arith, named_last)
 
-      pub link_closed_at : IsTable table → IsNamed (timer_at place) → IsBehind (Some before) →
-          StandsFor (closed_over table place before) (stop_timer (timer_at place) (timers_of table))
-      link_closed_at h named behind = grind (arith, named_behind, link_closed)
+      pub link_closed_at : IsTable table → IsNamed (timer_at slot) → IsAfter (Some before) →
+          StandsFor (closed_over table slot before) (stop_timer (timer_at slot) (timers_of table))
+      link_closed_at h named after = grind (arith, named_after, link_closed)
 
     abbrev pub unlinked : Option ℕ → Inside
-    unlinked None = without_head table place
-    unlinked (Some before) = closed_over table place before
+    unlinked None = without_head table slot
+    unlinked (Some before) = closed_over table slot before
 
-    pub stands_unlinked : (v : Timers) → timers_of table ≡ v → IsTable table → IsNamed (timer_at place) → (before : Option ℕ)
-        → StandsBehind before (timer_at place) v.armed → StandsFor (unlinked before) (stop_timer (timer_at place) v)
+    pub stands_unlinked : (v : Timers) → timers_of table ≡ v → IsTable table → IsNamed (timer_at slot) → (before : Option ℕ)
+        → Follows before (timer_at slot) v.armed → StandsFor (unlinked before) (stop_timer (timer_at slot) v)
     stands_unlinked v is h named None =
         grind (arith, head_removed_at)
     stands_unlinked v is h named (Some before) =
-        subst (λ v. StandsBehind (Some before) (timer_at place) v.armed →
-        StandsFor (unlinked (Some before)) (stop_timer (timer_at place) v)) is
+        subst (λ v. Follows (Some before) (timer_at slot) v.armed →
+        StandsFor (unlinked (Some before)) (stop_timer (timer_at slot) v)) is
         (link_closed_at before h named)

@@ -1,5 +1,5 @@
 pub mod ArmingLemmas
-pub mod AtPlaces
+pub mod AtSlots
 pub mod Cells
 pub mod Changes
 pub mod Flags

@@ -1,7 +1,7 @@
 -- The timer list along the links.
-use Rattle.timer_core.proofs.Words.{◌≡◌, ℕ, zero, suc, ◌<◌, ◌≤◌, true, false, List, [], ◌∷◌, length, refl, ◌∙◌, ap, arith, eqb, set, lit≤, Option, Some, None, map, replicate, ◌^◌, list_any, IsDistinct, AllByRecursion, length-map, get_or-set_same, get_or-set_other, get_or-replicate, All-replicate, Timer, LinkedCell, place_of, IsNamed, is_timer, next_of, linked, listed_from, led_to, Names, AreApart, IsList, IsTable, zero_linked}
+use Rattle.timer_core.proofs.Words.{◌≡◌, ℕ, zero, suc, ◌<◌, ◌≤◌, true, false, List, [], ◌∷◌, length, refl, ◌∙◌, ap, arith, eqb, set, lit≤, Option, Some, None, map, replicate, ◌^◌, list_any, IsDistinct, AllByRecursion, length-map, get_or-set_same, get_or-set_other, get_or-replicate, All-replicate, Timer, LinkedCell, slot_of, IsNamed, is_timer, next_of, linked, listed_from, led_to, Names, AreApart, IsList, IsTable, zero_linked}
 use Rattle.std.proofs.lemmas.Map.Steps.{length-le_from_distinct_below}
-use Rattle.timer_core.proofs.NameLemmas.{place_below}
+use Rattle.timer_core.proofs.NameLemmas.{slot_below}
 
 -- what the links name is what is read along them
 pub linked_from_names : (n : ℕ) (cells : List LinkedCell) (link : Option Timer) (list : List Timer) → Names cells link list
@@ -17,26 +17,26 @@ abbrev pub AllNamed : List Timer → Type 0
 AllNamed [] = Unit {0}
 AllNamed (t ∷ later) = IsNamed t × AllNamed later
 
-places_apart : (t : Timer) (list : List Timer) → IsNamed t → AllNamed list → list_any (is_timer t) list ≡ false →
-    AllByRecursion (λ place. eqb (place_of t) place ≡ false) (map place_of list)
-places_apart t [] h k none = tt
-places_apart t (u ∷ later) h k none = grind (arith, places_apart t later h k.1)
+slots_apart : (t : Timer) (list : List Timer) → IsNamed t → AllNamed list → list_any (is_timer t) list ≡ false →
+    AllByRecursion (λ slot. eqb (slot_of t) slot ≡ false) (map slot_of list)
+slots_apart t [] h k none = tt
+slots_apart t (u ∷ later) h k none = grind (arith, slots_apart t later h k.1)
 
-places_distinct : (list : List Timer) → AllNamed list → AreApart list → IsDistinct eqb (map place_of list)
+slots_distinct : (list : List Timer) → AllNamed list → AreApart list → IsDistinct eqb (map slot_of list)
 unfolding IsDistinct
-places_distinct [] h apart = tt
-places_distinct (t ∷ later) h apart = (places_apart t later h.0 h.1 apart.0, places_distinct later h.1 apart.1)
+slots_distinct [] h apart = tt
+slots_distinct (t ∷ later) h apart = (slots_apart t later h.0 h.1 apart.0, slots_distinct later h.1 apart.1)
 
-places_below : (list : List Timer) → AllNamed list → (q : ℕ) → list_any (eqb q) (map place_of list) ≡ true → q < 192
-places_below [] h q e = absurd (cc)
-places_below (t ∷ later) h q e = grind (arith, places_below later h.1 q)
+slots_below : (list : List Timer) → AllNamed list → (q : ℕ) → list_any (eqb q) (map slot_of list) ≡ true → q < 192
+slots_below [] h q e = absurd (cc)
+slots_below (t ∷ later) h q e = grind (arith, slots_below later h.1 q)
 
 few_timers : (list : List Timer) → AllNamed list → AreApart list → length list ≤ 192
 few_timers list h apart =
     omega (
       arith,
-      length-le_from_distinct_below (map place_of list) 192 (places_distinct list h apart) (places_below list h),
-      length-map list place_of,
+      length-le_from_distinct_below (map slot_of list) 192 (slots_distinct list h apart) (slots_below list h),
+      length-map list slot_of,
     )
 
 -- the list after a change of the links
@@ -48,9 +48,9 @@ pub table_at_boot : IsTable (record { cells = replicate 192 zero_linked; first =
 unfolding listed_from
 table_at_boot =
     record {
-      places = refl;
+      slots = refl;
       listed = grind arith;
-      flags = λ t h. ap (λ (c : LinkedCell). c.is_armed) (get_or-replicate 192 (place_of t) zero_linked zero_linked (place_below t h));
+      flags = λ t h. ap (λ (c : LinkedCell). c.is_armed) (get_or-replicate 192 (slot_of t) zero_linked zero_linked (slot_below t h));
       starts = All-replicate (λ linked_cell. linked_cell.cell.start ≤ 2 ^ 63) 192 zero_linked (lit≤ tt);
     }
 
@@ -72,22 +72,22 @@ module _ (cells : List LinkedCell) where
 
   module _ (t : Timer) where
     pub next_of_other : (u : Timer) (x : LinkedCell) → IsNamed t → IsNamed u → is_timer t u ≡ false →
-        next_of (set cells (place_of t) x) u ≡ next_of cells u
+        next_of (set cells (slot_of t) x) u ≡ next_of cells u
     next_of_other u x h k e = grind (arith, get_or-set_other)
 
     module _ (x : LinkedCell) where
-      pub next_of_same : place_of t < length cells
-          → next_of (set cells (place_of t) x) t ≡ led_to x.next
+      pub next_of_same : slot_of t < length cells
+          → next_of (set cells (slot_of t) x) t ≡ led_to x.next
       next_of_same within = grind (arith, get_or-set_same)
 
       -- a timer off this list may get any link
       pub names_other : (link : Option Timer) (list : List Timer) → IsNamed t →
-          list_any (is_timer t) list ≡ false → Names cells link list → Names (set cells (place_of t) x) link list
+          list_any (is_timer t) list ≡ false → Names cells link list → Names (set cells (slot_of t) x) link list
       names_other link [] h none names = names
       names_other link (u ∷ later) h none names = grind (arith, next_of_other, names_other (next_of cells u) later h)
 
-    names_kept : (x : LinkedCell) (link : Option Timer) (list : List Timer) → place_of t < length cells →
-        led_to x.next ≡ next_of cells t → Names cells link list → Names (set cells (place_of t) x) link list
+    names_kept : (x : LinkedCell) (link : Option Timer) (list : List Timer) → slot_of t < length cells →
+        led_to x.next ≡ next_of cells t → Names cells link list → Names (set cells (slot_of t) x) link list
     names_kept x link [] within e names = names
     names_kept x link (u ∷ later) within e names = grind (
       arith,
@@ -127,12 +127,12 @@ module _ (cells : List LinkedCell) where
     listed_shorter p = rw p.listed (omega arith)
 
 module _ (cells : List LinkedCell) (link : Option Timer) (t : Timer) (x : LinkedCell) where
-  pub relinked_kept : place_of t < length cells →
-      led_to x.next ≡ next_of cells t → IsList cells link → Relinked (set cells (place_of t) x) link (listed_from cells link)
+  pub relinked_kept : slot_of t < length cells →
+      led_to x.next ≡ next_of cells t → IsList cells link → Relinked (set cells (slot_of t) x) link (listed_from cells link)
   relinked_kept within e l = relinked _ link _ (names_kept cells t x link _ within e l.ends) l.apart
 
-  pub relinked_first : IsNamed t → place_of t < length cells →
+  pub relinked_first : IsNamed t → slot_of t < length cells →
       led_to x.next ≡ link → list_any (is_timer t) (listed_from cells link) ≡ false → IsList cells link →
-      Relinked (set cells (place_of t) x) (Some t) (t ∷ listed_from cells link)
+      Relinked (set cells (slot_of t) x) (Some t) (t ∷ listed_from cells link)
   relinked_first h within e none l =
       relinked _ (Some t) _ (refl, (h, rw (next_of_same cells t x within ∙ e) (names_other cells t x link _ h none l.ends))) (none, l.apart)

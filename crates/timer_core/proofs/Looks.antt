@@ -1,5 +1,5 @@
 -- What a look along the timer list finds, and what stays true after the found timer leaves.
-use Rattle.timer_core.proofs.Words.{◌≡◌, ℕ, ◌<◌, Bool, true, false, List, [], ◌∷◌, ◌++◌, refl, arith, Option, Some, None, find, IsTable, is_due, listed_from, next_of, timer_at, timers_of, list_any, Timer, StandsBehind, Timers, stop_timer}
+use Rattle.timer_core.proofs.Words.{◌≡◌, ℕ, ◌<◌, Bool, true, false, List, [], ◌∷◌, ◌++◌, refl, arith, Option, Some, None, find, IsTable, is_due, listed_from, next_of, timer_at, timers_of, list_any, Timer, Follows, Timers, stop_timer}
 use Rattle.timer_core.specs.declared.table.Passed.{Passed}
 use Rattle.timer_core.specs.declared.table.Outlook.{Outlook}
 use Rattle.timer_core.specs.declared.table.TimerTable.TheInside.{Inside}
@@ -10,9 +10,9 @@ use Rattle.timer_core.proofs.Unlinking.{one_apart, others_middle}
 use Rattle.timer_core.proofs.Walks.{Walked, passes_at}
 
 module _ (test : Timer → Bool) where
-  pub found_behind : (earlier later : List Timer) → list_any test earlier ≡ false → find test (earlier ++ later) ≡ find test later
-  found_behind [] later none = refl
-  found_behind (t ∷ earlier) later none = grind (arith, found_behind earlier later)
+  pub found_after : (earlier later : List Timer) → list_any test earlier ≡ false → find test (earlier ++ later) ≡ find test later
+  found_after [] later none = refl
+  found_after (t ∷ earlier) later none = grind (arith, found_after earlier later)
 
   pub none_of_more : (t : Timer) (earlier : List Timer) → list_any test earlier ≡ false → test t ≡ false
       → list_any test (earlier ++ t ∷ []) ≡ false
@@ -23,8 +23,8 @@ module _ (timers : Timers) where
   nothing_passed earliest = record { earlier = []; later = timers.armed; listed = refl; ends = refl; undue = λ _ _. refl }
 
   module _ (timer : Timer) (passed : Passed) (n : IsNext timer passed timers) where
-    pub behind_passed : StandsBehind passed.last timer timers.armed
-    behind_passed = grind arith
+    pub follows_passed : Follows passed.last timer timers.armed
+    follows_passed = grind arith
 
     pub passed_without : IsPassed passed (stop_timer timer timers)
     passed_without = grind (arith, others_middle)
@@ -34,12 +34,12 @@ module _ (table : Inside) (h : IsTable table) (passed : Passed) (link : Option �
   module _ (w : Walked table.cells table.first passed.last link earlier) (clock : ℕ) where
     module _ (undue : (moment : ℕ) → moment < passed.earliest → list_any (is_due moment (timers_of table)) earlier ≡ false) where
       module _ (now : list_any (is_due clock (timers_of table)) earlier ≡ false) where
-        pub due_here : (place : ℕ) → link ≡ Some place → is_due clock (timers_of table) (timer_at place) ≡ true →
-            IsOutlook clock (timers_of table) (Outlook.Due place passed)
-        due_here place is due =
+        pub due_here : (slot : ℕ) → link ≡ Some slot → is_due clock (timers_of table) (timer_at slot) ≡ true →
+            IsOutlook clock (timers_of table) (Outlook.Due slot passed)
+        due_here slot is due =
             let step = passes_at is w.list in
-            let later = listed_from table.cells (next_of table.cells (timer_at place)) in (
-              grind (arith, found_behind),
+            let later = listed_from table.cells (next_of table.cells (timer_at slot)) in (
+              grind (arith, found_after),
               step.named,
               record {
                 passed = grind arith;
@@ -50,4 +50,4 @@ module _ (table : Inside) (h : IsTable table) (passed : Passed) (link : Option �
             )
 
         pub none_here : link ≡ None → IsOutlook clock (timers_of table) (Outlook.NoneBefore passed.earliest)
-        none_here is = grind (arith, listed_from_none, found_behind)
+        none_here is = grind (arith, listed_from_none, found_after)

@@ -1,17 +1,17 @@
 -- Names of timers and their slots.
-use Rattle.timer_core.proofs.Words.{◌≡◌, ◌<◌, ℕ, true, false, arith, Timer, place_of, timer_at, IsNamed, is_timer}
+use Rattle.timer_core.proofs.Words.{◌≡◌, ◌<◌, ℕ, true, false, arith, Timer, slot_of, timer_at, IsNamed, is_timer}
 
-pub timer_at_place : (t : Timer) → IsNamed t → timer_at (place_of t) ≡ t
-timer_at_place t named = grind arith
+pub timer_at_slot : (t : Timer) → IsNamed t → timer_at (slot_of t) ≡ t
+timer_at_slot t named = grind arith
 
 module _ (t : Timer) where
   pub is_timer_itself : is_timer t t ≡ true
   is_timer_itself = grind arith
 
-  pub place_below : IsNamed t → place_of t < 192
-  place_below h = grind arith
+  pub slot_below : IsNamed t → slot_of t < 192
+  slot_below h = grind arith
 
-  pub other_at : (k : ℕ) → IsNamed (timer_at k) → (k ≡ place_of t → ⊥) → is_timer t (timer_at k) ≡ false
+  pub other_at : (k : ℕ) → IsNamed (timer_at k) → (k ≡ slot_of t → ⊥) → is_timer t (timer_at k) ≡ false
   other_at k named far = grind arith
 
   module _ (u : Timer) where
@@ -21,14 +21,14 @@ module _ (t : Timer) where
     pub is_timer_flips : is_timer t u ≡ false → is_timer u t ≡ false
     is_timer_flips e = grind arith
 
-    pub same_place : IsNamed t → IsNamed u → place_of t ≡ place_of u → is_timer t u ≡ true
-    same_place h k e = grind arith
+    pub same_slot : IsNamed t → IsNamed u → slot_of t ≡ slot_of u → is_timer t u ≡ true
+    same_slot h k e = grind arith
 
 module _ (k : ℕ) where
   -- a slot and its timer
 
-  pub place_at : IsNamed (timer_at k) → place_of (timer_at k) ≡ k
-  place_at named = grind arith
+  pub slot_at : IsNamed (timer_at k) → slot_of (timer_at k) ≡ k
+  slot_at named = grind arith
 
   pub at_below : IsNamed (timer_at k) → k < 192
   at_below named = grind arith

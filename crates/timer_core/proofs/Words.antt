@@ -8,12 +8,12 @@ pub use Rattle.std.specs.List.{AllByRecursion, list_any}
 unfoldable pub use Rattle.std.specs.List.{IsDistinct}
 pub use Rattle.std.specs.Prelude.{All, None, Option, Some, filter, find, map, replicate, ◌^◌}
 pub use Rattle.mote_types.specs.declared.event.Pid.{Pid}
-pub use Rattle.timer_core.specs.Code.Armings.{Armings, callback_place, is_present_arming, no_armings, present_arming, renumbered}
+pub use Rattle.timer_core.specs.Code.Armings.{Armings, callback_slot, is_present_arming, no_armings, present_arming, renumbered}
 pub use Rattle.timer_core.specs.Code.Links.{AreApart, AreFlagged, IsList, IsTable, Names, cell_under, flag_of, led_to, link_of, linked, named_cells, next_of, timers_of, zero_linked}
 unfoldable pub use Rattle.timer_core.specs.Code.Links.{listed_from}
-pub use Rattle.timer_core.specs.Code.Neighbours.{EndsWith, StandsBehind}
+pub use Rattle.timer_core.specs.Code.Neighbours.{EndsWith, Follows}
 pub use Rattle.timer_core.specs.Code.Numbered.{IsNumbered}
-pub use Rattle.timer_core.specs.Code.Places.{are_placed, is_named, place_of, timer_at}
+pub use Rattle.timer_core.specs.Code.Slots.{are_placed, is_named, slot_of, timer_at}
 pub use Rattle.timer_core.specs.Names.{is_callback_timer_of, is_event_timer_of, is_timer}
 pub use Rattle.timer_core.specs.Code.Conditions.{IsNamed}
 unfoldable pub use Rattle.timer_core.specs.Names.{all_timers}

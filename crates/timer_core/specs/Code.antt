@@ -8,5 +8,5 @@ pub mod Neighbours
 pub mod Numbered
 pub mod NumberedTimers
 pub mod Outlooks
-pub mod Places
+pub mod Slots
 pub mod Watched

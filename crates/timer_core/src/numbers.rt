@@ -1,7 +1,7 @@
 //! The arming numbers of the callback timers.
 
 ghost use Rattle.std.specs.Prelude.{◌≡◌, ◌<◌, ◌≤◌, ◌^◌, ℕ, false};
-ghost use Rattle.timer_core.specs.Code.Armings.{no_armings, callback_place, present_arming, is_present_arming, renumbered, all_renumbered};
+ghost use Rattle.timer_core.specs.Code.Armings.{no_armings, callback_slot, present_arming, is_present_arming, renumbered, all_renumbered};
 ghost use Rattle.timer_core.specs.Code.Conditions.{IsNamed};
 ghost use Rattle.timer_core.specs.declared.timer.Timer.{Timer};
 
@@ -29,10 +29,10 @@ impl Model for ArmingNumbers {
     ghost invariant = { λ numbers. IsNumbered (record { present = numbers.present; drawn = numbers.drawn }) };
 }
 
-/// The position of a callback timer's arming number.
-fn place(pid: Pid, number: u8) -> usize
+/// The slot of a callback timer's arming number.
+fn slot(pid: Pid, number: u8) -> usize
     requires { IsNamed (Timer.Callback pid number) }
-    ensures value { result ≡ callback_place pid.0 number }
+    ensures value { result ≡ callback_slot pid.0 number }
     ensures within { result < 64 }
 {
     4 * (pid.0 as usize - 4) + number as usize
@@ -55,7 +55,7 @@ impl ArmingNumbers {
         ensures value { result ≡ present_arming pid.0 number self.now }
         ensures drawn { result < self.now.drawn }
     {
-        self.present[place(pid, number)]
+        self.present[slot(pid, number)]
     }
 
     /// The callback timer gets a number that was never used.
@@ -67,7 +67,7 @@ impl ArmingNumbers {
         ensures others { (p c : ℕ) → 4 ≤ p → c < 4 → (p ≡ pid.0 → c ≡ number → ⊥)
             → present_arming p c self.new ≡ present_arming p c self.old }
     {
-        self.present[place(pid, number)] = self.drawn;
+        self.present[slot(pid, number)] = self.drawn;
         self.drawn += 1;
     }
 

@@ -1,9 +1,9 @@
 //! All cells in one table. Those of the armed timers are linked, which makes the timer list.
 
 ghost use Rattle.std.specs.Prelude.{◌≡◌, ◌≤◌, ◌^◌, true};
-ghost use Rattle.timer_core.specs.Code.Neighbours.{StandsBehind};
+ghost use Rattle.timer_core.specs.Code.Neighbours.{Follows};
 ghost use Rattle.timer_core.specs.Code.Outlooks.{IsOutlook, IsPassed};
-ghost use Rattle.timer_core.specs.Code.Places.{timer_at};
+ghost use Rattle.timer_core.specs.Code.Slots.{timer_at};
 ghost use Rattle.timer_core.specs.Code.Conditions.{IsNamed};
 ghost use Rattle.timer_core.specs.Deadlines.{earlier_of, next_deadline};
 ghost use Rattle.timer_core.specs.Timers.{no_timers, cell_of, is_armed, armed_with, stop_timer, without_event_timers, without_callback_timers};
@@ -62,7 +62,7 @@ pub(crate) const NOTHING_PASSED: Passed = Passed {
 #[derive(Clone, Copy, Drop)]
 pub(crate) enum Outlook {
     /// The deadline of the timer at this slot has come. It follows those that were passed, and none of them is due.
-    Due { place: u8, passed: Passed },
+    Due { slot: u8, passed: Passed },
     /// None is due, nor will be before this moment: the earliest deadline.
     NoneBefore(u64),
 }
@@ -103,7 +103,7 @@ impl TimerTable {
         ensures value { result ≡ cell_of timer self.now }
         ensures start { result.start ≤ 2 ^ 63 }
     {
-        self.cells[timer.place()].cell
+        self.cells[timer.slot()].cell
     }
 
     /// Whether the timer is on the list.
@@ -111,7 +111,7 @@ impl TimerTable {
         requires { IsNamed timer }
         ensures { result ≡ is_armed timer self.now }
     {
-        self.cells[timer.place()].is_armed
+        self.cells[timer.slot()].is_armed
     }
 
     /// Gives the timer this cell, and puts it on the list: at its old position, or at the head if it is new there.
@@ -121,16 +121,16 @@ impl TimerTable {
         ensures armed { self.new ≡ armed_with timer cell self.old }
         ensures given { cell_of timer self.new ≡ cell }
     {
-        let place = timer.place();
+        let slot = timer.slot();
         if self.is_armed(timer) {
-            self.cells[place].cell = cell;
+            self.cells[slot].cell = cell;
         } else {
-            self.cells[place] = LinkedCell {
+            self.cells[slot] = LinkedCell {
                 cell,
                 is_armed: true,
                 next: self.first,
             };
-            self.first = Some(place as u8);
+            self.first = Some(slot as u8);
         }
     }
 
@@ -138,13 +138,13 @@ impl TimerTable {
     fn before(&self, timer: Timer) -> Option<u8>
         requires named { IsNamed timer }
         requires armed { is_armed timer self.now ≡ true }
-        ensures { StandsBehind result timer self.now.armed }
+        ensures { Follows result timer self.now.armed }
     {
-        let place = timer.place() as u8;
+        let slot = timer.slot() as u8;
         let mut before = None;
         let mut link = self.first;
         while let Some(other) = link {
-            if other == place {
+            if other == slot {
                 return before;
             }
             before = link;
@@ -154,13 +154,13 @@ impl TimerTable {
     }
 
     /// Removes the timer at this slot, which is right after `before`, from the list.
-    pub(crate) fn unlink(&mut self, place: u8, before: Option<u8>)
-        requires named { IsNamed (timer_at place) }
-        requires behind { StandsBehind before (timer_at place) self.old.armed }
-        ensures { self.new ≡ stop_timer (timer_at place) self.old }
+    pub(crate) fn unlink(&mut self, slot: u8, before: Option<u8>)
+        requires named { IsNamed (timer_at slot) }
+        requires follows { Follows before (timer_at slot) self.old.armed }
+        ensures { self.new ≡ stop_timer (timer_at slot) self.old }
     {
-        let following = self.cells[place as usize].next;
-        self.cells[place as usize].is_armed = false;
+        let following = self.cells[slot as usize].next;
+        self.cells[slot as usize].is_armed = false;
         match before {
             Some(before) => self.cells[before as usize].next = following,
             None => self.first = following,
@@ -174,7 +174,7 @@ impl TimerTable {
     {
         if self.is_armed(timer) {
             let before = self.before(timer);
-            self.unlink(timer.place() as u8, before);
+            self.unlink(timer.slot() as u8, before);
         }
     }
 
@@ -193,16 +193,16 @@ impl TimerTable {
             Some(last) => self.cells[last as usize].next,
             None => self.first,
         };
-        while let Some(place) = link {
-            let deadline = self.cells[place as usize].cell.deadline();
+        while let Some(slot) = link {
+            let deadline = self.cells[slot as usize].cell.deadline();
             if deadline <= clock {
-                return Outlook::Due { place, passed };
+                return Outlook::Due { slot, passed };
             }
             passed = Passed {
                 last: link,
                 earliest: passed.earliest.min(deadline),
             };
-            link = self.cells[place as usize].next;
+            link = self.cells[slot as usize].next;
         }
         Outlook::NoneBefore(passed.earliest)
     }
@@ -213,8 +213,8 @@ impl TimerTable {
     {
         let mut earliest = None;
         let mut link = self.first;
-        while let Some(place) = link {
-            let linked = self.cells[place as usize];
+        while let Some(slot) = link {
+            let linked = self.cells[slot as usize];
             earliest = Some(sooner(linked.cell.deadline(), earliest));
             link = linked.next;
         }

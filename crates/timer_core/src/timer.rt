@@ -1,7 +1,7 @@
 //! The names of the timers, and the cell of each.
 
 ghost use Rattle.std.specs.Prelude.{◌≡◌, ◌<◌, ◌≤◌, ◌^◌};
-ghost use Rattle.timer_core.specs.Code.Places.{place_of, timer_at};
+ghost use Rattle.timer_core.specs.Code.Slots.{slot_of, timer_at};
 ghost use Rattle.timer_core.specs.Code.Conditions.{IsNamed};
 ghost use Rattle.timer_core.specs.Timers.{deadline};
 
@@ -37,12 +37,12 @@ impl Cell {
 
 impl Timer {
     /// The timer whose cell is at that slot of the table.
-    pub(crate) fn at(place: u8) -> Timer
-        requires { place < 192 }
-        ensures { result ≡ timer_at place }
+    pub(crate) fn at(slot: u8) -> Timer
+        requires { slot < 192 }
+        ensures { result ≡ timer_at slot }
     {
-        let pid = Pid(4 + place / 12);
-        let number = place % 12;
+        let pid = Pid(4 + slot / 12);
+        let number = slot % 12;
         if number < 8 {
             Timer::Event(pid, number)
         } else {
@@ -51,9 +51,9 @@ impl Timer {
     }
 
     /// The slot of its cell in the table.
-    pub(crate) fn place(self) -> usize
+    pub(crate) fn slot(self) -> usize
         requires { IsNamed self }
-        ensures value { result ≡ place_of self }
+        ensures value { result ≡ slot_of self }
         ensures within { result < 192 }
     {
         match self {

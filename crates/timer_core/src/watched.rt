@@ -154,10 +154,10 @@ impl WatchedTable {
             return None;
         }
         match self.table.look(clock, self.passed) {
-            Outlook::Due { place, passed } => {
-                self.table.unlink(place, passed.last);
+            Outlook::Due { slot, passed } => {
+                self.table.unlink(slot, passed.last);
                 self.passed = passed;
-                Some(Timer::at(place))
+                Some(Timer::at(slot))
             }
             Outlook::NoneBefore(moment) => {
                 self.due_from = moment;

@@ -20,7 +20,8 @@ enum toarmuts_status {
   TOARMUTS_FINISHED = 0,               /* a run: the script was executed */
   TOARMUTS_DONE = 0,                   /* a step: it was done */
   TOARMUTS_BAD_LINE = 2,               /* a malformed line; it ended the run */
-  TOARMUTS_HALTED = 3,                 /* the mote halted; network: an input took all its rounds */
+  TOARMUTS_HALTED = 3,                 /* the mote halted */
+  TOARMUTS_EXHAUSTED = 3,              /* network: an input used up its rounds */
   TOARMUTS_TOO_LONG = 4,               /* the script has more than 16,777,216 bytes */
   TOARMUTS_NOT_TEXT = 16,              /* the applications are no UTF-8 */
   TOARMUTS_NO_APPLICATION = 17,        /* a line names no application; submit_bundled: the struct says none */
@@ -116,11 +117,12 @@ struct toarmuts_mote {
 
 /* What next found. */
 enum toarmuts_step {
-  TOARMUTS_TURN = 0,  /* an application takes a turn, and its call is awaited */
-  TOARMUTS_ENTRY = 1, /* another line of the transcript was made: an input, a note, or halt */
-  TOARMUTS_REST = 2,  /* nothing happens without an input */
-  TOARMUTS_HALT = 3   /* the mote was halted before: nothing follows */
+  TOARMUTS_TURN = 0,       /* an application takes a turn, and its call is awaited */
+  TOARMUTS_ENTRY = 1,      /* another line of the transcript was made: an input, a note, or halt */
+  TOARMUTS_REST = 2,       /* nothing happens without an input */
+  TOARMUTS_STEP_HALTED = 3 /* the mote was halted before: nothing follows */
 };
+#define TOARMUTS_HALT TOARMUTS_STEP_HALTED /* its old name: the next version lacks it */
 
 /* Where a stimulus comes from. */
 enum toarmuts_origin {
@@ -340,8 +342,8 @@ uint32_t toarmuts_close(struct toarmuts_mote *mote);
  * A network of motes step by step. The caller opens it and adds its links, asks what comes next, submits the call of each application whose
  * turn it is, and passes inputs at rest. Motes have the numbers 1, 2, .. in the order of their structs. The lines are those of the program
  * network, in its order (docs/network.md). Of several reasons CLOSED is returned first, then what the network awaits or must do
- * (AWAITS_CALL or NO_TURN, HALTED, NOT_AT_REST), then what is wrong with the arguments. toarmuts_network_link returns IS_STARTED whatever
- * the network awaits.
+ * (AWAITS_CALL or NO_TURN, EXHAUSTED, NOT_AT_REST), then what is wrong with the arguments. toarmuts_network_link returns IS_STARTED
+ * whatever the network awaits.
  */
 
 /* A network in hand. With all bytes 0 it is closed. Only the calls below write to it. */
@@ -392,15 +394,16 @@ struct toarmuts_link {
 
 /* What network_next found. All but TURN and REST have a line. */
 enum toarmuts_network_step {
-  TOARMUTS_NETWORK_TURN,   /* an application takes a turn, and its call is awaited; once submitted it has a line */
-  TOARMUTS_NETWORK_ENTRY,  /* a mote made another entry: an input, a note, or its halt */
-  TOARMUTS_NETWORK_CLOCK,  /* the clock went on */
-  TOARMUTS_NETWORK_LOST,   /* a link's loss took the frame that was just sent */
-  TOARMUTS_NETWORK_FULL,   /* that frame found no room in flight over a link */
-  TOARMUTS_NETWORK_MISSED, /* a frame, or an input from outside, came to a mote that was halted */
-  TOARMUTS_NETWORK_REST,   /* nothing happens without an input */
-  TOARMUTS_NETWORK_HALT    /* the last input took all its rounds: nothing follows */
+  TOARMUTS_NETWORK_TURN,     /* an application takes a turn, and its call is awaited; once submitted it has a line */
+  TOARMUTS_NETWORK_ENTRY,    /* a mote made another entry: an input, a note, or its halt */
+  TOARMUTS_NETWORK_CLOCK,    /* the clock went on */
+  TOARMUTS_NETWORK_LOST,     /* a link's loss took the frame that was just sent */
+  TOARMUTS_NETWORK_FULL,     /* that frame found no room in flight over a link */
+  TOARMUTS_NETWORK_MISSED,   /* a frame, or an input from outside, came to a mote that was halted */
+  TOARMUTS_NETWORK_REST,     /* nothing happens without an input */
+  TOARMUTS_NETWORK_EXHAUSTED /* the last input used up its rounds: nothing follows */
 };
+#define TOARMUTS_NETWORK_HALT TOARMUTS_NETWORK_EXHAUSTED /* its old name: the next version lacks it */
 
 /* What has no meaning for its step is 0. */
 struct toarmuts_happening {

@@ -33,7 +33,7 @@ pub extern "C" fn toarmuts_run(
     ensures text { outcome.new.status ≤ 4
         → IsRunOf configuration.now applications.now script.now (take outcome.new.length transcript.new) outcome.new.status outcome.new.line }
     ensures fits { outcome.new.status ≤ 4 → outcome.new.length ≤ length transcript.new }
-    ensures behind { outcome.new.status ≤ 4 → drop outcome.new.length transcript.new ≡ drop outcome.new.length transcript.old }
+    ensures rest { outcome.new.status ≤ 4 → drop outcome.new.length transcript.new ≡ drop outcome.new.length transcript.old }
     ensures no_room { outcome.new.status ≡ 20
         → IsTooLongFor (length transcript.old) configuration.now applications.now script.now outcome.new.length }
     ensures refused { 4 < outcome.new.status → outcome.new.status ≢ 20

@@ -148,7 +148,7 @@ pub extern "C" fn toarmuts_network_tick(alloc: Global, network: &mut HeldNetwork
     status
 }
 
-/// Submits an input from outside, of kind 1 serial bytes or 2 a frame, for the mote of this number.
+/// Feeds an input from outside, of kind 1 serial bytes or 2 a frame, for the mote of this number.
 #[unsafe(no_mangle)]
 pub extern "C" fn toarmuts_network_feed(
     alloc: Global,
@@ -180,7 +180,7 @@ pub extern "C" fn toarmuts_network_line(
 ) -> u32
     ensures status { result ≡ network_status (steps_in network.old) (network_line_status (size_of line.old)) }
     ensures fits { result ≡ 0 → length.new ≤ size_of line.new }
-    ensures behind { result ≡ 0 → drop length.new line.new ≡ drop length.new line.old }
+    ensures rest { result ≡ 0 → drop length.new line.new ≡ drop length.new line.old }
     ensures front { result ≡ 0 → IsSomeAnd (steps_in network.old) (λ steps. take length.new line.new ≡ take length.new (came_line steps.last steps.net)) }
     ensures length { result ≢ 22 → result ≢ 30 → IsSomeAnd (steps_in network.old) (λ steps. length.new + 1 ≡ size_of (came_line steps.last steps.net)) }
     ensures no_line { result ≢ 0 → line.new ≡ line.old }

@@ -68,7 +68,7 @@ pub extern "C" fn toarmuts_open(
     }
 }
 
-/// Submits the input of a line of a script, without its end.
+/// Feeds the input of a line of a script, without its end.
 #[unsafe(no_mangle)]
 pub extern "C" fn toarmuts_feed(alloc: Global, mote: &mut Mote, line: &[u8]) -> u32
     ensures status { result ≡ feed_status line.now (session_in mote.old) }
@@ -83,7 +83,7 @@ pub extern "C" fn toarmuts_feed(alloc: Global, mote: &mut Mote, line: &[u8]) -> 
     status
 }
 
-/// Submits an input of this kind: 0 ticks, 1 bytes on the serial line, 2 a frame of bytes.
+/// Feeds an input of this kind: 0 ticks, 1 bytes on the serial line, 2 a frame of bytes.
 #[unsafe(no_mangle)]
 pub extern "C" fn toarmuts_feed_input(
     alloc: Global,
@@ -170,7 +170,7 @@ pub extern "C" fn toarmuts_line(
     ensures status { result ≡ line_status (size_of line.old) (session_in mote.old) }
     ensures line { result ≡ 0 → IsSomeAnd (session_in mote.old) (IsLastLine (take length.new line.new)) }
     ensures fits { result ≡ 0 → length.new ≤ size_of line.new }
-    ensures behind { result ≡ 0 → drop length.new line.new ≡ drop length.new line.old }
+    ensures rest { result ≡ 0 → drop length.new line.new ≡ drop length.new line.old }
     ensures length { result ≡ 20
         → IsSomeAnd (session_in mote.old) (λ session. IsSomeAnd session.last (λ entry. length.new + 1 ≡ size_of (entry_line entry))) }
     ensures no_line { result ≢ 0 → line.new ≡ line.old }
@@ -197,7 +197,7 @@ pub extern "C" fn toarmuts_sent(
     ensures status { result ≡ sent_status (size_of bytes.old) (session_in mote.old) }
     ensures frame { result ≡ 0 → IsSomeAnd (session_in mote.old) (HasSent (take length.new bytes.new)) }
     ensures fits { result ≡ 0 → length.new ≤ size_of bytes.new }
-    ensures behind { result ≡ 0 → drop length.new bytes.new ≡ drop length.new bytes.old }
+    ensures rest { result ≡ 0 → drop length.new bytes.new ≡ drop length.new bytes.old }
     ensures length { result ≡ 20
         → IsSomeAnd (session_in mote.old) (λ session. IsSomeAnd (sent_in session.last) (λ frame. length.new ≡ size_of frame.items)) }
     ensures no_bytes { result ≢ 0 → bytes.new ≡ bytes.old }

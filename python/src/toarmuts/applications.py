@@ -156,7 +156,7 @@ class Named:
     number: int
     line: str | None
     make: Callable[[], Made]
-    told: str
+    shown: str
     """Its name in pictures and messages."""
 
     @property
@@ -172,16 +172,16 @@ class Named:
 
     def __reduce__(self) -> tuple[Any, ...]:
         """A run is pickled without its applications in Python, which may be lambdas or hold locks."""
-        return _named_elsewhere, (self.number, self.line, self.told)
+        return _named_elsewhere, (self.number, self.line, self.shown)
 
 
-def _named_elsewhere(number: int, line: str | None, told: str) -> Named:
+def _named_elsewhere(number: int, line: str | None, shown: str) -> Named:
     """An application of a run that came out of a pickle."""
-    return Named(number, line, functools.partial(_stayed, number, told), told) if line is None else _read_line(number, line)
+    return Named(number, line, functools.partial(_stayed, number, shown), shown) if line is None else _read_line(number, line)
 
 
-def _stayed(number: int, told: str) -> Application:
-    raise NoApplication(number, told, f"{told} is an application in Python, which a pickle of its run leaves out")
+def _stayed(number: int, shown: str) -> Application:
+    raise NoApplication(number, shown, f"{shown} is an application in Python, which a pickle of its run leaves out")
 
 
 def read_applications(applications: object) -> list[Named]:
@@ -331,10 +331,10 @@ def no_application(named: Named, why: Why) -> NoApplication:
     if why.reason is Reason.MANY_CALLS:
         return NoApplication(number, line, f"an application makes at most {MOST_CALLS} calls", None, why.reason)
     part = line[6:].split(", ")[why.call]
-    told = _NO_CALL[why.reason] + _taken(part)
+    reason = _NO_CALL[why.reason] + _taken(part)
     if why.reason is Reason.NUMBER and part[:1].isdigit() and not is_count(part.partition(" ")[0]):
-        told = f"the count before a call must be 1 to {MOST_CALLS}"
-    return NoApplication(number, line, f"{part!r}: {told}", why.call + 1, why.reason)
+        reason = f"the count before a call must be 1 to {MOST_CALLS}"
+    return NoApplication(number, line, f"{part!r}: {reason}", why.call + 1, why.reason)
 
 
 def _taken(part: str) -> str:

@@ -1,45 +1,30 @@
 """The library by cffi in API mode."""
 from __future__ import annotations
 
-import threading
 import weakref
-from typing import Any
+from typing import Any, NamedTuple
 
 from ._native import ffi, lib  # type: ignore[import]
 from .errors import LibraryError
-from .library import (ADVANCE_SIZE, APPLICATION_SIZE, FIRST_ROOM, LINK_SIZE, MAKE, MOST_ROOM_KEPT, NETWORK_ADVANCE_SIZE, NETWORK_MOTE_SIZE,
-                      NO_ROOM, ROW_SIZE, Configuration, Held, HeldNetwork, NetworkSizes, Outcome)
+from .library import (ADVANCE_SIZE, APPLICATION_SIZE, FIRST_ROOM, LINK_SIZE, MAKE, NETWORK_MOTE_SIZE, NO_ROOM, ROW_SIZE, Configuration,
+                      Held, HeldNetwork, NetworkSizes, Outcome)
+from .rooms import Room, RunsInRooms
 
-STRUCTURES = {"transcript_row": ROW_SIZE, "advance": ADVANCE_SIZE, "network_advance": NETWORK_ADVANCE_SIZE,
-              "toarmuts_application": APPLICATION_SIZE, "toarmuts_network_mote": NETWORK_MOTE_SIZE, "toarmuts_link": LINK_SIZE}
+STRUCTURES = {"transcript_row": ROW_SIZE, "advance": ADVANCE_SIZE, "toarmuts_application": APPLICATION_SIZE,
+              "toarmuts_network_mote": NETWORK_MOTE_SIZE, "toarmuts_link": LINK_SIZE}
 
 
-class _Room:
+class _Room(Room):
     """The memory of one run: a configuration, an outcome, and room for a transcript."""
 
     def __init__(self) -> None:
+        super().__init__()
         self.configuration = ffi.new("struct toarmuts_configuration *")
         self.outcome = ffi.new("struct toarmuts_outcome *")
-        self.size = 0
-        self.transcript: Any = None
 
-    def make(self, size: int) -> None:
-        """Allocates at least this number of bytes."""
-        if self.size < size:
-            self.size = size
-            self.transcript = ffi.new("uint8_t[]", size)
-
-    def shrink(self) -> None:
-        """Frees what is too much to keep."""
-        if self.size > MOST_ROOM_KEPT:
-            self.size, self.transcript = 0, None
-
-
-class _Kept(threading.local):
-    """The rooms that a thread keeps between its runs."""
-
-    def __init__(self) -> None:
-        self.rooms: list[_Room] = []
+    def allocate(self, size: int) -> Any:
+        """Memory of the library's kind."""
+        return ffi.new("uint8_t[]", size)
 
 
 def fill(configuration: Any, numbers: Configuration) -> None:
@@ -48,33 +33,18 @@ def fill(configuration: Any, numbers: Configuration) -> None:
      configuration.quiet) = numbers
 
 
-class CffiLibrary:
+class CffiLibrary(RunsInRooms[_Room]):
     """The calls of the compiled module."""
 
     backend = "cffi"
 
     def __init__(self) -> None:
-        self._kept = _Kept()
+        super().__init__(_Room)
         sizes = {name: ffi.sizeof(f"struct {name}") for name in STRUCTURES}
         if sizes != STRUCTURES:
             raise LibraryError(f"toarmuts: the compiled library has structures of {sizes} bytes; {MAKE}")
 
-    def run(self, configuration: Configuration, applications: bytes, script: bytes) -> Outcome:
-        """Runs in memory that nobody else has meanwhile: a signal handler or a tracer may make another run in between."""
-        rooms = self._kept.rooms
-        try:
-            room = rooms.pop()
-        except IndexError:
-            room = _Room()
-        try:
-            return self._run_in(room, configuration, applications, script)
-        finally:
-            if not rooms:
-                room.shrink()
-                rooms.append(room)
-
-    @staticmethod
-    def _run_in(room: _Room, configuration: Configuration, applications: bytes, script: bytes) -> Outcome:
+    def _run_in(self, room: _Room, configuration: Configuration, applications: bytes, script: bytes) -> Outcome:
         """Runs, again with more room where there was too little."""
         fill(room.configuration, configuration)
         room.make(FIRST_ROOM)
@@ -111,93 +81,82 @@ class CffiLibrary:
         return status, CffiNetwork(network)
 
 
-class CffiMote:
-    """A mote that is open, until it is closed or nothing refers to it."""
+class _Calls(NamedTuple):
+    """The calls that a mote and a network both have."""
 
-    def __init__(self, mote: Any) -> None:
-        self._mote = mote
+    advance: Any
+    advance_bundled: Any
+    clock: Any
+    close: Any
+
+
+class _CffiHeld:
+    """A mote or a network that is open, until it is closed or nothing refers to it."""
+
+    def __init__(self, held: Any, calls: _Calls) -> None:
+        self._held, self._calls = held, calls
         self.advance_bytes = bytearray(ADVANCE_SIZE)
         self._advance = ffi.from_buffer("struct advance *", self.advance_bytes)
         self._call = ffi.new("struct toarmuts_call *")
         self._call_bytes = ffi.buffer(self._call)
         self._clock = ffi.new("uint64_t *")
-        self._finalizer = weakref.finalize(self, lib.toarmuts_close, mote)
-        # At the interpreter's end the memory goes with the process: a daemon thread may be at work on the mote still.
+        self._finalizer = weakref.finalize(self, calls.close, held)
+        # At the interpreter's end the memory goes with the process: a daemon thread may be at work on it still.
         self._finalizer.atexit = False
+
+    def advance(self, call: bytes) -> None:
+        """Works on."""
+        self._call_bytes[:] = call
+        self._calls.advance(self._held, self._call, self._advance)
+
+    def advance_bundled(self, application: bytearray) -> None:
+        """Works on, where a bundled application makes the call."""
+        self._calls.advance_bundled(self._held, ffi.from_buffer("struct toarmuts_application *", application), self._advance)
+
+    def clock(self) -> int:
+        """The ticks since boot."""
+        self._calls.clock(self._held, self._clock)
+        clock: int = self._clock[0]
+        return clock
+
+    def close(self) -> int:
+        """Frees the memory."""
+        status = self._finalizer()
+        return 0 if status is None else int(status)
+
+
+class CffiMote(_CffiHeld):
+    """A mote."""
+
+    def __init__(self, mote: Any) -> None:
+        super().__init__(mote, _Calls(lib.advance_mote, lib.advance_mote_bundled, lib.toarmuts_clock, lib.toarmuts_close))
 
     def feed(self, line: bytes) -> int:
         """Feeds a line of a script."""
-        status: int = lib.feed_line(self._mote, line, len(line))
+        status: int = lib.feed_line(self._held, line, len(line))
         return status
 
     def feed_input(self, kind: int, ticks: int, data: bytes) -> int:
         """Feeds an input."""
-        status: int = lib.feed_input(self._mote, kind, ticks, data, len(data))
+        status: int = lib.feed_input(self._held, kind, ticks, data, len(data))
         return status
-
-    def advance(self, call: bytes) -> None:
-        """Works on."""
-        self._call_bytes[:] = call
-        lib.advance_mote(self._mote, self._call, self._advance)
-
-    def advance_bundled(self, application: bytearray) -> None:
-        """Works on, where a bundled application makes the call."""
-        lib.advance_bundled(self._mote, ffi.from_buffer("struct toarmuts_application *", application), self._advance)
-
-    def clock(self) -> int:
-        """The ticks since boot."""
-        lib.toarmuts_clock(self._mote, self._clock)
-        clock: int = self._clock[0]
-        return clock
 
     def due(self) -> tuple[int, int]:
         """The status, and the clock at which the next timer runs out."""
-        return lib.toarmuts_due(self._mote, self._clock), self._clock[0]
-
-    def close(self) -> int:
-        """Frees the memory."""
-        status = self._finalizer()
-        return 0 if status is None else int(status)
+        return lib.toarmuts_due(self._held, self._clock), self._clock[0]
 
 
-class CffiNetwork:
-    """A network that is open, until it is closed or nothing refers to it."""
+class CffiNetwork(_CffiHeld):
+    """A network."""
 
     def __init__(self, network: Any) -> None:
-        self._network = network
-        self.advance_bytes = bytearray(NETWORK_ADVANCE_SIZE)
-        self._advance = ffi.from_buffer("struct network_advance *", self.advance_bytes)
-        self._call = ffi.new("struct toarmuts_call *")
-        self._call_bytes = ffi.buffer(self._call)
-        self._clock = ffi.new("uint64_t *")
-        self._finalizer = weakref.finalize(self, lib.toarmuts_network_close, network)
-        # As a mote's.
-        self._finalizer.atexit = False
+        super().__init__(network, _Calls(lib.advance_network, lib.advance_network_bundled, lib.toarmuts_network_clock,
+                                         lib.toarmuts_network_close))
 
     def execute(self, script: bytes, first: int) -> None:
         """Executes lines of a script from this offset on."""
-        lib.advance_network_script(self._network, script, first, len(script), self._advance)
-
-    def advance(self, call: bytes) -> None:
-        """Works on."""
-        self._call_bytes[:] = call
-        lib.advance_network(self._network, self._call, self._advance)
-
-    def advance_bundled(self, application: bytearray) -> None:
-        """Works on, where a bundled application makes the call."""
-        lib.advance_network_bundled(self._network, ffi.from_buffer("struct toarmuts_application *", application), self._advance)
-
-    def clock(self) -> int:
-        """The ticks since boot."""
-        lib.toarmuts_network_clock(self._network, self._clock)
-        clock: int = self._clock[0]
-        return clock
+        lib.advance_network_script(self._held, script, first, len(script), self._advance)
 
     def due(self, mote: int) -> tuple[int, int]:
         """The status, and the clock at which a mote's next timer runs out."""
-        return lib.toarmuts_network_due(self._network, mote, self._clock), self._clock[0]
-
-    def close(self) -> int:
-        """Frees the memory."""
-        status = self._finalizer()
-        return 0 if status is None else int(status)
+        return lib.toarmuts_network_due(self._held, mote, self._clock), self._clock[0]

@@ -3,16 +3,16 @@ from __future__ import annotations
 
 import ctypes
 import pathlib
-import threading
 import weakref
-from typing import Any
+from typing import Any, NamedTuple
 
 from .errors import LibraryError
-from .library import (ADVANCE_SIZE, APPLICATION_SIZE, FIRST_ROOM, LINK_SIZE, MAKE, MOST_ROOM_KEPT, NETWORK_ADVANCE_SIZE, NETWORK_MOTE_SIZE,
-                      NO_ROOM, ROW_SIZE, Configuration, Held, HeldNetwork, NetworkSizes, Outcome)
+from .library import (ADVANCE_SIZE, APPLICATION_SIZE, FIRST_ROOM, LINK_SIZE, MAKE, NETWORK_MOTE_SIZE, NO_ROOM, ROW_SIZE, Configuration,
+                      Held, HeldNetwork, NetworkSizes, Outcome)
+from .rooms import Room, RunsInRooms
 
 NEEDED = ("toarmuts_run", "transcript_table", "transcript_lines", "run_mote", "open_mote", "feed_line", "feed_input", "toarmuts_clock",
-          "toarmuts_close", "toarmuts_due", "advance_mote", "advance_bundled", "open_network", "advance_network_script",
+          "toarmuts_close", "toarmuts_due", "advance_mote", "advance_mote_bundled", "open_network", "advance_network_script",
           "advance_network", "advance_network_bundled", "toarmuts_network_clock", "toarmuts_network_due", "toarmuts_network_close")
 
 
@@ -37,39 +37,25 @@ _Numbers = ctypes.c_uint32 * 6
 _ApplicationBytes = ctypes.c_char * APPLICATION_SIZE
 
 
-class _Room:
+class _Room(Room):
     """The memory of one run: an outcome, and room for a transcript."""
 
     def __init__(self) -> None:
+        super().__init__()
         self.outcome = _Outcome()
-        self.size = 0
-        self.transcript: Any = None
 
-    def make(self, size: int) -> None:
-        """Allocates at least this number of bytes."""
-        if self.size < size:
-            self.size = size
-            self.transcript = ctypes.create_string_buffer(size)
-
-    def shrink(self) -> None:
-        """Frees what is too much to keep."""
-        if self.size > MOST_ROOM_KEPT:
-            self.size, self.transcript = 0, None
+    def allocate(self, size: int) -> Any:
+        """Memory of the library's kind."""
+        return ctypes.create_string_buffer(size)
 
 
-class _Kept(threading.local):
-    """The rooms that a thread keeps between its runs."""
-
-    def __init__(self) -> None:
-        self.rooms: list[_Room] = []
-
-
-class CtypesLibrary:
+class CtypesLibrary(RunsInRooms[_Room]):
     """The calls of a shared library."""
 
     backend = "ctypes"
 
     def __init__(self, place: pathlib.Path) -> None:
+        super().__init__(_Room)
         try:
             self._calls: Any = ctypes.CDLL(str(place))
         except OSError as fault:
@@ -78,7 +64,6 @@ class CtypesLibrary:
         if lacking:
             raise LibraryError(f"toarmuts: {place} lacks {lacking[0]}, it is older than this package; {MAKE}")
         self._declare()
-        self._kept = _Kept()
 
     def _declare(self) -> None:
         calls, size, pointer, u32 = self._calls, ctypes.c_size_t, ctypes.c_void_p, ctypes.c_uint32
@@ -91,7 +76,7 @@ class CtypesLibrary:
         calls.feed_input.argtypes = [pointer, u32, u32, ctypes.c_char_p, size]
         calls.toarmuts_clock.argtypes, calls.toarmuts_close.argtypes = [pointer, pointer], [pointer]
         calls.advance_mote.argtypes, calls.advance_mote.restype = [pointer, ctypes.c_char_p, pointer], None
-        calls.advance_bundled.argtypes, calls.advance_bundled.restype = [pointer, pointer, pointer], None
+        calls.advance_mote_bundled.argtypes, calls.advance_mote_bundled.restype = [pointer, pointer, pointer], None
         calls.toarmuts_due.argtypes = [pointer, pointer]
         for name in ("open_mote", "feed_line", "feed_input", "toarmuts_clock", "toarmuts_due", "toarmuts_close"):
             getattr(calls, name).restype = u32
@@ -108,20 +93,6 @@ class CtypesLibrary:
         calls.toarmuts_network_due.argtypes = [pointer, u32, pointer]
         for name in ("open_network", "toarmuts_network_clock", "toarmuts_network_due", "toarmuts_network_close"):
             getattr(calls, name).restype = u32
-
-    def run(self, configuration: Configuration, applications: bytes, script: bytes) -> Outcome:
-        """Runs in memory that nobody else has meanwhile: a signal handler or a tracer may make another run in between."""
-        rooms = self._kept.rooms
-        try:
-            room = rooms.pop()
-        except IndexError:
-            room = _Room()
-        try:
-            return self._run_in(room, configuration, applications, script)
-        finally:
-            if not rooms:
-                room.shrink()
-                rooms.append(room)
 
     def _run_in(self, room: _Room, configuration: Configuration, applications: bytes, script: bytes) -> Outcome:
         """Runs, again with more room where there was too little."""
@@ -158,31 +129,31 @@ class CtypesLibrary:
         return status, CtypesNetwork(self._calls, network)
 
 
-class CtypesMote:
-    """A mote that is open, until it is closed or nothing refers to it."""
+class _Calls(NamedTuple):
+    """The calls that a mote and a network both have."""
 
-    def __init__(self, calls: Any, mote: _Mote) -> None:
-        self._calls, self._mote = calls, mote
+    advance: Any
+    advance_bundled: Any
+    clock: Any
+    due: Any
+    close: Any
+
+
+class _CtypesHeld:
+    """A mote or a network that is open, until it is closed or nothing refers to it."""
+
+    def __init__(self, held: _Mote | _Network, calls: _Calls) -> None:
+        self._held, self._calls = held, calls
         self.advance_bytes = bytearray(ADVANCE_SIZE)
         self._advance = (ctypes.c_char * ADVANCE_SIZE).from_buffer(self.advance_bytes)
-        self._pointer = ctypes.addressof(mote)
-        self._finalizer = weakref.finalize(self, _close, calls, mote)
-        # At the interpreter's end the memory goes with the process: a daemon thread may be at work on the mote still.
+        self._pointer = ctypes.addressof(held)
+        self._finalizer = weakref.finalize(self, _close, calls.close, held)
+        # At the interpreter's end the memory goes with the process: a daemon thread may be at work on it still.
         self._finalizer.atexit = False
-
-    def feed(self, line: bytes) -> int:
-        """Feeds a line of a script."""
-        status: int = self._calls.feed_line(self._pointer, line, len(line))
-        return status
-
-    def feed_input(self, kind: int, ticks: int, data: bytes) -> int:
-        """Feeds an input."""
-        status: int = self._calls.feed_input(self._pointer, kind, ticks, data, len(data))
-        return status
 
     def advance(self, call: bytes) -> None:
         """Works on."""
-        self._calls.advance_mote(self._pointer, call, ctypes.addressof(self._advance))
+        self._calls.advance(self._pointer, call, ctypes.addressof(self._advance))
 
     def advance_bundled(self, application: bytearray) -> None:
         """Works on, where a bundled application makes the call."""
@@ -192,69 +163,60 @@ class CtypesMote:
     def clock(self) -> int:
         """The ticks since boot."""
         clock = ctypes.c_uint64()
-        self._calls.toarmuts_clock(self._pointer, ctypes.byref(clock))
+        self._calls.clock(self._pointer, ctypes.byref(clock))
         return clock.value
+
+    def _due(self, *mote: int) -> tuple[int, int]:
+        clock = ctypes.c_uint64()
+        return self._calls.due(self._pointer, *mote, ctypes.byref(clock)), clock.value
+
+    def close(self) -> int:
+        """Frees the memory."""
+        status = self._finalizer()
+        return 0 if status is None else int(status)
+
+
+class CtypesMote(_CtypesHeld):
+    """A mote."""
+
+    def __init__(self, calls: Any, mote: _Mote) -> None:
+        super().__init__(mote, _Calls(calls.advance_mote, calls.advance_mote_bundled, calls.toarmuts_clock, calls.toarmuts_due,
+                                      calls.toarmuts_close))
+        self._feed, self._feed_input = calls.feed_line, calls.feed_input
+
+    def feed(self, line: bytes) -> int:
+        """Feeds a line of a script."""
+        status: int = self._feed(self._pointer, line, len(line))
+        return status
+
+    def feed_input(self, kind: int, ticks: int, data: bytes) -> int:
+        """Feeds an input."""
+        status: int = self._feed_input(self._pointer, kind, ticks, data, len(data))
+        return status
 
     def due(self) -> tuple[int, int]:
         """The status, and the clock at which the next timer runs out."""
-        clock = ctypes.c_uint64()
-        return self._calls.toarmuts_due(self._pointer, ctypes.byref(clock)), clock.value
-
-    def close(self) -> int:
-        """Frees the memory."""
-        status = self._finalizer()
-        return 0 if status is None else int(status)
+        return self._due()
 
 
-class CtypesNetwork:
-    """A network that is open, until it is closed or nothing refers to it."""
+class CtypesNetwork(_CtypesHeld):
+    """A network."""
 
     def __init__(self, calls: Any, network: _Network) -> None:
-        self._calls, self._network = calls, network
-        self.advance_bytes = bytearray(NETWORK_ADVANCE_SIZE)
-        self._advance = (ctypes.c_char * NETWORK_ADVANCE_SIZE).from_buffer(self.advance_bytes)
-        self._pointer = ctypes.addressof(network)
-        self._finalizer = weakref.finalize(self, _close_network, calls, network)
-        # As a mote's.
-        self._finalizer.atexit = False
+        super().__init__(network, _Calls(calls.advance_network, calls.advance_network_bundled, calls.toarmuts_network_clock,
+                                         calls.toarmuts_network_due, calls.toarmuts_network_close))
+        self._execute = calls.advance_network_script
 
     def execute(self, script: bytes, first: int) -> None:
         """Executes lines of a script from this offset on."""
-        self._calls.advance_network_script(self._pointer, script, first, len(script), ctypes.addressof(self._advance))
-
-    def advance(self, call: bytes) -> None:
-        """Works on."""
-        self._calls.advance_network(self._pointer, call, ctypes.addressof(self._advance))
-
-    def advance_bundled(self, application: bytearray) -> None:
-        """Works on, where a bundled application makes the call."""
-        state = _ApplicationBytes.from_buffer(application)
-        self._calls.advance_network_bundled(self._pointer, ctypes.addressof(state), ctypes.addressof(self._advance))
-
-    def clock(self) -> int:
-        """The ticks since boot."""
-        clock = ctypes.c_uint64()
-        self._calls.toarmuts_network_clock(self._pointer, ctypes.byref(clock))
-        return clock.value
+        self._execute(self._pointer, script, first, len(script), ctypes.addressof(self._advance))
 
     def due(self, mote: int) -> tuple[int, int]:
         """The status, and the clock at which a mote's next timer runs out."""
-        clock = ctypes.c_uint64()
-        return self._calls.toarmuts_network_due(self._pointer, mote, ctypes.byref(clock)), clock.value
-
-    def close(self) -> int:
-        """Frees the memory."""
-        status = self._finalizer()
-        return 0 if status is None else int(status)
+        return self._due(mote)
 
 
-def _close(calls: Any, mote: _Mote) -> int:
-    """Closes a mote; a call of its own, so that the mote's memory lasts until then."""
-    status: int = calls.toarmuts_close(ctypes.addressof(mote))
-    return status
-
-
-def _close_network(calls: Any, network: _Network) -> int:
-    """Closes a network, likewise."""
-    status: int = calls.toarmuts_network_close(ctypes.addressof(network))
+def _close(call: Any, held: _Mote | _Network) -> int:
+    """Closes a mote or a network; a call of its own, so that its memory lasts until then."""
+    status: int = call(ctypes.addressof(held))
     return status

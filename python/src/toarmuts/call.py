@@ -78,11 +78,11 @@ def _word_of(name: str) -> str:
 
 def _about(rule: CallRule) -> str:
     """What a call does, what its arguments may be, and its reply."""
-    told = [f"{name}: {RULES.arguments[name].about}." for name in rule.arguments]
-    told.append(f"The reply is {rule.reply}." if rule.reply else "It has no reply.")
+    lines = [f"{name}: {RULES.arguments[name].about}." for name in rule.arguments]
+    lines.append(f"The reply is {rule.reply}." if rule.reply else "It has no reply.")
     if rule.refusals:
-        told.append("Refused with " + ", ".join(f"{RULES.refusals[number].name} ({number})" for number in rule.refusals) + ".")
-    return f"{rule.about}.\n\n" + "\n".join(told)
+        lines.append("Refused with " + ", ".join(f"{RULES.refusals[number].name} ({number})" for number in rule.refusals) + ".")
+    return f"{rule.about}.\n\n" + "\n".join(lines)
 
 
 class Call:

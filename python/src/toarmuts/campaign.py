@@ -141,10 +141,10 @@ def fault_of(target: Target, case: AnyCase) -> tuple[str | None, Run | NetworkRu
     except ApplicationError as fault:
         where = f"process {fault.process}" if fault.mote is None else f"mote {fault.mote}, process {fault.process}"
         return f"{where} fails: {fault.reason}", None
-    told: object = target.check(run)
-    if told is not None and not isinstance(told, str):
-        raise WrongType(f"check(run) returned {told!r}: it must return a str, or None")
-    return None if told is None else shown(told), run
+    found: object = target.check(run)
+    if found is not None and not isinstance(found, str):
+        raise WrongType(f"check(run) returned {found!r}: it must return a str, or None")
+    return None if found is None else shown(found), run
 
 
 def _draw(target: Target, seed: int, number: int) -> AnyCase:
@@ -226,11 +226,11 @@ def again(target: "Target | str", text: str) -> str | None:
 def _with_file(drawn: Case, text: str, where: str) -> Case:
     """The case of a file, with the applications in Python that were drawn now."""
     scenario = read_scenarios(text)[0]
-    told = scenario.applications
-    if len(drawn.applications) < len(told):
-        raise CampaignError(f"the target draws another case than the file's, which has {len(told)} applications: {where}")
+    of_file = scenario.applications
+    if len(drawn.applications) < len(of_file):
+        raise CampaignError(f"the target draws another case than the file's, which has {len(of_file)} applications: {where}")
     # Names and lists are those of the file, where the lists were made smaller.
-    applications = [by_file if isinstance(now, (str, list, tuple)) else now for by_file, now in zip(told, drawn.applications)]
+    applications = [by_file if isinstance(now, (str, list, tuple)) else now for by_file, now in zip(of_file, drawn.applications)]
     lines = scenario.script.split("\n")
     return make_case(applications, lines if lines[-1] else lines[:-1], scenario.options)
 
@@ -327,7 +327,7 @@ class _Progress:
 
     def __init__(self, seeds: int, count: int) -> None:
         self._seeds, self._all_runs = seeds, seeds * count
-        self._began = self._told = time.monotonic()
+        self._began = self._shown_at = time.monotonic()
         self._is_terminal = sys.stderr.isatty()
         self._width = 0
         self.units: list[Unit] = []
@@ -351,9 +351,9 @@ class _Progress:
         """Prints how far it is, where it is time to, and at the end."""
         now = time.monotonic()
         is_done = len(self.units) == self._seeds
-        if now - self._told < (PAUSE_ON_TERMINAL if self._is_terminal else PAUSE) and not is_done:
+        if now - self._shown_at < (PAUSE_ON_TERMINAL if self._is_terminal else PAUSE) and not is_done:
             return
-        self._told = now
+        self._shown_at = now
         found = len({fault for unit in self.units for fault in unit.found})
         words = f"{len(self.units)} of {self._seeds} seeds, {self.runs:,} of {self._all_runs:,} runs, {found} faults, "
         words += f"{now - self._began:.1f} s{'' if is_done else self._left(now - self._began)}"

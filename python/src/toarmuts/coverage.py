@@ -149,7 +149,7 @@ class Coverage(Counter[Cell]):
         for cell in cells():
             rows.setdefault(cell.what, []).append(f"{cell.how} {self[cell] or '-'}")
         width = max(map(len, rows)) + 2
-        lines = [f"{what:{width}}{', '.join(told)}" for what, told in rows.items()]
+        lines = [f"{what:{width}}{', '.join(names)}" for what, names in rows.items()]
         return "\n".join([*lines, f"{len(self.reached())} of {len(cells())} cells were reached"])
 
 

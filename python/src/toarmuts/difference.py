@@ -13,8 +13,8 @@ from .transcript import Transcript
 class Difference:
     """A line that differs. Where a transcript ends before it, its text is None.
 
-    >>> told = first_difference("> tick 1\\nnote lost 12\\n", "> tick 1\\nnote lost 1\\n")
-    >>> print(told)
+    >>> difference = first_difference("> tick 1\\nnote lost 12\\n", "> tick 1\\nnote lost 1\\n")
+    >>> print(difference)
     line 2 of the transcript differs, at clock 1
               > tick 1
     wanted:   note lost 12
@@ -33,10 +33,10 @@ class Difference:
     """The ticks since boot, by the ticks above it."""
 
     def __str__(self) -> str:
-        told = [f"line {self.line} of the transcript differs, at clock {self.clock}", *(f"          {line}" for line in self.before)]
+        lines = [f"line {self.line} of the transcript differs, at clock {self.clock}", *(f"          {line}" for line in self.before)]
         for name, text in (("wanted:   ", self.wanted), ("found:    ", self.found)):
-            told += [name + ("the transcript ends" if text is None else text), *_in_words(text)]
-        return "\n".join(told)
+            lines += [name + ("the transcript ends" if text is None else text), *_in_words(text)]
+        return "\n".join(lines)
 
 
 def _in_words(text: str | None) -> list[str]:
@@ -62,11 +62,12 @@ class HasTranscript(Protocol):
 TranscriptLike = Union[str, bytes, Transcript, NetworkTranscript, HasTranscript]
 
 
-def _lines(told: TranscriptLike) -> list[str]:
-    transcript: object = told if isinstance(told, (str, bytes, Transcript, NetworkTranscript)) else getattr(told, "transcript", None)
+def _lines(compared: TranscriptLike) -> list[str]:
+    is_transcript = isinstance(compared, (str, bytes, Transcript, NetworkTranscript))
+    transcript: object = compared if is_transcript else getattr(compared, "transcript", None)
     data = getattr(transcript, "data", transcript)
     if not isinstance(data, (str, bytes)):
-        raise WrongType(f"what is compared must be a str, bytes, Transcript or Run, not {type(told).__name__}")
+        raise WrongType(f"what is compared must be a str, bytes, Transcript or Run, not {type(compared).__name__}")
     text = data.decode("utf-8", "replace") if isinstance(data, bytes) else data
     lines = text.split("\n")
     return lines if lines[-1] else lines[:-1]

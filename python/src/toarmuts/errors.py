@@ -74,7 +74,7 @@ NEW_NAMES = {
     "Script": {"text": "serial_text"},
     "Turn": {"answer": "reply", "answered_in": "replied_in"},
 }
-"""The names that 0.1.0 had, and those of today: a program of then is told which one it needs."""
+"""The names that 0.1.0 had, and those of today: the error of a program of then names the one that it needs."""
 
 
 def no_attribute(owner: str, name: str) -> AttributeError:
@@ -93,10 +93,10 @@ class ToarmutsError(Exception):
         return _made_again, (type(self), self.args, self.__dict__)
 
 
-def _made_again(kind: type[ToarmutsError], told: "tuple[object, ...]", members: "dict[str, object]") -> ToarmutsError:
+def _made_again(kind: type[ToarmutsError], arguments: "tuple[object, ...]", members: "dict[str, object]") -> ToarmutsError:
     """The exception with this message and these members, without its class's own arguments."""
     # Not kind.__new__, which for a subclass of MemoryError is that one's, and refuses.
-    error = Exception.__new__(kind, *told)
+    error = Exception.__new__(kind, *arguments)
     error.__dict__.update(members)
     return error
 

@@ -223,8 +223,8 @@ def delivery_table(run: RunLike, source_port: int, destination_port: int) -> Any
 
 
 def parents(run: RunLike) -> dict[int, int]:
-    """The parent of each mote, as DAOs told a root: by the last one of each mote that arrived. A DAO whose lifetime is 0 takes the parent
-    back. Lifetimes that run out aren't counted."""
+    """The parent of each mote, as DAOs report it to a root: by the last one of each mote that arrived. A DAO whose lifetime is 0 takes the
+    parent back. Lifetimes that run out aren't counted."""
     known: dict[int, int] = {}
     for line, _, packet in _packets_of(run):
         if line.is_sent or not isinstance(packet.rpl, Dao):

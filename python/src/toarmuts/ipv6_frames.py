@@ -54,7 +54,7 @@ class Dio(NamedTuple):
 
 
 class Route(NamedTuple):
-    """A target of a DAO, its parent, and for how many units of time; 0 takes the route back. The parent is None where it isn't told."""
+    """A target of a DAO, its parent, and for how many units of time; 0 takes the route back. The parent is None where it isn't named."""
 
     target: IPv6Address
     parent: IPv6Address | None
@@ -401,16 +401,16 @@ def _read_dao(found: _Bytes) -> Dao:
     found.take(16 if head[1] & 0x40 else 0)
     routes: list[Route] = []
     targets: list[IPv6Address] = []
-    is_told = False
+    is_transit = False
     for kind, option in _options(found):
         if kind == 5:
             _require(len(option) >= 2)
-            targets = [] if is_told else targets
-            is_told = False
+            targets = [] if is_transit else targets
+            is_transit = False
             targets += [IPv6Address(option[2:])] if option[1] == 128 and len(option) == 18 else []
         elif kind == 6:
             _require(len(option) in (4, 20))
-            is_told = True
+            is_transit = True
             parent = IPv6Address(option[4:]) if len(option) == 20 else None
             routes += [Route(target, parent, option[3]) for target in targets]
     return Dao(head[0], head[3], bool(head[1] & 0x80), tuple(routes))

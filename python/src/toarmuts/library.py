@@ -29,9 +29,8 @@ FIRST_ROOM = 1 << 16
 MOST_ROOM_KEPT = 1 << 24
 
 ROW_SIZE = 56
-ADVANCE_SIZE = 1488
+ADVANCE_SIZE = 4312
 APPLICATION_SIZE = 152
-NETWORK_ADVANCE_SIZE = 4312
 
 Configuration = tuple[int, int, int, int, int, int]
 """mmem, heap, header, whether there is a quota, quota, quiet: ``struct toarmuts_configuration``."""
@@ -68,11 +67,27 @@ class Outcome(NamedTuple):
         return Why(Reason(self.reason), self.application, self.call)
 
 
-class Held(Protocol):
-    """A mote of the library."""
+class CanAdvance(Protocol):
+    """A mote or a network of the library."""
 
     advance_bytes: bytearray
     """``struct advance`` of native/advance.h, as the last advance left it."""
+
+    def advance(self, call: bytes) -> None:
+        """Makes a call, if it has a kind, and works on; the result is in ``advance_bytes``."""
+
+    def advance_bundled(self, application: bytearray) -> None:
+        """The same, where a bundled application makes the call: the bytes of ``struct toarmuts_application``."""
+
+    def clock(self) -> int:
+        """The ticks since boot."""
+
+    def close(self) -> int:
+        """Frees the memory."""
+
+
+class Held(CanAdvance, Protocol):
+    """A mote of the library."""
 
     def feed(self, line: bytes) -> int:
         """Feeds a line of a script; returns the status."""
@@ -80,45 +95,18 @@ class Held(Protocol):
     def feed_input(self, kind: int, ticks: int, data: bytes) -> int:
         """Feeds an input; returns the status."""
 
-    def advance(self, call: bytes) -> None:
-        """Makes a call, if it has a kind, and works on; the result is in ``advance_bytes``."""
-
-    def advance_bundled(self, application: bytearray) -> None:
-        """The same, where a bundled application makes the call: the bytes of ``struct toarmuts_application``."""
-
-    def clock(self) -> int:
-        """The ticks since boot."""
-
     def due(self) -> tuple[int, int]:
         """The status, and the clock at which the next timer runs out."""
 
-    def close(self) -> int:
-        """Frees the memory."""
 
-
-class HeldNetwork(Protocol):
+class HeldNetwork(CanAdvance, Protocol):
     """A network of the library. Motes are numbered from 1 on."""
-
-    advance_bytes: bytearray
-    """``struct network_advance`` of native/advance_network.h, as the last advance left it."""
 
     def execute(self, script: bytes, first: int) -> None:
         """Executes lines of a script from this offset on, each with its line end; the result is in ``advance_bytes``."""
 
-    def advance(self, call: bytes) -> None:
-        """Makes a call, if it has a kind, and works on; the result is in ``advance_bytes``."""
-
-    def advance_bundled(self, application: bytearray) -> None:
-        """The same, where a bundled application makes the call: the bytes of ``struct toarmuts_application``."""
-
-    def clock(self) -> int:
-        """The ticks since boot."""
-
     def due(self, mote: int) -> tuple[int, int]:
         """The status, and the clock at which a mote's next timer runs out."""
-
-    def close(self) -> int:
-        """Frees the memory."""
 
 
 class Library(Protocol):
@@ -206,10 +194,10 @@ def library() -> Library:
 def _note() -> dict[str, Any]:
     """What the build noted; nothing where the package is used in its repository."""
     try:
-        told: dict[str, Any] = json.loads((HERE / "built.json").read_text(encoding="utf-8"))
+        content: dict[str, Any] = json.loads((HERE / "built.json").read_text(encoding="utf-8"))
     except OSError:
         return {}
-    return told
+    return content
 
 
 def repository() -> pathlib.Path | None:

@@ -272,5 +272,5 @@ class Mote:
         self.close()
 
     def __repr__(self) -> str:
-        names = ", ".join(named.told for named in self._named)
+        names = ", ".join(named.shown for named in self._named)
         return f"<Mote of {names or 'no applications'}{', closed' if self._closed else f', clock {self.clock}'}>"

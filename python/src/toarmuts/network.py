@@ -249,7 +249,7 @@ class Network:
 
     def execute(self, script: bytes, *, until_halt: bool = False) -> int | None:
         """Executes the lines of a script, which ends with a line end, each to rest. Returns the number of a malformed one, before which it
-        stops, or None. A halted network refuses inputs, unless the script is to be executed until the halt."""
+        stops, or None. An exhausted network refuses inputs, unless the script is to be executed until the halt."""
         __tracebackhide__ = True
         self._refuse_at_work()
         with self._lock:
@@ -364,9 +364,14 @@ class Network:
         return self._last_clock if self._closed or self._stepper is None else self._stepper.held.clock()
 
     @property
-    def halted(self) -> bool:
-        """Whether an input took all its rounds: nothing follows."""
+    def exhausted(self) -> bool:
+        """Whether an input used up its rounds: nothing follows."""
         return self._stepper is not None and self._stepper.halted
+
+    @property
+    def halted(self) -> bool:
+        """Deprecated: the old name of ``exhausted``."""
+        return self.exhausted
 
     def printed(self, mote: int | None = None) -> bytes:
         """What was printed so far, by one mote or by all."""
@@ -400,7 +405,7 @@ class Network:
         """The run so far. While a turn awaits its call, the transcript ends before that turn, and a run of these inputs would go on."""
         executed = b"".join(self._stepper.executed) if self._stepper is not None else b""
         inputs = tuple(text_of(line) for line in executed.split(b"\n") if line and not line.startswith(b"#"))
-        return NetworkRun(self.setup, inputs, Status.HALTED if self.halted else Status.FINISHED, None, self.transcript)
+        return NetworkRun(self.setup, inputs, Status.EXHAUSTED if self.exhausted else Status.FINISHED, None, self.transcript)
 
     def pcap(self, path: PathLike, *, ticks_of_a_second: int = TICKS_OF_A_SECOND) -> None:
         """Writes the frames that motes sent so far, with their times, as a file for tshark (IEEE 802.15.4 without FCS)."""
@@ -510,4 +515,4 @@ class NetworkMote:
         return run_of_mote(self.network.setup.motes[self.number - 1], self.transcript)
 
     def __repr__(self) -> str:
-        return f"<NetworkMote {self.number}: {self.network.setup.motes[self.number - 1].told}>"
+        return f"<NetworkMote {self.number}: {self.network.setup.motes[self.number - 1].shown}>"

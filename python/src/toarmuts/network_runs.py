@@ -5,18 +5,18 @@ from dataclasses import dataclass
 from typing import TYPE_CHECKING
 
 from .applications import Named
-from .difference import Difference, TranscriptLike, first_difference
-from .errors import BadScenario, RunEnded, WrongType
+from .errors import BadScenario, WrongType
 from .links import MOST_NUMBER
 from .network_setup import MoteSetup, NetworkScriptLike, NetworkSetup, network_script, setup_lines, size_words
 from .network_transcript import Frame, NetworkEntry, NetworkTranscript
 from .pcap import TICKS_OF_A_SECOND, PathLike, write_packets
+from .result import Result
 from .rules import FIRST_PROCESS, RULES
-from .runs import ENDS, Run
+from .runs import Run
 from .scenario import made_calls
 from .script import MOST_SCRIPT_LINE
 from .transcript import Transcript
-from .values import End, Status, index_of
+from .values import Status, index_of
 
 if TYPE_CHECKING:
     from .network import Network
@@ -43,7 +43,7 @@ def run_of_mote(mote: MoteSetup, transcript: Transcript) -> Run:
 
 
 @dataclass(frozen=True, eq=False)
-class NetworkRun:
+class NetworkRun(Result):
     """A run of a network: its motes and links, its inputs, and its result. It can be pickled, as a :class:`toarmuts.Run`."""
 
     setup: NetworkSetup
@@ -54,32 +54,8 @@ class NetworkRun:
     """The number of the script's malformed line, or None."""
     transcript: NetworkTranscript
 
-    @property
-    def end(self) -> End:
-        """How it ended."""
-        return ENDS[self.status]
-
-    @property
-    def ended(self) -> str:
-        """How it ended, with the number of a malformed line."""
-        return f"{self.end.value} {self.line}" if self.status is Status.BAD_LINE else self.end.value
-
-    @property
-    def finished(self) -> bool:
-        """Whether the script was executed to its end."""
-        return self.status is Status.FINISHED
-
-    def check(self) -> "NetworkRun":
-        """Returns the run; raises RunEnded where the script wasn't executed to its end."""
-        if not self.finished:
-            told = "" if self.line is None else f", {self.inputs[self.line - 1][:100]!r}"
-            raise RunEnded(f"the run ended with: {self.ended}{told}", self)
-        return self
-
-    @property
-    def text(self) -> str:
-        """The transcript as text."""
-        return self.transcript.data.decode("ascii")
+    def _bad_line(self, line: int) -> str:
+        return self.inputs[line - 1][:100]
 
     def mote(self, number: int) -> Run:
         """A mote's part, as a run whose script has the inputs that the mote received."""
@@ -109,10 +85,6 @@ class NetworkRun:
         """The frames that found no room in flight: the network's ``room`` is too small for them."""
         return self.transcript.full()
 
-    def difference(self, wanted: TranscriptLike) -> Difference | None:
-        """The first line in which the transcript differs from another one, or from that of another run; or None."""
-        return first_difference(wanted, self.transcript)
-
     def pcap(self, path: PathLike, *, ticks_of_a_second: int = TICKS_OF_A_SECOND) -> None:
         """Writes the frames that motes sent, with their times, as a file for tshark (IEEE 802.15.4 without FCS)."""
         write_packets(path, self.frames(), ticks_of_a_second)
@@ -122,18 +94,6 @@ class NetworkRun:
         from .picture import draw
 
         return draw(self, first=first, last=last)
-
-    def _repr_svg_(self) -> str | None:
-        """The chart in a notebook; None where no program draws it, and where it would be larger than a megabyte."""
-        from .picture import draw_once
-
-        return draw_once(self, "svg")
-
-    def _repr_html_(self) -> str | None:
-        """The first lines in words, where a notebook shows no chart."""
-        from .picture import draw_once, table_for_notebook
-
-        return None if draw_once(self, "html") is not None else table_for_notebook(self.transcript, self.ended)
 
     def page(self, title: str = "") -> str:
         """A page in HTML: the chart, where it can be drawn, what was run, and each line in words."""
@@ -154,9 +114,6 @@ class NetworkRun:
         if large is not None:
             raise BadScenario(f"a number of a network's script is at most {MOST_NUMBER:,}; this one is more: {large}")
         return "".join(f"{line}\n" for line in [*lines, *self.inputs])
-
-    def __str__(self) -> str:
-        return self.text
 
     def __repr__(self) -> str:
         return f"<NetworkRun of {len(self.setup.motes)} motes: {self.ended}, {len(self.transcript)} lines>"
@@ -213,7 +170,7 @@ def run_setup(setup: NetworkSetup, script: NetworkScriptLike) -> NetworkRun:
     with Network.of(setup) as network:
         network.start()
         malformed = network.execute(lines.data, until_halt=True)
-        data, is_halted = network.transcript.data, network.halted
+        data, is_exhausted = network.transcript.data, network.exhausted
     if malformed is not None:
         return NetworkRun(setup, lines.shown, Status.BAD_LINE, malformed, NetworkTranscript(data + b"bad line %d\n" % malformed))
-    return NetworkRun(setup, lines.shown, Status.HALTED if is_halted else Status.FINISHED, None, NetworkTranscript(data))
+    return NetworkRun(setup, lines.shown, Status.EXHAUSTED if is_exhausted else Status.FINISHED, None, NetworkTranscript(data))

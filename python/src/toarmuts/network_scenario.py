@@ -27,18 +27,9 @@ _SPAN = re.compile(r"([1-9][0-9]{0,9})(?:\.\.([1-9][0-9]{0,9}))?")
 _LINKS = re.compile(r"(?:link (?P<sender>\S+) (?P<receiver>\S+)|(?P<shape>line|ring|mesh) (?P<motes>\S+)"
                     r"|grid (?P<cells>\S+) width (?P<width>\S+)) delay (?P<delay>\S+)"
                     r"(?: every (?P<every>\S+)| lot (?P<lot>\S+) seed (?P<seed>\S+))?")
-_FORMS = {
-    "mote": "mote N WORD.. sets up the next motes, N or N..M, as mote does with these words",
-    "link": "link A B delay D is for two motes that there are, and D is at least 1",
-    "line": "line and mesh N..M delay D are for motes that there are, and D is at least 1",
-    "mesh": "line and mesh N..M delay D are for motes that there are, and D is at least 1",
-    "ring": "ring N..M delay D is for three motes or more that there are, and D is at least 1",
-    "grid": "grid N..M width W delay D is for motes that there are, and W and D are at least 1",
-    "room": "room and rounds take a number up to 4294967295",
-    "rounds": "room and rounds take a number up to 4294967295",
-}
-_FORM_WITH_RULE = ("links are between motes that there are, with a delay of at least 1; "
-                   "every N takes at least 1, lot C seed S at most 65536 for C")
+_FORM_WITH_LOSSES = ("links are between motes that there are, with a delay of at least 1; "
+                     + ", ".join(rule.bounds for rule in RULES.losses))
+_LOSSES = tuple(f" {word} " for rule in RULES.losses for word in rule.words)
 
 
 def _span(word: str) -> range:
@@ -101,8 +92,8 @@ def _add_links(network: Network, line: str) -> None:
 
 def _form_of(word: str, line: str) -> str:
     """What a malformed line of this first word should be."""
-    has_rule = word in ("link", "line", "mesh", "ring", "grid") and (" every " in line or " lot " in line)
-    return _FORM_WITH_RULE if has_rule else _FORMS[word]
+    says_losses = word in ("link", "line", "mesh", "ring", "grid") and any(each in line for each in _LOSSES)
+    return _FORM_WITH_LOSSES if says_losses else RULES.setup[word]
 
 
 def _set_up(network: Network, word: str, line: str) -> None:
@@ -146,7 +137,7 @@ class NetworkScenario(Scenario):
         word = line.partition(" ")[0]
         if _OF_TRANSCRIPT.match(line):
             self._entries.append(f"{line}\n" * count)
-        elif word in _FORMS:
+        elif word in RULES.setup:
             for _ in range(count):
                 self._take_setup(word, line)
         else:
@@ -168,10 +159,10 @@ class NetworkScenario(Scenario):
     def _take_input(self, word: str, line: str) -> None:
         read_only_by_program(line)
         try:
-            told = read_input(line, len(self.network.setup.motes))
+            words = read_input(line, len(self.network.setup.motes))
         except BadInput:
-            told = None
-        if told is None:
+            words = None
+        if words is None:
             number = int(word) if re.fullmatch("[0-9]{1,10}", word) else None
             if number is not None and not 1 <= number <= len(self.network.setup.motes):
                 raise BadScenario(f"there is no mote {number}")

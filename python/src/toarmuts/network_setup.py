@@ -38,9 +38,9 @@ class MoteSetup:
     options: Options
 
     @property
-    def told(self) -> str:
+    def shown(self) -> str:
         """The names of its applications."""
-        return " ".join(named.told for named in self.named) or "no applications"
+        return " ".join(named.shown for named in self.named) or "no applications"
 
     def packed(self) -> bytes:
         """The bytes of ``struct toarmuts_network_mote``."""

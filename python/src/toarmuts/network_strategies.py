@@ -157,23 +157,23 @@ class NetworkMachine(RuleBasedStateMachine):
         """Shows a run that fails as a file."""
         comment = f"{type(fault).__name__}: {fault}" if isinstance(fault, ApplicationError) else ""
         try:
-            told = run.script(comment=comment)
+            text_of_run = run.script(comment=comment)
         except BadScenario as reason:
-            told = f"# no file can have this run: {reason}\n{run.text}"
+            text_of_run = f"# no file can have this run: {reason}\n{run.text}"
         if currently_in_test_context():
-            note(told)
+            note(text_of_run)
         on_failure = type(self).on_failure
         if on_failure is not None:
-            on_failure(told)
+            on_failure(text_of_run)
 
     def _takes_ticks(self) -> bool:
-        return "tick" in self.kinds and not self.network.halted
+        return "tick" in self.kinds and not self.network.exhausted
 
     def _takes_texts(self) -> bool:
-        return "text" in self.kinds and not self.network.halted
+        return "text" in self.kinds and not self.network.exhausted
 
     def _takes_frames(self) -> bool:
-        return "frame" in self.kinds and not self.network.halted
+        return "frame" in self.kinds and not self.network.exhausted
 
     @precondition(_takes_ticks)
     @rule(ticks=st.integers(0, 40))

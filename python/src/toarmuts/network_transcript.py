@@ -3,10 +3,11 @@ from __future__ import annotations
 
 import enum
 import re
-from collections.abc import Iterator, Mapping, Sequence
+from collections.abc import Iterator, Mapping
 from dataclasses import dataclass
-from typing import Any, NamedTuple, overload
+from typing import Any, NamedTuple
 
+from .entries import Entries, data_of
 from .errors import BadTranscript, WrongType
 from .transcript import Entry, Note, NoteKind, Transcript
 from .values import index_of
@@ -29,8 +30,10 @@ class NetworkKind(enum.Enum):
     """A frame found no room in flight."""
     MISSED = "missed"
     """A frame, or an input from outside, arrived at a mote that was halted."""
+    EXHAUSTED = "halt"
+    """The last input used up its rounds."""
     HALT = "halt"
-    """The last input took all its rounds."""
+    """Deprecated: the old name of EXHAUSTED."""
     BAD_LINE = "bad line"
     TOO_LONG = "too long"
 
@@ -72,7 +75,7 @@ class NetworkEntry:
         if self.kind is NetworkKind.MISSED:
             what = "an input from outside" if self.sender is None else f"a frame from mote {self.sender}"
             return f"mote {self.mote} was halted, and misses {what}"
-        return {NetworkKind.HALT: "the network halted: an input took all its rounds", NetworkKind.TOO_LONG: "the script is too long",
+        return {NetworkKind.EXHAUSTED: "the network halted: an input took all its rounds", NetworkKind.TOO_LONG: "the script is too long",
                 NetworkKind.BAD_LINE: f"line {self.text[9:]} of the script is malformed"}[self.kind]
 
 
@@ -99,7 +102,7 @@ def _number_of(mote: object) -> int:
     return number
 
 
-class NetworkTranscript(Sequence[NetworkEntry]):
+class NetworkTranscript(Entries[NetworkEntry]):
     """The lines of a network's transcript, merged, in their order.
 
     >>> transcript = NetworkTranscript("= 3\\n2 > tick 3\\n2 > frame 0a\\nlost 2 1\\n")
@@ -109,16 +112,20 @@ class NetworkTranscript(Sequence[NetworkEntry]):
     '> tick 3\\n> frame 0a\\n'
     """
 
+    _kind = "NetworkTranscript"
+
     def __init__(self, text: str | bytes, *, lines_before: int = 0, clock_before: int = 0,
                  before: Mapping[int, Place] | None = None) -> None:
-        if not isinstance(text, (str, bytes)):
-            raise WrongType(f"a transcript must be a str or bytes, not {type(text).__name__}")
-        self.data = text.encode("utf-8", "surrogatepass") if isinstance(text, str) else text
-        """Its text as bytes."""
+        self._data = data_of(text)
         self._lines_before, self._clock_before = lines_before, clock_before
         self._before = dict(before or {})
         self._by_mote: dict[int, Transcript] | None = None
         self._entries: list[NetworkEntry] | None = None
+
+    @property
+    def data(self) -> bytes:
+        """Its text as bytes."""
+        return self._data
 
     def _lines(self) -> list[bytes]:
         lines = self.data.split(b"\n")
@@ -162,37 +169,8 @@ class NetworkTranscript(Sequence[NetworkEntry]):
     def __len__(self) -> int:
         return self.data.count(b"\n") + (not self.data.endswith(b"\n") and self.data != b"")
 
-    @overload
-    def __getitem__(self, place: int) -> NetworkEntry: ...
-
-    @overload
-    def __getitem__(self, place: slice) -> list[NetworkEntry]: ...
-
-    def __getitem__(self, place: int | slice) -> NetworkEntry | list[NetworkEntry]:
-        return self._all()[place]
-
-    def __iter__(self) -> Iterator[NetworkEntry]:
-        return iter(self._all())
-
-    def __contains__(self, entry: object) -> bool:
-        if isinstance(entry, (str, bytes)):
-            raise WrongType("a transcript has entries: look for a text in its data, or in the text of its run")
-        return entry in self._all()
-
-    def __eq__(self, other: object) -> bool:
-        return isinstance(other, NetworkTranscript) and self.data == other.data
-
-    def __hash__(self) -> int:
-        return hash(self.data)
-
     def __reduce__(self) -> tuple[Any, ...]:
         return _transcript_of, (self.data, self._lines_before, self._clock_before, self._before)
-
-    def __str__(self) -> str:
-        return self.data.decode("ascii", "replace")
-
-    def __repr__(self) -> str:
-        return f"<NetworkTranscript of {len(self)} lines>"
 
     def _repr_html_(self) -> str | None:
         """The first lines in words, in a notebook."""

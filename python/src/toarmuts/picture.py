@@ -51,7 +51,8 @@ def program(crate: str = "mote_picture") -> pathlib.Path | None:
     if named:
         return pathlib.Path(named)
     root = repository()
-    built = root / "crates" / crate / "out" / crate if root is not None else None
+    # The program for networks is another name of the same one.
+    built = root / "crates/mote_picture/out" / crate if root is not None else None
     if built is not None and os.access(built, os.X_OK) and not belongs_to_another(built):
         return built
     found = shutil.which(crate.replace("_", "-")) or shutil.which(crate)
@@ -64,7 +65,7 @@ def drawing_of(run: Run | NetworkRun, first: int | None = None, last: int | None
             ["--unfolded"] if unfolded else []]
     words = [word for words in part for word in words]
     if isinstance(run, Run):
-        names = [named.told for named in run.named]
+        names = [named.shown for named in run.named]
         ends = ["--"] if any(name.startswith("-") for name in names) else []
         sizes = [word for word in run.options.words() if word != "--quiet"]
         return Drawing("mote_picture", [*sizes, *words, *ends, *names], run.transcript.data)
@@ -74,7 +75,7 @@ def drawing_of(run: Run | NetworkRun, first: int | None = None, last: int | None
 def _script_of(run: NetworkRun) -> bytes:
     """The motes and links of a network, as far as a chart needs them: names of applications, and delays."""
     links = [replace(link, loss=Loss()) for link in run.setup.links]
-    names = [" ".join(named.told if _NAME.fullmatch(named.told) else "calls" for named in mote.named) for mote in run.setup.motes]
+    names = [" ".join(named.shown if _NAME.fullmatch(named.shown) else "calls" for named in mote.named) for mote in run.setup.motes]
     return "".join(f"{line}\n" for line in setup_lines(run.setup.with_links(links), names)).encode()
 
 
@@ -192,13 +193,13 @@ def page(run: Run, title: str = "") -> str:
     parts = [f"<p>It ended with: {html.escape(run.ended)}. Options: {html.escape(options)}.</p>", "<h2>Applications</h2><ol start=4>"]
     parts += [f"<li><code>{html.escape(application)}</code></li>" for application in run.applications]
     parts += ["</ol>"]
-    return _page(run, title, f"A run of {', '.join(named.told for named in run.named) or 'no applications'}", parts,
+    return _page(run, title, f"A run of {', '.join(named.shown for named in run.named) or 'no applications'}", parts,
                  run.script.decode("utf-8", "replace"))
 
 
 def page_of_network(run: NetworkRun, title: str = "") -> str:
     """The same of a network."""
-    motes = [" ".join([mote.told, *size_words(mote.options)]) for mote in run.setup.motes]
+    motes = [" ".join([mote.shown, *size_words(mote.options)]) for mote in run.setup.motes]
     parts = [f"<p>It ended with: {html.escape(run.ended)}. Frames sent: {len(run.frames()):,}; lost: {len(run.lost()):,}; without room in "
              f"flight: {len(run.full()):,}.</p>", "<h2>Motes</h2><ol>"]
     parts += [*(f"<li><code>{html.escape(mote)}</code></li>" for mote in motes), "</ol><h2>Links</h2>"]

@@ -23,7 +23,7 @@ Made = TypeVar("Made")
 class PlainRow:
     """A row with the members of the compiled one."""
 
-    __slots__ = ("_source", "_data", "index", "clock", "_begin", "_answer", "_asked", "_length", "_told", "_call", "_kind", "_detail",
+    __slots__ = ("_source", "_data", "index", "clock", "_begin", "_answer", "_asked", "_length", "_content", "_call", "_kind", "_detail",
                  "_process", "_event", "_reply", "_refusal", "_call_kind", "_asked_kind")
 
     _source: "Source"
@@ -36,7 +36,7 @@ class PlainRow:
     _answer: int
     _asked: int
     _length: int
-    _told: int
+    _content: int
     _call: int
     _kind: int
     _detail: int
@@ -69,8 +69,8 @@ class PlainWords(Generic[Made]):
     def __get__(self, row: PlainRow | None, owner: type[Any]) -> "PlainWords[Made] | Made":
         if row is None:
             return self
-        first, behind, place = (row._call, row._length, 0) if self._are_call else (row._told, row._call - ARROW, row._detail)
-        words, known = row._data[row._begin + first:row._begin + behind], self._known[place]
+        first, end, place = (row._call, row._length, 0) if self._are_call else (row._content, row._call - ARROW, row._detail)
+        words, known = row._data[row._begin + first:row._begin + end], self._known[place]
         made = known.get(words)
         if made is None:
             try:
@@ -90,7 +90,7 @@ def make_plain(types: tuple[type[Any], ...], source: "Source", data: bytes, tabl
     made = []
     for index, numbers in enumerate(_FORMAT.iter_unpack(memoryview(table)[first * ROW_SIZE:(first + count) * ROW_SIZE]), first):
         row = types[numbers[7]]()
-        (row._begin, row.clock, row._answer, row._asked, row._length, row._told, row._call, row._kind, row._detail, row._process,
+        (row._begin, row.clock, row._answer, row._asked, row._length, row._content, row._call, row._kind, row._detail, row._process,
          row._event, row._reply, row._refusal, row._call_kind, row._asked_kind) = numbers
         row._source, row._data, row.index = source, data, index
         row.clock = None if clock is None else clock + row.clock

@@ -84,6 +84,16 @@ class SizeRule:
 
 
 @dataclass(frozen=True)
+class LossRule:
+    """Which frames of a link are lost: how a line says it, its first words, and the bounds of its numbers."""
+
+    form: str
+    words: tuple[str, ...]
+    bounds: str
+    about: str
+
+
+@dataclass(frozen=True)
 class Rules:
     """All rules of the file. The applications that aren't of the program mote are made here; the library has the others."""
 
@@ -97,6 +107,9 @@ class Rules:
     refusals: Mapping[int, RefusalRule]
     origins: tuple[str, ...]
     events: Mapping[int, EventRule]
+    losses: tuple[LossRule, ...]
+    setup: Mapping[str, str]
+    """What a line that sets a network up should be, by its first word."""
 
 
 def _call(kind: int, row: dict[str, Any]) -> CallRule:
@@ -107,6 +120,10 @@ def _event(row: dict[str, Any]) -> EventRule:
     return EventRule(row["name"], row["code"], row["reserved"], tuple(row["origins"]), row["about"])
 
 
+def _loss(row: dict[str, Any]) -> LossRule:
+    return LossRule(row["form"], tuple(row["words"]), row["bounds"], row["about"])
+
+
 def _size(row: dict[str, Any]) -> SizeRule:
     one_of = tuple(row.get("one_of", ()))
     return SizeRule(row["name"], row.get("least", 0), row.get("most", 0), row.get("multiple_of", 1), one_of, row["default"])
@@ -114,18 +131,20 @@ def _size(row: dict[str, Any]) -> SizeRule:
 
 def read_rules(place: pathlib.Path = PLACE) -> Rules:
     """Reads the file."""
-    told = json.loads(place.read_text(encoding="utf-8"))
+    content = json.loads(place.read_text(encoding="utf-8"))
     return Rules(
-        applications=tuple(told["applications"]),
-        not_of_mote=tuple(told["not_of_mote"]),
-        limits=told["limits"],
-        sizes={row["name"]: _size(row) for row in told["sizes"]},
-        arguments={row["name"]: ArgumentRule(**row) for row in told["arguments"]},
-        calls={row["name"]: _call(kind, row) for kind, row in enumerate(told["calls"], 1)},
-        replies=tuple(told["replies"]),
-        refusals={row["number"]: RefusalRule(**row) for row in told["refusals"]},
-        origins=tuple(told["origins"]),
-        events={row["code"]: _event(row) for row in told["events"]},
+        applications=tuple(content["applications"]),
+        not_of_mote=tuple(content["not_of_mote"]),
+        limits=content["limits"],
+        sizes={row["name"]: _size(row) for row in content["sizes"]},
+        arguments={row["name"]: ArgumentRule(**row) for row in content["arguments"]},
+        calls={row["name"]: _call(kind, row) for kind, row in enumerate(content["calls"], 1)},
+        replies=tuple(content["replies"]),
+        refusals={row["number"]: RefusalRule(**row) for row in content["refusals"]},
+        origins=tuple(content["origins"]),
+        events={row["code"]: _event(row) for row in content["events"]},
+        losses=tuple(_loss(row) for row in content["losses"]),
+        setup={word: row["form"] for row in content["setup"] for word in row["words"]},
     )
 
 

@@ -6,23 +6,21 @@ from dataclasses import dataclass
 
 from .applications import ApplicationLike, Named, no_application, read_applications
 from .calls import PacketSend, Print
-from .difference import Difference, TranscriptLike, first_difference
-from .errors import OutOfMemory, RunEnded, ToarmutsError, TooManyApplications, WrongType
+from .errors import OutOfMemory, ToarmutsError, TooManyApplications, WrongType
 from .library import BAD_SIZES, KIB_OF_A_RUN, NO_APPLICATION, STACK_TOO_SMALL, TOO_MANY_APPLICATIONS, Outcome, library
 from .options import Options, one_of
+from .result import Result
 from .rules import RULES
 from .script import ScriptLike, script_bytes, script_lines
 from .stepper import BAD_LINE, HALTED, Stepper, refuse, stack_too_small
 from .transcript import Ending, Entry, Note, NoteKind, Transcript, Turn
-from .values import End, Status
+from .values import Status
 
 MOST_SCRIPT = RULES.limits["bytes_of_a_script"]
 
-ENDS = {Status.FINISHED: End.FINISHED, Status.BAD_LINE: End.BAD_LINE, Status.HALTED: End.HALTED, Status.TOO_LONG: End.TOO_LONG}
-
 
 @dataclass(frozen=True, eq=False)
-class Run:
+class Run(Result):
     """A run: its applications, script and options, and its result. Two runs are never equal; their transcripts may be. Each run can be
     pickled: of applications in Python only the names are kept.
 
@@ -50,21 +48,6 @@ class Run:
         apart: ``echo (in Python)``. :meth:`again` runs all of them once more."""
         return tuple(named.line if named.line is not None else _name_in_python(named) for named in self.named)
 
-    @property
-    def end(self) -> End:
-        """How it ended."""
-        return ENDS[self.status]
-
-    @property
-    def ended(self) -> str:
-        """How it ended, in the words of ``ends`` in a scenario, with the number of a malformed line."""
-        return f"{self.end.value} {self.line}" if self.status is Status.BAD_LINE else self.end.value
-
-    @property
-    def finished(self) -> bool:
-        """Whether the script was executed to its end."""
-        return self.status is Status.FINISHED
-
     def again(self, script: ScriptLike | None = None, *, options: Options | None = None) -> "Run":
         """Runs the same applications, made anew, over this script or the same one. An object that was passed as an application goes on as
         it is. Raises NoApplication of a run that was pickled, where an application is in Python.
@@ -75,22 +58,8 @@ class Run:
         data = self.script if script is None else script_bytes(script)
         return _run(list(self.named), data, self.options if options is None else one_of(Options(), options))
 
-    def check(self) -> "Run":
-        """Returns the run; raises RunEnded where the script wasn't executed to its end."""
-        if not self.finished:
-            raise RunEnded(f"the run ended with: {self.ended}{self._bad_line_words()}", self)
-        return self
-
-    def _bad_line_words(self) -> str:
-        """The script's malformed line, if any, in quotes, which show its blanks and line ends."""
-        if self.line is None:
-            return ""
-        return f", {script_lines(self.script)[self.line - 1][:100].decode('utf-8', 'replace')!r}"
-
-    @property
-    def text(self) -> str:
-        """The transcript as text."""
-        return self.transcript.data.decode("ascii")
+    def _bad_line(self, line: int) -> str:
+        return script_lines(self.script)[line - 1][:100].decode("utf-8", "replace")
 
     @property
     def entries(self) -> Transcript:
@@ -105,10 +74,6 @@ class Run:
         """The frames that were sent."""
         return self.transcript.sent()
 
-    def difference(self, wanted: TranscriptLike) -> Difference | None:
-        """The first line in which the transcript differs from another one, or from that of another run; or None."""
-        return first_difference(wanted, self.transcript)
-
     def scenario(self, *, name: str | None = None, comment: str = "", transcript: bool = True) -> str:
         """The text of a scenario file with this run (docs/scenarios.md). Applications in Python become the calls that they made."""
         from .scenario import write
@@ -121,30 +86,15 @@ class Run:
 
         return draw(self, first=first, last=last, unfolded=unfolded)
 
-    def _repr_svg_(self) -> str | None:
-        """The picture in a notebook; None where no program draws it, and where it would be larger than a megabyte."""
-        from .picture import draw_once
-
-        return draw_once(self, "svg")
-
-    def _repr_html_(self) -> str | None:
-        """The first entries in words, where a notebook shows no picture."""
-        from .picture import draw_once, table_for_notebook
-
-        return None if draw_once(self, "html") is not None else table_for_notebook(self.transcript, self.ended)
-
     def page(self, title: str = "") -> str:
         """A page in HTML: the picture, where it can be drawn, what was run, and each entry in words."""
         from .picture import page
 
         return page(self, title)
 
-    def __str__(self) -> str:
-        return self.text
-
     def __repr__(self) -> str:
         lines = self.transcript.data.count(b"\n")
-        return f"<Run of {', '.join(named.told for named in self.named) or 'no applications'}: {self.ended}, {lines} lines>"
+        return f"<Run of {', '.join(named.shown for named in self.named) or 'no applications'}: {self.ended}, {lines} lines>"
 
 
 def run(applications: Iterable[ApplicationLike] = (), script: ScriptLike = "", *, mmem: int = 4096, heap: int = 4096, header: int = 16,
@@ -184,8 +134,8 @@ def _run(named: list[Named], script: bytes, options: Options) -> Run:
 
 def _name_in_python(named: Named) -> str:
     """The name of an application in Python, unlike the mote's own names and a list of calls."""
-    is_taken = named.told in RULES.applications or named.told == "calls"
-    return f"{named.told} (in Python)" if is_taken else named.told
+    is_taken = named.shown in RULES.applications or named.shown == "calls"
+    return f"{named.shown} (in Python)" if is_taken else named.shown
 
 
 def _run_by_library(named: list[Named], script: bytes, options: Options) -> Run:

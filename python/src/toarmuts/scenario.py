@@ -154,8 +154,8 @@ class Scenario:
         else:
             raise BadScenario(f"no application {rest}")
 
-    def _refuse_twice(self, word: str, stands: bool) -> None:
-        if stands:
+    def _refuse_twice(self, word: str, is_given: bool) -> None:
+        if is_given:
             raise _BadPlace(f"{word} is given twice")
 
     def _set_outcome(self, word: str, rest: str) -> None:
@@ -254,12 +254,12 @@ def _parts(text: str) -> Iterator[tuple[str | None, int, list[str]]]:
         if line and not line.startswith("#"):
             raise BadScenario(f"line {place + 1}: a line above the first run")
     names: set[str] = set()
-    for head, behind in zip(heads, [*heads[1:], len(lines)]):
+    for head, end in zip(heads, [*heads[1:], len(lines)]):
         name = lines[head][3:]
         if not name or name in names:
             raise BadScenario(f"line {head + 1}: {f'two runs have the name {name}' if name else 'a run has no name'}")
         names.add(name)
-        yield name, head + 2, lines[head + 1:behind]
+        yield name, head + 2, lines[head + 1:end]
 
 
 def _scenario_of(name: str | None, first_line: int, lines: list[str]) -> Scenario:
@@ -312,7 +312,7 @@ def read_file(path: Union[str, pathlib.Path]) -> list[Scenario]:
         raise BadScenario(f"{path}: {fault}") from None
 
 
-def write(told: Run, *, name: str | None = None, comment: str = "", transcript: bool = True) -> str:
+def write(run: Run, *, name: str | None = None, comment: str = "", transcript: bool = True) -> str:
     """The text of a file with a run."""
     if name is not None and not isinstance(name, str):
         raise WrongType(f"a run's name must be a str or None, not {type(name).__name__}")
@@ -326,12 +326,12 @@ def write(told: Run, *, name: str | None = None, comment: str = "", transcript: 
         raise BadScenario(str(fault)) from None
     lines = [f"# {line}".rstrip() for line in comment.splitlines()]
     lines += [f"== {name}"] if name is not None else []
-    lines += _option_lines(told.options)
-    lines += [_application_line(told, place) for place in range(len(told.named))]
-    lines += _script_lines(told.script)
+    lines += _option_lines(run.options)
+    lines += [_application_line(run, place) for place in range(len(run.named))]
+    lines += _script_lines(run.script)
     if transcript:
-        lines += told.text.splitlines()
-        lines += [f"ends {told.ended}"] if not told.text or not told.finished else []
+        lines += run.text.splitlines()
+        lines += [f"ends {run.ended}"] if not run.text or not run.finished else []
     return "\n".join(lines) + "\n"
 
 
@@ -341,10 +341,10 @@ def _option_lines(options: Options) -> list[str]:
     return [f"{name} {size}" for name, size in sizes if size != getattr(usual, name)] + (["quiet"] if options.quiet else [])
 
 
-def _application_line(told: Run, place: int) -> str:
-    named = told.named[place]
+def _application_line(run: Run, place: int) -> str:
+    named = run.named[place]
     if named.line is None:
-        return " ".join(["calls", ", ".join(made_calls(told.transcript, FIRST_PROCESS + place))]).rstrip()
+        return " ".join(["calls", ", ".join(made_calls(run.transcript, FIRST_PROCESS + place))]).rstrip()
     return named.line if named.line.startswith("calls") else f"app {named.line}"
 
 

@@ -5,25 +5,25 @@ import functools
 import struct
 from collections import defaultdict
 from collections.abc import Callable, Sequence
-from typing import ClassVar, Protocol
+from typing import ClassVar
 
 from .applications import Application, Bundled, GeneratorApplication, Made, Named, why_no_call
 from .call import Call
 from .errors import ApplicationError, MoteError, OutOfMemory, StackTooSmall, ToarmutsError, words_of
 from .library import (AWAITS_CALL, BAD_SIZES, CLOSED, NO_CALL, NO_INPUT, NO_TIMER, NO_TURN, NOT_AT_REST, OUT_OF_MEMORY, STACK_TOO_SMALL,
-                      TOO_MANY_INPUTS, KIB_OF_A_RUN, KIB_OF_A_STEP, Held, HeldNetwork, library)
+                      TOO_MANY_INPUTS, KIB_OF_A_RUN, KIB_OF_A_STEP, CanAdvance, Held, HeldNetwork, library)
 from .numbers import Refusal, ReplyKind
 from .options import Options
 from .rules import FIRST_PROCESS
 from .transcript import Transcript
 from .values import Callback, Event, Payload, Reply, Stats, Stimulus
 
-# struct advance of native/advance.h and struct network_advance of native/advance_network.h, up to their lines. In the second one a mote,
-# and the number of bytes that were executed of a script, follow the turn.
-_ADVANCE, _NETWORK_ADVANCE = struct.Struct("=4I6IQ6I128s"), struct.Struct("=4I6IQ6I128sI4xQ")
+# struct advance of native/advance.h, up to its lines. Of a network, the mote whose turn it is and the number of bytes that were executed of
+# its script follow the turn.
+_ADVANCE = struct.Struct("=4I6IQ6I128sI4xQ")
 _TURN_BEGINS, _TURN_ENDS = 4, 18
 # The steps of the library, and one for a malformed line.
-_TURN, _ENTRY, _REST, _HALT, _MALFORMED = range(5)
+_TURN, _ENTRY, _REST, _HALTED, _MALFORMED = range(5)
 _EVENT, _CALLBACK, _ANSWER = range(3)
 BAD_LINE, HALTED = 2, 3
 _NO_CALL = bytes(160)
@@ -99,25 +99,11 @@ def _asking(application: Application, stimulus: Stimulus) -> Callable[[], Call]:
     return functools.partial(application.turn, stimulus)
 
 
-class CanAdvance(Protocol):
-    """A mote or a network of the library."""
-
-    advance_bytes: bytearray
-
-    def advance(self, call: bytes) -> None:
-        """Makes a call, if it has a kind, and works on; the result is in ``advance_bytes``."""
-
-    def advance_bundled(self, application: bytearray) -> None:
-        """The same, where a bundled application makes the call."""
-
-
 class Worker:
     """Works what the library holds from rest to rest, and asks applications in Python for their calls."""
 
     what: ClassVar[str]
     """Which of the two it is, in messages."""
-    _numbers: ClassVar[struct.Struct]
-    """What the library's bytes begin with; the lines follow."""
 
     def __init__(self, worked: CanAdvance) -> None:
         self._worked = worked
@@ -153,7 +139,7 @@ class Worker:
             elif step == _ENTRY:
                 made = _NO_CALL
             else:
-                self.halted = step == _HALT
+                self.halted = step == _HALTED
                 return step
 
     def _pass(self, made: bytes | bytearray | None) -> None:
@@ -175,19 +161,19 @@ class Worker:
 
     def _note(self) -> int:
         """Notes the result of the library's work, once."""
-        told = self._worked.advance_bytes
-        numbers = self._numbers.unpack_from(told)
+        result = self._worked.advance_bytes
+        numbers = _ADVANCE.unpack_from(result)
         status, step, submitted, length = numbers[:_TURN_BEGINS]
         if status == _NOTED:
             return int(step)
-        made = bytes(told[self._numbers.size:self._numbers.size + length])
+        made = bytes(result[_ADVANCE.size:_ADVANCE.size + length])
         line_count = self.line_count + made.count(b"\n")
         turn = numbers[_TURN_BEGINS:_TURN_ENDS]
         awaiting = self._read_turn(turn) if step == _TURN and not status else None if submitted else self.awaiting
-        mote, length = numbers[_TURN_ENDS:] or (0, 0)
+        mote, length = numbers[_TURN_ENDS:]
         executed = self._script[self._first:self._first + length]
         # From here on no function is called before the lines are kept, so no interrupt comes between.
-        told[:4] = _NOTED_BYTES
+        result[:4] = _NOTED_BYTES
         self.mote, self.awaiting = mote, awaiting
         # Where nothing was done for lack of memory, the library must still receive the call; and where none was passed.
         if self._made and not self._is_script and (submitted or status not in (STACK_TOO_SMALL, OUT_OF_MEMORY)):
@@ -258,7 +244,7 @@ class Worker:
 class Stepper(Worker):
     """Works a mote."""
 
-    what, _numbers = "mote", _ADVANCE
+    what = "mote"
 
     def __init__(self, applications: list[Named], options: Options) -> None:
         self.applications: list[Made] = [named.make() for named in applications]
@@ -285,7 +271,7 @@ class Stepper(Worker):
 class NetworkStepper(Worker):
     """Works a network. Motes are numbered from 1 on."""
 
-    what, _numbers = "network", _NETWORK_ADVANCE
+    what = "network"
 
     def __init__(self, held: HeldNetwork, applications: Sequence[list[Made]], transcript_of: Callable[[int], Transcript]) -> None:
         self.held, self.applications = held, applications

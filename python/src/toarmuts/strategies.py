@@ -261,14 +261,14 @@ class MoteMachine(RuleBasedStateMachine):
         transcript."""
         is_whole = not isinstance(fault, ApplicationError)
         try:
-            told = run.scenario(comment="" if is_whole else f"{type(fault).__name__}: {fault}", transcript=is_whole)
+            text_of_run = run.scenario(comment="" if is_whole else f"{type(fault).__name__}: {fault}", transcript=is_whole)
         except BadScenario as reason:
-            told = f"# no scenario file can have this run: {reason}\n{run.text}"
+            text_of_run = f"# no scenario file can have this run: {reason}\n{run.text}"
         if currently_in_test_context():
-            note(told)
+            note(text_of_run)
         on_failure = type(self).on_failure
         if on_failure is not None:
-            on_failure(told)
+            on_failure(text_of_run)
 
     def _goes_on(self) -> bool:
         return not self.mote.halted

@@ -7,10 +7,11 @@ from __future__ import annotations
 
 import enum
 import re
-from typing import TYPE_CHECKING, Any, Iterator, Sequence, Union, overload
+from typing import TYPE_CHECKING, Any, Union
 
 from .call import Call
 from .calls import Print
+from .entries import Entries, data_of
 from .errors import BadCall, BadTranscript, WrongType, no_attribute, repr_of
 from .library import ROW_SIZE, library
 from .numbers import Origin, Refusal
@@ -81,9 +82,9 @@ class Entry(Row):
         """The number of its line in the whole transcript, from 1 on."""
         return self._source.lines_before + self.index + 1
 
-    def _words(self, first: int, behind: int | None = None) -> bytes:
+    def _words(self, first: int, end: int | None = None) -> bytes:
         begin = self._begin
-        return self._source.data[begin + first:begin + (self._length if behind is None else behind)]
+        return self._source.data[begin + first:begin + (self._length if end is None else end)]
 
     @property
     def text(self) -> str:
@@ -207,7 +208,7 @@ class Input(Entry):
     @property
     def value(self) -> Union[int, bytes]:
         """The ticks, or the bytes."""
-        words = self._words(self._told)
+        words = self._words(self._content)
         return self._number(words) if self._detail == 0 else self._bytes(words)
 
     @property
@@ -248,7 +249,7 @@ class Note(Entry):
         """The bytes of a frame that was sent; none where one was lost."""
         if self._detail == 0:
             return b""
-        words = self._words(self._told)
+        words = self._words(self._content)
         return b"" if words == b"-" else self._bytes(words)
 
 
@@ -260,7 +261,7 @@ class Ending(Entry):
     @property
     def bad_line(self) -> int | None:
         """The number of the script's malformed line, or None."""
-        return self._number(self._words(self._told)) if self._kind == BAD_LINE else None
+        return self._number(self._words(self._content)) if self._kind == BAD_LINE else None
 
 
 _CLASSES: tuple[type[Entry], ...] = (Turn, Input, Note, Ending, Ending, Ending, Ending)
@@ -283,7 +284,7 @@ def check_process(process: object) -> int | None:
     return number
 
 
-class Transcript(Sequence[Entry]):
+class Transcript(Entries[Entry]):
     """The entries of a transcript, made on demand.
 
     >>> transcript = Transcript("> tick 10\\n4 event 136 0 -> timer-stop 9\\n4 answer refused 7 -> wait\\n")
@@ -292,13 +293,13 @@ class Transcript(Sequence[Entry]):
     (10, 4, 'EVENT', Event(EventCode.TIMER, 0), TimerStop(9), 'BAD_NAME')
     """
 
+    _kind = "Transcript"
+
     def __init__(self, text: str | bytes, *, quiet: bool = False, lines_before: int = 0, clock_before: int = 0) -> None:
-        if not isinstance(text, (str, bytes)):
-            raise WrongType(f"a transcript must be a str or bytes, not {type(text).__name__}")
+        data = data_of(text)
         for name, number in (("lines_before", lines_before), ("clock_before", clock_before)):
             if isinstance(number, bool) or not isinstance(number, int) or number < 0:
                 raise WrongType(f"{name} must be an int of at least 0, not {repr_of(number)}")
-        data = text.encode("utf-8", "surrogatepass") if isinstance(text, str) else text
         self._source = Source(data, quiet, lines_before, clock_before)
         self._entries: list[Entry] | None = None
 
@@ -338,37 +339,8 @@ class Transcript(Sequence[Entry]):
     def __len__(self) -> int:
         return len(self._source.table) // ROW_SIZE
 
-    @overload
-    def __getitem__(self, place: int) -> Entry: ...
-
-    @overload
-    def __getitem__(self, place: slice) -> list[Entry]: ...
-
-    def __getitem__(self, place: int | slice) -> Entry | list[Entry]:
-        return self._all()[place]
-
-    def __iter__(self) -> Iterator[Entry]:
-        return iter(self._all())
-
-    def __contains__(self, entry: object) -> bool:
-        if isinstance(entry, (str, bytes)):
-            raise WrongType("a transcript has entries: look for a text in its data, or in the text of its run")
-        return entry in self._all()
-
-    def __eq__(self, other: object) -> bool:
-        return isinstance(other, Transcript) and self.data == other.data
-
-    def __hash__(self) -> int:
-        return hash(self.data)
-
     def __reduce__(self) -> tuple[Any, ...]:
         return _transcript_of, (self._source,)
-
-    def __str__(self) -> str:
-        return self.data.decode("ascii", "replace")
-
-    def __repr__(self) -> str:
-        return f"<Transcript of {len(self)} lines>"
 
     def _repr_html_(self) -> str | None:
         """The first entries in words, in a notebook."""

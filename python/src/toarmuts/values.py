@@ -23,6 +23,8 @@ class Status(enum.IntEnum):
     FINISHED = 0
     BAD_LINE = 2
     HALTED = 3
+    EXHAUSTED = 3
+    """Of a network: an input used up its rounds."""
     TOO_LONG = 4
 
 

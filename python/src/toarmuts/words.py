@@ -56,8 +56,8 @@ def call_words(call: Call) -> str:
     shown = []
     for name, argument in zip(call.rule.arguments, call.arguments):
         words = name.replace("_", " ")
-        told = bytes_words(argument) if isinstance(argument, bytes) else argument
-        shown.append(f"no {words}" if argument is None else f"{words} {told}")
+        value = bytes_words(argument) if isinstance(argument, bytes) else argument
+        shown.append(f"no {words}" if argument is None else f"{words} {value}")
     return f"{call.word}{' (' + ', '.join(shown) + ')' if shown else ''}"
 
 

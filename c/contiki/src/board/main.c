@@ -69,7 +69,7 @@ pass_time(void)
   }
 }
 
-/* Whether a port is behind with what was put. The record isn't any more, once it has ended. */
+/* Whether a port lags after what was put. The record isn't any more, once it has ended. */
 static bool
 is_behind(enum port port)
 {

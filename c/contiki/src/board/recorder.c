@@ -54,11 +54,11 @@ take_value(uint32_t *value)
 }
 
 static void
-note_loss(uint32_t *told, uint32_t count, const char *where, const char *what)
+note_loss(uint32_t *noted, uint32_t count, const char *where, const char *what)
 {
-  if(count != *told) {
-    record_note(where, count - *told, what);
-    *told = count;
+  if(count != *noted) {
+    record_note(where, count - *noted, what);
+    *noted = count;
   }
 }
 

@@ -21,10 +21,10 @@ struct output {
   uint32_t lost;
   bool was_behind;
   uint32_t taken_then;
-  uint64_t since; /* the count at which bytes were taken last, while it is behind */
+  uint64_t since; /* the count at which bytes were taken last, while it lags */
 };
 
-/* Before the rings are open a fault is told by these. */
+/* Before the rings are open a fault is reported by these. */
 static uint8_t first_bytes[PORTS][FIRST_ROOM];
 
 static struct input inputs[INPUTS];
@@ -198,7 +198,7 @@ output_put(enum port port, const void *bytes, size_t length)
   return true;
 }
 
-/* Whether a port that is behind is waited for. One that takes nothing for a time isn't, until it takes something. */
+/* Whether a port that lags is waited for. One that takes nothing for a time isn't, until it takes something. */
 bool
 output_is_awaited(enum port port, bool is_behind)
 {

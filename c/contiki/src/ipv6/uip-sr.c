@@ -63,10 +63,22 @@ uip_sr_node_next(uip_sr_node_t *item)
   return block == NULL ? NULL : first_used(block, (size_t)(item - block->nodes) + 1);
 }
 
+/* Whether it is the end of the root's address of the link. Motes name their parent by that end, also where the root's other address has one
+ * that the program set. */
+static bool
+is_end_of_root(const uint8_t *iid)
+{
+  uip_ipaddr_t own = link_local_of(&linkaddr_node_addr);
+  return is_used(&root) && memcmp(own.u8 + IID_AT, iid, IID_SIZE) == 0;
+}
+
 static uip_sr_node_t *
 find_node(const uint8_t *iid)
 {
   uip_sr_node_t *node = uip_sr_node_head();
+  if(is_end_of_root(iid)) {
+    return &root;
+  }
   while(node != NULL && memcmp(node->link_identifier, iid, IID_SIZE) != 0) {
     node = uip_sr_node_next(node);
   }

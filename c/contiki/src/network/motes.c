@@ -280,7 +280,7 @@ next_happening(struct toarmuts_turn *turn)
       break;
     case TOARMUTS_NETWORK_REST:
       return false;
-    case TOARMUTS_NETWORK_HALT:
+    case TOARMUTS_NETWORK_EXHAUSTED:
       end_exhausted();
     default:
       show_network_line();

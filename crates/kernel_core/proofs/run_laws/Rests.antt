@@ -1,6 +1,6 @@
 -- After each input a run reaches rest or halts: each step lowers a measure.
 use Rattle.std.proofs.Common.{◌≡◌, ℕ, zero, suc, ◌+◌, ◌-◌, ◌*◌, ◌≤◌, Bool, true, false, not, List, [], ◌∷◌, length, refl, arith, Option, Some, if◌then◌else◌, ◌==◌, map, subst, sym}
-use Rattle.kernel_core.proofs.Common.{decide, length-map, Call, Stimulus, Origin, Input, Applications, Item, Job, Scheduler, after_front, job, in_front, Config, Machine, scheduled, after_call, fed, Answers, StepMade, Running, Runs, ComesToRest, one_step, job_done, within_limit, is_still, after_step, answers_after, with_input, at_start, silent, with_more_work, farewells, number_event, EXITED, numbers, without, is_process}
+use Rattle.kernel_core.proofs.Common.{decide, length-map, Call, Stimulus, Origin, Input, Applications, Item, Job, Scheduler, after_front, job, in_front, Config, Machine, scheduled, after_call, fed, Choices, StepMade, Running, Runs, ComesToRest, one_step, job_done, within_limit, is_still, after_step, choices_after, with_input, at_start, silent, with_more_work, farewells, number_event, EXITED, numbers, without, is_process}
 use Rattle.std.proofs.Math.Nat.{suc-mul}
 use Rattle.kernel_core.specs.Code.Cost.{present, costs, round_cost, IsPaid}
 use Rattle.kernel_core.proofs.Costs.{length-without, after_front-present, costs-cons, costs-nil, costs-append, paid}
@@ -77,11 +77,11 @@ module _ (bound : ℕ) where
     unfolding measure
     quiet-falls = grind decide
 
-  module _ (answers : Answers) where
+  module _ (choices : Choices) where
     -- a job of this worth is done
     module _ (m : Machine) (old : ℕ) (h : length m.scheduler.processes ≤ bound) (w : m.work ≤ 10000) where
       job-falls : (next : Option (Job Bool)) → is_rest next ≡ false → IsPaid bound next old (costs bound m.scheduler.agenda)
-          → Falls bound ((10000 - m.work) * suc (round_cost bound) + old) m (job_done answers next m).0
+          → Falls bound ((10000 - m.work) * suc (round_cost bound) + old) m (job_done choices next m).0
       job-falls (Some (Job.TakeTurn p origin stimulus)) r paid = grind (decide, call-falls)
       job-falls (Some (Job.Serve p event)) r paid = grind (decide, serve-untouched, quiet-falls)
       job-falls (Some (Job.CallBack p c false)) r paid =
@@ -92,7 +92,7 @@ module _ (bound : ℕ) where
       job-falls next r paid = grind (decide, quiet-falls)
 
     step-falls : (m : Machine) → m.work ≤ 10000 → reserve m ≤ bound → is_still m ≡ false
-        → Falls bound (measure bound m) m (one_step answers m).0
+        → Falls bound (measure bound m) m (one_step choices m).0
     unfolding measure
     step-falls m w few live =
         let up : m.is_halted ≡ false = grind decide in
@@ -101,7 +101,7 @@ module _ (bound : ℕ) where
         (grind (decide, m.scheduler))
         (paid bound m.scheduler (omega (arith, few))) in
         subst (λ (b : Bool).
-        Falls bound (measure bound m) m (if b then silent m else job_done answers (job m.scheduler) (scheduled after_front m)).0)
+        Falls bound (measure bound m) m (if b then silent m else job_done choices (job m.scheduler) (scheduled after_front m)).0)
         (sym up) (record { work = f.work; reserve = omega (arith, f.reserve, fewer); measure = f.measure })
 
 fed-work : (input : Input) (m : Machine) → (fed input m).work ≡ 0
@@ -128,7 +128,7 @@ module _ (says : Applications) where
           → (later.machine.is_halted ≡ false → measure bound later.machine + 1 ≤ fuel) → Rests later) → Rests r
       go true still further = (r, (zero, refl, still))
       go false live further =
-          let f = step-falls bound (answers_after says r.entries) r.machine w few live in
+          let f = step-falls bound (choices_after says r.entries) r.machine w few live in
           let rest = further f.work (omega (arith, few))
           (λ running. omega (arith, f.measure running, h (grind (decide, live)))) in
           (rest.0, (suc rest.1.0, rest.1.1, rest.1.2))

@@ -14,15 +14,15 @@ use Rattle.kernel_core.specs.Code.Conditions.{TakesEntry}
 use Rattle.kernel_core.specs.Machine.{Machine}
 use Rattle.kernel_core.specs.Calls.{after_call}
 use Rattle.kernel_core.specs.Mote.{Mote}
-use Rattle.kernel_core.specs.Run.{Answers, heard, work_limit}
+use Rattle.kernel_core.specs.Run.{Choices, heard, work_limit}
 use Rattle.kernel_core.specs.Code.Draws.{drawn_in_all}
 use Rattle.kernel_core.specs.Code.Steps.{GoesOn, MakesEntry, made, stepped}
 use Rattle.kernel_core.specs.Code.View.{IsAtTurn, IsInOrder, entries_left_in, machine_of, mote_of}
 
 -- from old the machine reaches a turn, whatever its call: once the call is executed on new, the turn is made
-abbrev pub AwaitsCall : Answers → Machine → Pid → Origin → Stimulus → Machine → Type 0
-AwaitsCall answers old pid origin stimulus new =
-    MakesEntry answers old (Entry.Turn pid origin stimulus (answers pid.0 stimulus)) (after_call (answers pid.0 stimulus) pid.0 new)
+abbrev pub AwaitsCall : Choices → Machine → Pid → Origin → Stimulus → Machine → Type 0
+AwaitsCall choices old pid origin stimulus new =
+    MakesEntry choices old (Entry.Turn pid origin stimulus (choices pid.0 stimulus)) (after_call (choices pid.0 stimulus) pid.0 new)
 
 -- the turn is the application's, and the rest is in order
 pub record IsMidTurn (pid : Pid) (k : KernelFields) : Type 0 where
@@ -52,11 +52,11 @@ pub record HasWorked (outcome : StepOutcome) (turn : Turn) (before other : Entry
 
 -- likewise, and the machine has come as far: to a turn whose call is awaited, to the entry or to rest
 pub record WorksUpTo (outcome : StepOutcome) (turn : Turn) (before other : Entry) (old new : KernelFields) : Type 0 where
-  pub awaits : outcome ≡ StepOutcome.Turn → (answers : Answers)
-      → AwaitsCall answers (machine_of old) turn.pid turn.origin turn.stimulus (machine_of new)
+  pub awaits : outcome ≡ StepOutcome.Turn → (choices : Choices)
+      → AwaitsCall choices (machine_of old) turn.pid turn.origin turn.stimulus (machine_of new)
   pub opens : outcome ≡ StepOutcome.Turn → IsMidTurn turn.pid new
-  pub goes : outcome ≢ StepOutcome.Turn → (answers : Answers)
-      → GoesOn answers (machine_of old) (stepped outcome turn other) (machine_of new)
+  pub goes : outcome ≢ StepOutcome.Turn → (choices : Choices)
+      → GoesOn choices (machine_of old) (stepped outcome turn other) (machine_of new)
   pub worked : HasWorked outcome turn before other old new
 
 -- what contracts see of a kernel that awaits the call of each turn

@@ -5,34 +5,34 @@ use Rattle.kernel_core.specs.declared.step.Step.{Step}
 use Rattle.kernel_core.specs.declared.step.StepOutcome.{StepOutcome}
 use Rattle.kernel_core.specs.declared.turn.Turn.{Turn}
 use Rattle.kernel_core.specs.Machine.{Machine}
-use Rattle.kernel_core.specs.Run.{Answers, is_at_rest, one_step, silent}
+use Rattle.kernel_core.specs.Run.{Choices, is_at_rest, one_step, silent}
 
 -- n steps that make no entry lead from old to new
-abbrev pub Silently : Answers → ℕ → Machine → Machine → Type 0
-Silently answers zero old new = old ≡ new
-Silently answers (suc n) old new = (next : Machine) × (one_step answers old ≡ silent next) × Silently answers n next new
+abbrev pub Silently : Choices → ℕ → Machine → Machine → Type 0
+Silently choices zero old new = old ≡ new
+Silently choices (suc n) old new = (next : Machine) × (one_step choices old ≡ silent next) × Silently choices n next new
 
 -- steps that make no entry lead from old to new
-pub record GoesSilently (answers : Answers) (old new : Machine) : Type 0 where
+pub record GoesSilently (choices : Choices) (old new : Machine) : Type 0 where
   pub count : ℕ
-  pub steps : Silently answers count old new
+  pub steps : Silently choices count old new
 
 -- steps that make no entry, and then one that makes this entry
-pub record MakesEntry (answers : Answers) (old : Machine) (entry : Entry) (new : Machine) : Type 0 where
+pub record MakesEntry (choices : Choices) (old : Machine) (entry : Entry) (new : Machine) : Type 0 where
   pub last : Machine
-  pub before : GoesSilently answers old last
-  pub makes : one_step answers last ≡ (new, Some entry)
+  pub before : GoesSilently choices old last
+  pub makes : one_step choices last ≡ (new, Some entry)
 
 -- steps that make no entry, until nothing is left to be done
-pub record GoesToRest (answers : Answers) (old new : Machine) : Type 0 where
-  pub before : GoesSilently answers old new
+pub record GoesToRest (choices : Choices) (old new : Machine) : Type 0 where
+  pub before : GoesSilently choices old new
   pub at_rest : is_at_rest new ≡ true
 
 -- the machine goes on to the next entry, or to rest; once halted, it stays
-abbrev pub GoesOn : Answers → Machine → Step → Machine → Type 0
-GoesOn answers old (Step.Entry entry) new = MakesEntry answers old entry new
-GoesOn answers old Step.Rest new = GoesToRest answers old new
-GoesOn answers old Step.Halted new = (old.is_halted ≡ true) × (new ≡ old)
+abbrev pub GoesOn : Choices → Machine → Step → Machine → Type 0
+GoesOn choices old (Step.Entry entry) new = MakesEntry choices old entry new
+GoesOn choices old Step.Rest new = GoesToRest choices old new
+GoesOn choices old Step.Halted new = (old.is_halted ≡ true) × (new ≡ old)
 
 abbrev pub made : Step → List Entry
 made (Step.Entry entry) = entry ∷ []

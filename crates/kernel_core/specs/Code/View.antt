@@ -18,7 +18,7 @@ use Rattle.process_core.specs.Scheduler.{in_front}
 use Rattle.kernel_core.specs.declared.kernel_fields.KernelFields.{KernelFields}
 use Rattle.kernel_core.specs.Code.Pending.{no_pending_entries, pending_items, pending_count}
 use Rattle.kernel_core.specs.Machine.{Machine, answer}
-use Rattle.kernel_core.specs.Run.{Answers, is_at_rest, one_step, job_done, work_limit}
+use Rattle.kernel_core.specs.Run.{Choices, is_at_rest, one_step, job_done, work_limit}
 use Rattle.kernel_core.specs.Code.Steps.{GoesSilently}
 use Rattle.kernel_core.specs.Code.Cost.{costs, present}
 use Rattle.kernel_core.specs.Mote.{Mote}
@@ -77,7 +77,7 @@ pub record IsAtWork (k : KernelFields) : Type 0 where
 
 -- steps that make no entry have left the fields in order
 pub record StepsSilently (old new : KernelFields) : Type 0 where
-  pub passed : (answers : Answers) → GoesSilently answers (machine_of old) (machine_of new)
+  pub passed : (choices : Choices) → GoesSilently choices (machine_of old) (machine_of new)
   pub order : IsInOrder new
   pub applications : new.scheduler.state.applications ≡ old.scheduler.state.applications
 
@@ -185,10 +185,10 @@ pub record IsExpired (old new : KernelFields) : Type 0 where
   pub costs : (bound : ℕ) → costs bound new.scheduler.state.agenda ≤ costs bound old.scheduler.state.agenda + 2
 
 -- items that are no jobs were processed, and then this job's own item
-pub record ComesToJob (armings : Armings) (answers : Answers) (old : Machine) (next : Job ℕ) (new : Machine) : Type 0 where
+pub record ComesToJob (armings : Armings) (choices : Choices) (old : Machine) (next : Job ℕ) (new : Machine) : Type 0 where
   pub last : Machine
-  pub before : GoesSilently answers old last
-  pub asked : one_step answers last ≡ job_done answers (Some (job_carrying (is_cancelled armings) next)) new
+  pub before : GoesSilently choices old last
+  pub asked : one_step choices last ≡ job_done choices (Some (job_carrying (is_cancelled armings) next)) new
 
 -- a job was taken from the agenda, and only the scheduler changed
 pub record HasTakenJob (taken : Taken) (old new : KernelFields) : Type 0 where

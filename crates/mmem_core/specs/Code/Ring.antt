@@ -14,13 +14,13 @@ Names link (Some number) = (number ≡ link) × (number < 272)
 abbrev pub appended : ℕ → Order → Order
 appended x order =
     let last = get_or order.before 272 0 in
-    record { before = set (set order.before x last) 272 x; behind = set (set order.behind last x) x 272 }
+    record { before = set (set order.before x last) 272 x; after = set (set order.after last x) x 272 }
 
 -- the entries before and after x are linked with each other
 abbrev pub removed : ℕ → Order → Order
 removed x order =
-    let lower = get_or order.before x 0 in let higher = get_or order.behind x 0 in
-    record { before = set order.before higher lower; behind = set order.behind lower higher }
+    let lower = get_or order.before x 0 in let higher = get_or order.after x 0 in
+    record { before = set order.before higher lower; after = set order.after lower higher }
 
 -- the entry is that of a live block, or stands for both ends
 abbrev pub IsEntry : List (Option Place) → ℕ → Type 0
@@ -36,11 +36,11 @@ pub record IsNext (places : List (Option Place)) (low i : ℕ) : Type 0 where
 pub record IsLinked (places : List (Option Place)) (order : Order) : Type 0 where
   pub names : length places ≡ 272
   pub entries_before : length order.before ≡ 273
-  pub entries_behind : length order.behind ≡ 273
-  pub next : (i : ℕ) → IsEntry places i → IsNext places (end_at places i) (get_or order.behind i 0)
-  pub back : (i : ℕ) → IsEntry places i → get_or order.before (get_or order.behind i 0) 0 ≡ i
+  pub entries_after : length order.after ≡ 273
+  pub next : (i : ℕ) → IsEntry places i → IsNext places (end_at places i) (get_or order.after i 0)
+  pub back : (i : ℕ) → IsEntry places i → get_or order.before (get_or order.after i 0) 0 ≡ i
   pub last : (i : ℕ) → IsEntry places i → IsEntry places (get_or order.before i 0)
-  pub forth : (i : ℕ) → IsEntry places i → get_or order.behind (get_or order.before i 0) 0 ≡ i
+  pub forth : (i : ℕ) → IsEntry places i → get_or order.after (get_or order.before i 0) 0 ≡ i
 
 -- the same, which searches do not look into
 unfoldable pub AreLinked : List (Option Place) → Order → Type 0

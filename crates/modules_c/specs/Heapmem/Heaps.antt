@@ -22,7 +22,7 @@ room_of row = size_of row + rest_of row
 
 -- a block is named by the position where it begins
 abbrev pub block_told : List ℕ → Row → Block
-block_told bytes row = record { name = row.place; at = row.place; room = room_of row; bytes = range_of row.place (size_of row) bytes }
+block_told bytes row = record { name = row.offset; at = row.offset; room = room_of row; bytes = range_of row.offset (size_of row) bytes }
 
 -- what rows and bytes stand for: heap_core's heap, except that no header is before a block
 abbrev pub heap_of : List Row → List ℕ → HeapStore
@@ -32,7 +32,7 @@ heap_of rows bytes = record { size = length bytes; header = 0; blocks = map (blo
 abbrev pub LieFrom : ℕ → List Row → ℕ → Type 0
 LieFrom from [] capacity = from ≤ capacity
 LieFrom from (row ∷ rows) capacity =
-    (from ≤ row.place) × (1 ≤ room_of row) × LieFrom (row.place + room_of row) rows capacity
+    (from ≤ row.offset) × (1 ≤ room_of row) × LieFrom (row.offset + room_of row) rows capacity
 
 -- the rows describe blocks that are in n bytes, apart from each other
 abbrev pub IsTable : List Row → ℕ → Type 0

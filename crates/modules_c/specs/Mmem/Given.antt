@@ -11,11 +11,11 @@ pub record GivesBlock (old new : List Block) (before after : List ℕ) (handle s
   pub sound : IsTable new (length after)
   -- where the space after the last block suffices, only the handle's row changes
   pub still : last_end (places_told old) + up4 size ≤ length before
-      → new ≡ slice_set old handle (record { place = last_end (places_told old); size = size })
+      → new ≡ slice_set old handle (record { offset = last_end (places_told old); size = size })
   -- where it doesn't, all blocks slide together: what is free then is after them
   pub together : length before < last_end (places_told old) + up4 size
       → last_end (places_told new) + unused (stored new after) ≤ length after
   pub down : LieNoHigher old new
   pub order : KeepOrder old new
   -- the new block is the last one
-  pub behind : IsSomeAnd (place_in (places_told new) handle) (λ place. last_end (places_told new) ≡ place.at + up4 size)
+  pub new_last : IsSomeAnd (place_in (places_told new) handle) (λ place. last_end (places_told new) ≡ place.at + up4 size)

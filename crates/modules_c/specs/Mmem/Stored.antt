@@ -15,7 +15,7 @@ row_limit = 4294967296
 
 -- where a row says that a block is, if it has one
 abbrev pub place_told : Block → Option Place
-place_told row = if row.size == 0 then None else Some (record { at = row.place; len = row.size })
+place_told row = if row.size == 0 then None else Some (record { at = row.offset; len = row.size })
 
 abbrev pub places_told : List Block → List (Option Place)
 places_told table = map place_told table

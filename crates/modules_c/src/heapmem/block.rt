@@ -76,12 +76,12 @@ pub fn free(rows: &mut [Row], bytes: &[u8], at: usize) -> Outcome
 
 /// Writes a row's bytes to an offset, resized to `n` bytes.
 fn carry(bytes: &mut [u8], row: Row, to: usize, n: usize)
-    requires source { row.place + size_of row ≤ length bytes.old }
+    requires source { row.offset + size_of row ≤ length bytes.old }
     requires target { to + n ≤ length bytes.old }
-    ensures { bytes.new ≡ written bytes.old to (resized n (range_of row.place (size_of row) bytes.old)) }
+    ensures { bytes.new ≡ written bytes.old to (resized n (range_of row.offset (size_of row) bytes.old)) }
 {
     let kept = size_of(row).min(n);
-    copy(bytes, row.place as usize, kept, to);
+    copy(bytes, row.offset as usize, kept, to);
     clear(bytes, to + kept, n - kept);
 }
 
@@ -92,15 +92,15 @@ fn resize(rows: &mut [Row], bytes: &mut [u8], number: usize, room: usize, n: usi
     requires some { 1 ≤ room }
     requires fits { n ≤ room }
     requires rest { room < n + 32 }
-    requires room { (row_of rows.old number).place + room ≤ next_place number rows.old (length bytes.old) }
-    requires small { (row_of rows.old number).place + room < row_limit }
-    ensures heap { heap_of rows.new bytes.new ≡ with_resized (record { at = (row_of rows.old number).place; room = room }) n
+    requires room { (row_of rows.old number).offset + room ≤ next_place number rows.old (length bytes.old) }
+    requires small { (row_of rows.old number).offset + room < row_limit }
+    ensures heap { heap_of rows.new bytes.new ≡ with_resized (record { at = (row_of rows.old number).offset; room = room }) n
         (block_told bytes.old (row_of rows.old number)) (heap_of rows.old bytes.old) }
     ensures table { IsTable rows.new (length bytes.new) }
 {
     let row = rows[number];
-    carry(bytes, row, row.place as usize, n);
-    rows[number] = row_for(row.place as usize, room, n);
+    carry(bytes, row, row.offset as usize, n);
+    rows[number] = row_for(row.offset as usize, room, n);
 }
 
 /// Moves the block of this number to where nothing is, and resizes it.

@@ -9,7 +9,7 @@ ghost use Rattle.modules_c.specs.Heapmem.Heaps.{row_limit, size_of, rest_of, roo
 #[derive(Clone, Copy, Drop)]
 pub struct Row {
     /// Where the block begins: its offset from the heap's start.
-    pub place: u32,
+    pub offset: u32,
     /// 32 times the number of its bytes, plus the number of further ones that are reserved for it. These are at most 24: up to 8
     /// that rounding adds, and a rest of a gap.
     pub extent: u32,
@@ -17,16 +17,16 @@ pub struct Row {
 
 /// The row of a block.
 #[tactic(auto, unfolding(crate::specs::Heapmem::Heaps::size_of, crate::specs::Heapmem::Heaps::rest_of))]
-pub fn row_for(place: usize, room: usize, size: usize) -> Row
+pub fn row_for(offset: usize, room: usize, size: usize) -> Row
     requires fits { size ≤ room }
     requires rest { room < size + 32 }
-    requires small { place + room < row_limit }
-    ensures place { result.place ≡ place }
+    requires small { offset + room < row_limit }
+    ensures offset { result.offset ≡ offset }
     ensures room { room_of result ≡ room }
     ensures size { size_of result ≡ size }
 {
     Row {
-        place: place as u32,
+        offset: offset as u32,
         extent: (size * 32 + (room - size)) as u32,
     }
 }

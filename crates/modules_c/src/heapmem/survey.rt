@@ -11,14 +11,14 @@ use crate::heapmem::row::{Hole, Row, Spot, Stats, least_room, room_of, room_take
 
 /// Where a row's block ends, if it is at a position or after it, and has room.
 #[tactic(auto, unfolding(crate::specs::Heapmem::Heaps::size_of, crate::specs::Heapmem::Heaps::rest_of))]
-fn end_behind(row: Row, from: usize) -> Option<usize>
-    ensures some { IfSome result (λ end. (from ≤ row.place) × (1 ≤ room_of row) × (end ≡ row.place + room_of row)) }
-    ensures none { IfNone result (from ≤ row.place → ¬ (1 ≤ room_of row)) }
+fn end_after(row: Row, from: usize) -> Option<usize>
+    ensures some { IfSome result (λ end. (from ≤ row.offset) × (1 ≤ room_of row) × (end ≡ row.offset + room_of row)) }
+    ensures none { IfNone result (from ≤ row.offset → ¬ (1 ≤ room_of row)) }
 {
-    let place = row.place as usize;
+    let offset = row.offset as usize;
     let room = room_of(row);
-    if from <= place && room != 0 {
-        Some(place + room)
+    if from <= offset && room != 0 {
+        Some(offset + room)
     } else {
         None
     }
@@ -30,7 +30,7 @@ pub fn is_table(rows: &[Row], capacity: usize) -> bool
 {
     let mut from = 0;
     for row in rows {
-        let Some(end) = end_behind(*row, from) else {
+        let Some(end) = end_after(*row, from) else {
             return false;
         };
         from = end;
@@ -75,16 +75,16 @@ fn look_over(rows: &[Row], capacity: usize, need: u128) -> Option<Survey>
     let mut best = None;
     let mut end = 0;
     for row in rows {
-        let Some(next) = end_behind(*row, end) else {
+        let Some(next) = end_after(*row, end) else {
             return None;
         };
-        if end < row.place as usize {
+        if end < row.offset as usize {
             best = better(
                 need,
                 best,
                 Hole {
                     at: end,
-                    len: row.place as usize - end,
+                    len: row.offset as usize - end,
                 },
             );
         }
@@ -128,7 +128,7 @@ fn next_place(rows: &[Row], number: usize, capacity: usize) -> usize
     ensures { result ≡ next_place number rows.now capacity }
 {
     if number + 1 < rows.len() {
-        rows[number + 1].place as usize
+        rows[number + 1].offset as usize
     } else {
         capacity
     }
@@ -141,12 +141,12 @@ pub fn room_in_place(rows: &[Row], capacity: usize, number: usize, n: usize) -> 
     ensures room { (bytes : List ℕ) → length bytes ≡ capacity →
         result ≡ room_in_place (place_of (block_told bytes (row_of rows.now number))) n (heap_of rows.now bytes) }
     ensures fits { IfSome result (λ room. (1 ≤ room) × (n ≤ room) × (room < n + 32)
-        × ((row_of rows.now number).place + room ≤ next_place number rows.now capacity)) }
+        × ((row_of rows.now number).offset + room ≤ next_place number rows.now capacity)) }
 {
     let row = rows[number];
     let room = room_of(row);
     let least = least_room(n);
-    let most = next_place(rows, number, capacity) - row.place as usize;
+    let most = next_place(rows, number, capacity) - row.offset as usize;
     if least <= room as u128 {
         return Some(room_taken(least as usize, room));
     }
@@ -169,8 +169,8 @@ fn left_over(rows: &[Row], capacity: usize) -> usize
     let mut free = 0;
     let mut end = 0;
     for row in rows {
-        free += row.place as usize - end;
-        end = row.place as usize + room_of(*row);
+        free += row.offset as usize - end;
+        end = row.offset as usize + room_of(*row);
     }
     free + (capacity - end)
 }
@@ -179,12 +179,12 @@ fn left_over(rows: &[Row], capacity: usize) -> usize
 pub fn figures(rows: &[Row], capacity: usize) -> Option<Stats>
     ensures table { IfSome result (λ _. IsTable rows.now capacity) }
     ensures none { IfNone result (¬ IsTable rows.now capacity) }
-    ensures allocated { IfSome result (λ told. (bytes : List ℕ) → length bytes ≡ capacity
-        → told.allocated ≡ (stats_of (heap_of rows.now bytes)).allocated) }
-    ensures available { IfSome result (λ told. (bytes : List ℕ) → length bytes ≡ capacity
-        → told.available ≡ (stats_of (heap_of rows.now bytes)).available) }
-    ensures footprint { IfSome result (λ told. (bytes : List ℕ) → told.footprint ≡ (stats_of (heap_of rows.now bytes)).footprint) }
-    ensures chunks { IfSome result (λ told. (bytes : List ℕ) → told.chunks ≡ (stats_of (heap_of rows.now bytes)).chunks) }
+    ensures allocated { IfSome result (λ stats. (bytes : List ℕ) → length bytes ≡ capacity
+        → stats.allocated ≡ (stats_of (heap_of rows.now bytes)).allocated) }
+    ensures available { IfSome result (λ stats. (bytes : List ℕ) → length bytes ≡ capacity
+        → stats.available ≡ (stats_of (heap_of rows.now bytes)).available) }
+    ensures footprint { IfSome result (λ stats. (bytes : List ℕ) → stats.footprint ≡ (stats_of (heap_of rows.now bytes)).footprint) }
+    ensures chunks { IfSome result (λ stats. (bytes : List ℕ) → stats.chunks ≡ (stats_of (heap_of rows.now bytes)).chunks) }
 {
     let Some(survey) = look_over(rows, capacity, 0) else {
         return None;

@@ -8,23 +8,23 @@ ghost use Rattle.modules_c.specs.Code.HeapmemRows.{row_of, with_row, without_row
 use crate::heapmem::row::Row;
 
 /// The number of the first row that begins after a position; the number of rows, where none does.
-fn first_behind(rows: &[Row], place: usize) -> usize
-    requires { IsNonDecreasingBy (λ row. row.place) rows.now }
+fn first_after(rows: &[Row], offset: usize) -> usize
+    requires { IsNonDecreasingBy (λ row. row.offset) rows.now }
     ensures inside { result ≤ length rows.now }
-    ensures below { BeginBelow rows.now place result }
-    ensures above { result < length rows.now → place < (row_of rows.now result).place }
+    ensures below { BeginBelow rows.now offset result }
+    ensures above { result < length rows.now → offset < (row_of rows.now result).offset }
 {
-    rows.partition_point(|row| row.place as usize <= place)
+    rows.partition_point(|row| row.offset as usize <= offset)
 }
 
 /// The number of the row that begins at a position.
-pub fn row_at(rows: &[Row], place: usize) -> Option<usize>
-    requires { IsNonDecreasingBy (λ row. row.place) rows.now }
-    ensures { BeginsAt rows.now place (length rows.now) result }
+pub fn row_at(rows: &[Row], offset: usize) -> Option<usize>
+    requires { IsNonDecreasingBy (λ row. row.offset) rows.now }
+    ensures { BeginsAt rows.now offset (length rows.now) result }
 {
-    let behind = first_behind(rows, place);
-    if behind != 0 && rows[behind - 1].place as usize == place {
-        Some(behind - 1)
+    let after = first_after(rows, offset);
+    if after != 0 && rows[after - 1].offset as usize == offset {
+        Some(after - 1)
     } else {
         None
     }
@@ -33,11 +33,11 @@ pub fn row_at(rows: &[Row], place: usize) -> Option<usize>
 /// Puts a row among those before the last one, in the order of their positions. The last one goes.
 pub fn insert(rows: &mut [Row], row: Row)
     requires last { 1 ≤ length rows.old }
-    requires order { IsNonDecreasingBy (λ row. row.place) (front rows.old) }
+    requires order { IsNonDecreasingBy (λ row. row.offset) (front rows.old) }
     ensures { rows.new ≡ with_row row (front rows.old) }
 {
     let last = rows.len() - 1;
-    let number = first_behind(&rows[..last], row.place as usize);
+    let number = first_after(&rows[..last], row.offset as usize);
     rows.copy_within(number..last, number + 1);
     rows[number] = row;
 }

@@ -1,4 +1,4 @@
-//! Flags, whatever they stand for.
+//! Flags, whatever they mean.
 
 ghost use Rattle.std.specs.Prelude.{◌≡◌, not, false, length, filter, replicate, slice_index_or};
 ghost use Rattle.std.specs.List.{position};
@@ -11,10 +11,10 @@ pub fn unset_all(flags: &mut [bool])
 }
 
 /// Whether the flag at this position is set. Where there is none it is not.
-pub fn is_set(flags: &[bool], place: usize) -> bool
-    ensures { result ≡ slice_index_or flags.now place false }
+pub fn is_set(flags: &[bool], index: usize) -> bool
+    ensures { result ≡ slice_index_or flags.now index false }
 {
-    flags.get(place).copied().unwrap_or(false)
+    flags.get(index).copied().unwrap_or(false)
 }
 
 /// The position of the first flag that is not set.

@@ -8,7 +8,7 @@ ghost use Rattle.mote_types.specs.Rounding.{up4};
 #[derive(Clone, Copy, Drop)]
 pub struct Block {
     /// Where it begins: its offset from the buffer's start.
-    pub place: u32,
+    pub offset: u32,
     /// The number of its bytes. It takes that number, rounded up. 0 where the handle has no block.
     pub size: u32,
 }

@@ -19,9 +19,9 @@ fn next_from(blocks: &[Block], low: usize) -> Option<usize>
     let mut next: Option<usize> = None;
     for number in 0..blocks.len() {
         let block = blocks[number];
-        if block.size != 0 && low <= block.place as usize {
+        if block.size != 0 && low <= block.offset as usize {
             next = match next {
-                Some(best) if blocks[best].place <= block.place => Some(best),
+                Some(best) if blocks[best].offset <= block.offset => Some(best),
                 _ => Some(number),
             };
         }
@@ -42,9 +42,9 @@ fn slide_together(blocks: &mut [Block], buffer: &mut [u8]) -> usize
     let mut end = 0;
     while let Some(number) = next_from(blocks, end) {
         let block = blocks[number];
-        copy(buffer, block.place as usize, block.size as usize, end);
+        copy(buffer, block.offset as usize, block.size as usize, end);
         blocks[number] = Block {
-            place: end as u32,
+            offset: end as u32,
             size: block.size,
         };
         end += rounded(block.size as usize);
@@ -83,10 +83,10 @@ pub fn put_last(blocks: &mut [Block], buffer: &mut [u8], handle: usize, block: B
     ensures store { stored blocks.new buffer.new ≡ allocated (process_of handle) (handle_of handle) block.size
         (stored blocks.old buffer.old) }
     ensures row { blocks.new ≡ slice_set blocks.old handle block }
-    ensures last { last_end (places_told blocks.new) ≡ block.place + up4 block.size }
-    ensures behind { IsSomeAnd (place_in (places_told blocks.new) handle)
+    ensures last { last_end (places_told blocks.new) ≡ block.offset + up4 block.size }
+    ensures new_last { IsSomeAnd (place_in (places_told blocks.new) handle)
         (λ place. last_end (places_told blocks.new) ≡ place.at + up4 block.size) }
 {
-    clear(buffer, block.place as usize, block.size as usize);
+    clear(buffer, block.offset as usize, block.size as usize);
     blocks[handle] = block;
 }

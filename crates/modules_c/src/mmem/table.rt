@@ -19,11 +19,11 @@ pub fn has_block(blocks: &[Block], handle: usize) -> bool
 
 /// Whether a block is in `capacity` bytes.
 pub fn lies_inside(block: Block, capacity: usize) -> bool
-    ensures inside { result ≡ true → 0 < block.size → block.place + up4 block.size ≤ capacity }
-    ensures outside { result ≡ false → (0 < block.size) × (capacity < block.place + up4 block.size) }
+    ensures inside { result ≡ true → 0 < block.size → block.offset + up4 block.size ≤ capacity }
+    ensures outside { result ≡ false → (0 < block.size) × (capacity < block.offset + up4 block.size) }
 {
-    let place = block.place as usize;
-    block.size == 0 || place <= capacity && fits(block.size as usize, capacity - place)
+    let offset = block.offset as usize;
+    block.size == 0 || offset <= capacity && fits(block.size as usize, capacity - offset)
 }
 
 /// Whether one block ends where the other begins, or before, unless it begins after that.
@@ -32,8 +32,8 @@ fn ends_before(one: Block, other: Block) -> bool
 {
     one.size == 0
         || other.size == 0
-        || other.place < one.place
-        || rounded(one.size as usize) <= (other.place - one.place) as usize
+        || other.offset < one.offset
+        || rounded(one.size as usize) <= (other.offset - one.offset) as usize
 }
 
 /// Whether a block ends before each other one that begins no lower.
@@ -76,12 +76,12 @@ pub fn left_over(blocks: &[Block], capacity: usize) -> usize
 /// Where a block ends; 0 where there is none.
 fn end_of(block: Block) -> usize
     ensures none { block.size ≡ 0 → result ≡ 0 }
-    ensures some { 0 < block.size → result ≡ block.place + up4 block.size }
+    ensures some { 0 < block.size → result ≡ block.offset + up4 block.size }
 {
     if block.size == 0 {
         0
     } else {
-        block.place as usize + rounded(block.size as usize)
+        block.offset as usize + rounded(block.size as usize)
     }
 }
 

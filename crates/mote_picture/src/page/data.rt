@@ -1,4 +1,4 @@
-//! The data of a page: JSON in which no `<` stands, so that nothing in it ends the element that holds it.
+//! The data of a page: JSON without a `<`, so that nothing in it ends the element that holds it.
 
 ghost use Rattle.std.specs.Prelude.{◌≡◌, ℕ, true, List, [], ◌++◌, codes, decimal, if◌then◌else◌, IfOk};
 ghost use Rattle.mote_picture.specs.Data.{IsHarmless, has_no_opening, string_byte, string_bytes_of, json_string};
@@ -7,7 +7,7 @@ use itoa::Buffer;
 use std::alloc::{AllocError, Global};
 use std::marker::Model;
 
-/// Appends a byte as it stands within a string of JSON.
+/// Appends a byte as it is written within a string of JSON.
 fn push_string_byte(out: &mut Vec<u8>, byte: u8) -> Result<(), AllocError>
     ensures { IfOk result (λ _. out.new.items ≡ out.old.items ++ string_byte byte) }
 {
@@ -22,7 +22,7 @@ fn push_string_byte(out: &mut Vec<u8>, byte: u8) -> Result<(), AllocError>
     }
 }
 
-/// Appends what stands between the quotes of a string.
+/// Appends what is between the quotes of a string.
 fn push_string_bytes(out: &mut Vec<u8>, text: &[u8]) -> Result<(), AllocError>
     ensures { IfOk result (λ _. out.new.items ≡ out.old.items ++ string_bytes_of text.now) }
 {
@@ -64,7 +64,7 @@ impl Data {
         }
     }
 
-    /// Appends JSON in which no `<` stands.
+    /// Appends JSON without a `<`.
     pub(crate) fn put(&mut self, json: &str) -> Result<(), AllocError>
         requires { has_no_opening json.now ≡ true }
         ensures { IfOk result (λ _. self.new ≡ self.old ++ json.now) }

@@ -3,13 +3,13 @@
 
 use crate::named::Named;
 use crate::page::data::Data;
-use crate::page::told::{answer_in, push_line};
+use crate::page::words::{answer_in, push_line};
 use picture_facts::facts::{Facts, facts_of};
 use picture_facts::marks::Marks;
 use picture_facts::memory::Stay;
 use picture_facts::rows::Shown;
+use picture_facts::transcript::is_quiet;
 use std::alloc::{AllocError, Global};
-use transcript_lines::is_quiet;
 
 /// Appends the name of a member.
 fn push_name(out: &mut Data, name: &str) -> Result<(), AllocError> {
@@ -30,11 +30,11 @@ fn push_number(out: &mut Data, number: Option<usize>) -> Result<(), AllocError> 
 fn push_list(out: &mut Data, name: &str, numbers: &[Option<usize>]) -> Result<(), AllocError> {
     push_name(out, name)?;
     out.put("[")?;
-    for place in 0..numbers.len() {
-        if place > 0 {
+    for index in 0..numbers.len() {
+        if index > 0 {
             out.put(",")?;
         }
-        push_number(out, numbers[place])?;
+        push_number(out, numbers[index])?;
     }
     out.put("]")
 }
@@ -43,11 +43,11 @@ fn push_list(out: &mut Data, name: &str, numbers: &[Option<usize>]) -> Result<()
 fn push_texts(out: &mut Data, name: &str, texts: &[&str]) -> Result<(), AllocError> {
     push_name(out, name)?;
     out.put("[")?;
-    for place in 0..texts.len() {
-        if place > 0 {
+    for index in 0..texts.len() {
+        if index > 0 {
             out.put(",")?;
         }
-        out.say(texts[place])?;
+        out.say(texts[index])?;
     }
     out.put("]")
 }
@@ -148,7 +148,7 @@ impl Lists<'_> {
                     Some(arming.first),
                     arming.last,
                     Some(arming.due as usize),
-                    number_of(arming.told),
+                    number_of(arming.received),
                 ])?;
             }
         }

@@ -11,7 +11,7 @@ abbrev pub config_of : Sizes → ℕ → Config
 config_of sizes applications =
     record { mmem = sizes.mmem; heap = sizes.heap; apps = applications; quota = sizes.quota; header = sizes.header }
 
--- this holds of the answer of `run`, where the mote was run
+-- this holds of the result of `run`, where the mote was run
 abbrev pub OfRun : Result End MoteFault → (Result End RunFault → Type 0) → Type 0
 OfRun (Ok end) P = P (Ok end)
 OfRun (Err MoteFault.Read) P = P (Err RunFault.Read)

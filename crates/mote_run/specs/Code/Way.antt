@@ -11,22 +11,22 @@ use Rattle.mote_text.specs.Transcript.{final_line}
 use Rattle.mote_text.specs.declared.script.End.{End}
 use Rattle.kernel_core.specs.Machine.{Machine}
 use Rattle.kernel_core.specs.Run.{Running, Runs, heard}
-use Rattle.mote_run.specs.declared.work.Work.{Work}
-use Rattle.mote_run.specs.Code.Writing.{lines}
+use Rattle.mote_run.specs.declared.running_mote.RunningMote.{RunningMote}
+use Rattle.mote_run.specs.Code.Lines.{lines}
 
 -- each application says now what it said before these entries, to all that it received in them and to what it receives next
-pub record IsTold (before : Applications) (entries : List Entry) (now : Applications) : Type 0 where
+pub record HasHeard (before : Applications) (entries : List Entry) (now : Applications) : Type 0 where
   pub each : (p : ℕ) (next : Stimulus) (later : List Stimulus) → now p (next ∷ later) ≡ before p (heard p entries ++ (next ∷ later))
 
--- the state of a run: what was written, pending output, what the applications say to what they receive from now on, and the machine
-pub record Place : Type 0 where
+-- a moment of a run: what was written, pending output, what the applications say to what they receive from now on, and the machine
+pub record Moment : Type 0 where
   pub given : List ℕ
-  pub due : List ℕ
+  pub pending : List ℕ
   pub says : Applications
   pub machine : Machine
 
-abbrev pub place : List ℕ → Work → Applications → Place
-place given work says = record { given = given; due = work.due.text.items; says = says; machine = work.kernel.machine }
+abbrev pub moment : List ℕ → RunningMote → Applications → Moment
+moment given mote says = record { given = given; pending = mote.text.items; says = says; machine = mote.kernel.machine }
 
 -- how a run with these entries ends, if its script ends like this
 abbrev pub end_of : List Entry → End → End
@@ -37,22 +37,22 @@ abbrev pub end_at : Machine → End → End
 end_at machine end = if machine.is_halted then End.Halted else end
 
 -- if these later inputs are submitted, and the script ends like this, `text` is the whole text of the run, and it ends with `end`
-pub record Follows (quiet : Bool) (here : Place) (later : Reading) (text : List ℕ) (end : End) : Type 0 where
+pub record Follows (quiet : Bool) (here : Moment) (later : Reading) (text : List ℕ) (end : End) : Type 0 where
   pub last : Running
   pub runs : Runs here.says (record { machine = here.machine; entries = [] }) later.0 last
   pub ends : end ≡ end_at here.machine (end_of last.entries later.1)
-  pub is_text : text ≡ here.given ++ (here.due ++ (lines quiet last.entries ++ final_line end))
+  pub is_text : text ≡ here.given ++ (here.pending ++ (lines quiet last.entries ++ final_line end))
 
 -- On the way these inputs were submitted, and more was written: whatever text follows from the first state follows from the second
-pub record Went (quiet : Bool) (inputs : List Input) (from to : Place) : Type 0 where
+pub record Went (quiet : Bool) (inputs : List Input) (from to : Moment) : Type 0 where
   pub out : List ℕ
   pub given : to.given ≡ from.given ++ out
   pub onward : (later : Reading) (text : List ℕ) (end : End) → Follows quiet from (preceded_by inputs later) text end →
       Follows quiet to later text end
 
 -- it went to this state; or, if the result is a fault, to some other one in which the same was written
-abbrev pub Goes : {T Fault : Type 0} → Result T Fault → Bool → List Input → Place → Place → Type 0
+abbrev pub Goes : {T Fault : Type 0} → Result T Fault → Bool → List Input → Moment → Moment → Type 0
 Goes answer quiet inputs from to =
     MatchResult answer (λ _. Went quiet inputs from to)
-    (λ _. (due : List ℕ) × (says : Applications) × (machine : Machine)
-    × Went quiet inputs from (record { given = to.given; due = due; says = says; machine = machine }))
+    (λ _. (pending : List ℕ) × (says : Applications) × (machine : Machine)
+    × Went quiet inputs from (record { given = to.given; pending = pending; says = says; machine = machine }))

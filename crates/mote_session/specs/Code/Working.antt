@@ -4,7 +4,6 @@ use Rattle.mote_types.specs.declared.call.Call.{Call}
 use Rattle.mote_session.specs.SessionView.{SessionView}
 use Rattle.mote_session.specs.Steps.{Advances, HasSameInputs, IsSubmitted}
 use Rattle.mote_session.specs.declared.session.Next.{Next}
-use Rattle.mote_session.specs.declared.session.Worked.{Worked}
 
 -- a step of the session
 pub record DoesNext (next : Next) (old new : SessionView) : Type 0 where
@@ -23,8 +22,8 @@ pub record TakesTurn (old new : SessionView) : Type 0 where
   pub opens : DoesNext Next.Turn old mid
   pub calls : MakesCall mid new
 
-abbrev pub WorksBy : Worked → SessionView → SessionView → Type 0
-WorksBy Worked.Turn old new = TakesTurn old new
-WorksBy Worked.Entry old new = DoesNext Next.Entry old new
-WorksBy Worked.Rest old new = DoesNext Next.Rest old new
-WorksBy Worked.Halted old new = DoesNext Next.Halted old new
+abbrev pub WorksBy : Next → SessionView → SessionView → Type 0
+WorksBy Next.Turn old new = TakesTurn old new
+WorksBy Next.Entry old new = DoesNext Next.Entry old new
+WorksBy Next.Rest old new = DoesNext Next.Rest old new
+WorksBy Next.Halted old new = DoesNext Next.Halted old new

@@ -1,15 +1,9 @@
 -- The calls of a run's moves.
 use Rattle.std.specs.Prelude.{◌≡◌, ℕ, List, [], ◌∷◌, slice_get, Some}
-use Rattle.mote_session.specs.Code.Speaking.{SpeaksBy}
 use Rattle.mote_session.specs.SessionView.{SessionView}
 use Rattle.mote_session.specs.Voices.{SpokeLast, Voices}
-use Rattle.mote_session.specs.declared.session.Worked.{Worked}
 use Rattle.network_session.specs.Network.{NetworkView}
-use Rattle.network_text.specs.NetworkRuns.{Move, after_move}
-
--- what the applications say before and after what mote m did, which left the motes so
-abbrev pub SpeaksIn : Worked → ℕ → List SessionView → Voices → Voices → Type 0
-SpeaksIn worked m motes old new = (one : SessionView) → slice_get motes m ≡ Some one → SpeaksBy worked m one old new
+use Rattle.network_steps.specs.NetworkRuns.{Move, after_move}
 
 -- the last entry of the mote at work is a turn, and its call is the application's
 pub record IsActiveCall (before after : NetworkView) (old new : Voices) : Type 0 where

@@ -8,15 +8,10 @@ use Rattle.mote_types.specs.declared.entry.Input.{Input}
 use Rattle.network_session.specs.Refusals.{is_tick}
 use Rattle.network_session.specs.Time.{KeepsTime}
 use Rattle.network_session.specs.declared.outcome.Outcome.{Outcome}
-use Rattle.network_text.specs.NetworkRuns.{Move}
-use Rattle.network_text.specs.declared.input.NetworkInput.{NetworkInput}
+use Rattle.network_steps.specs.NetworkRuns.{Move}
+use Rattle.network_steps.specs.declared.input.NetworkInput.{NetworkInput}
 use Rattle.network_run.specs.NetworkRunText.{AwaitsNone, IsTooMuch}
 use Rattle.network_run.specs.declared.fault.RunFault.{RunFault}
-
--- whether there is this mote, and its clock is behind this moment
-abbrev pub was_behind : Option SessionView → ℕ → Bool
-was_behind None clock = false
-was_behind (Some mote) clock = nat_lt mote.machine.clock clock
 
 -- only the mote at work may await a call
 abbrev pub AwaitsAtWork : NetworkView → Type 0

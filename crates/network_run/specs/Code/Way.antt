@@ -6,24 +6,24 @@ use Rattle.network_run.specs.NetworkRunText.{CanEnd, IsSpent, Refuses}
 use Rattle.mote_session.specs.Voices.{Voices}
 use Rattle.network_run.specs.Code.Calls.{Speak}
 use Rattle.network_run.specs.Code.Ready.{IsRefusedOf, IsWithin, ends_open}
-use Rattle.network_run.specs.Code.Writing.{WritesOn}
+use Rattle.mote_text.specs.Code.Writing.{WritesOn}
 use Rattle.network_run.specs.Outside.{AreInTurn, IsFor, Outside, all_outside, givens}
 use Rattle.network_run.specs.declared.fault.RunFault.{RunFault}
-use Rattle.network_text.specs.NetworkRuns.{IsResting, Leads, Move, moves_text}
-use Rattle.network_text.specs.declared.input.NetworkInput.{NetworkInput}
+use Rattle.network_steps.specs.NetworkRuns.{IsResting, Leads, Move, moves_text}
+use Rattle.network_steps.specs.declared.input.NetworkInput.{NetworkInput}
 
 -- the state of a run: what was written, pending output, the network, and what the applications say from now on
-pub record Place : Type 0 where
+pub record Moment : Type 0 where
   pub given : List ℕ
   pub due : List ℕ
   pub net : NetworkView
   pub voices : Voices
 
-abbrev pub place : List ℕ → List ℕ → NetworkView → Voices → Place
-place given due net voices = record { given = given; due = due; net = net; voices = voices }
+abbrev pub moment : List ℕ → List ℕ → NetworkView → Voices → Moment
+moment given due net voices = record { given = given; due = due; net = net; voices = voices }
 
 -- moves in which this came from outside, with the calls of the applications; their text was written, or is pending
-pub record Went (quiet : Bool) (outside : List Outside) (from to : Place) : Type 0 where
+pub record Went (quiet : Bool) (outside : List Outside) (from to : Moment) : Type 0 where
   pub moves : List Move
   pub leads : Leads from.net moves to.net
   pub calls : Speak from.net moves from.voices to.voices
@@ -37,7 +37,7 @@ is_write RunFault.Write = true
 is_write (RunFault.Refused fault) = false
 
 -- some of this came, and the rest is left; if writing failed, some text is lost
-pub record Stopped (quiet : Bool) (outside : List Outside) (left : List Outside) (lost : List ℕ) (from to : Place) : Type 0 where
+pub record Stopped (quiet : Bool) (outside : List Outside) (left : List Outside) (lost : List ℕ) (from to : Moment) : Type 0 where
   pub carried : List Outside
   pub parts : outside ≡ carried ++ left
   pub went : Went quiet carried from (record to { due = lost })
@@ -48,7 +48,7 @@ IsReason RunFault.Write net left = ⊤
 IsReason (RunFault.Refused fault) net left = Refuses net left fault
 
 -- a fault: text is lost only if writing failed. A refused call is no move
-pub record Faulted (quiet : Bool) (outside : List Outside) (fault : RunFault) (from to : Place) : Type 0 where
+pub record Faulted (quiet : Bool) (outside : List Outside) (fault : RunFault) (from to : Moment) : Type 0 where
   pub left : List Outside
   pub why : IsReason fault to.net left
   pub much : IsRefusedOf fault from.net
@@ -58,7 +58,7 @@ pub record Faulted (quiet : Bool) (outside : List Outside) (fault : RunFault) (f
   pub stopped : Stopped quiet outside left lost from (record to { voices = voices })
 
 -- this came, unless there was a fault
-abbrev pub Goes : {T : Type 0} → Result T RunFault → Bool → List Outside → Place → Place → Type 0
+abbrev pub Goes : {T : Type 0} → Result T RunFault → Bool → List Outside → Moment → Moment → Type 0
 Goes result quiet outside from to = MatchResult result (λ _. Went quiet outside from to) (λ fault. Faulted quiet outside fault from to)
 
 -- the network rests; or it has used up its rounds
@@ -67,12 +67,12 @@ RestsIf true net = IsResting net
 RestsIf false net = IsSpent net
 
 -- this came, if the network rests; some may be left if it has used up its rounds
-pub record Takes (quiet : Bool) (outside : List Outside) (rests : Bool) (from to : Place) : Type 0 where
+pub record Takes (quiet : Bool) (outside : List Outside) (rests : Bool) (from to : Moment) : Type 0 where
   pub left : List Outside
   pub all : rests ≡ true → left ≡ []
   pub stopped : Stopped quiet outside left to.due from to
 
-abbrev pub TakesIf : Result Bool RunFault → Bool → List Outside → Place → Place → Type 0
+abbrev pub TakesIf : Result Bool RunFault → Bool → List Outside → Moment → Moment → Type 0
 TakesIf result quiet outside from to =
     MatchResult result (λ rests. Takes quiet outside rests from to) (λ fault. Faulted quiet outside fault from to)
 
@@ -81,7 +81,7 @@ abbrev pub IsTimeFor : ℕ → List Outside → Type 0
 IsTimeFor m times = (times ≡ []) ⊎ (times ≡ Outside.Time m ∷ [])
 
 -- mote m gets the time, where it is behind
-abbrev pub TellsIf : Result Bool RunFault → Bool → ℕ → Place → Place → Type 0
+abbrev pub TellsIf : Result Bool RunFault → Bool → ℕ → Moment → Moment → Type 0
 TellsIf result quiet m from to = (times : List Outside) × IsTimeFor m times × TakesIf result quiet times from to
 
 -- an input, and before it the time for its mote, or nothing
@@ -89,7 +89,7 @@ abbrev pub IsWithTime : NetworkInput → List Outside → Type 0
 IsWithTime input outside = (times : List Outside) × (outside ≡ times ++ Outside.Given input ∷ [])
     × ((times ≡ []) ⊎ ((m : ℕ) × (times ≡ Outside.Time m ∷ []) × IsFor m input))
 
-abbrev pub TakesInputIf : Result Bool RunFault → Bool → NetworkInput → Place → Place → Type 0
+abbrev pub TakesInputIf : Result Bool RunFault → Bool → NetworkInput → Moment → Moment → Type 0
 TakesInputIf result quiet input from to = (outside : List Outside) × IsWithTime input outside × TakesIf result quiet outside from to
 
 -- the sink's failure count before and after
@@ -106,25 +106,25 @@ pub record ComesWith (inputs : List NetworkInput) (outside : List Outside) : Typ
   pub in_turn : AreInTurn outside
 
 -- some of what comes with these inputs came, and then there was a fault
-pub record RunFaulted (quiet : Bool) (inputs : List NetworkInput) (fault : RunFault) (from to : Place) : Type 0 where
+pub record RunFaulted (quiet : Bool) (inputs : List NetworkInput) (fault : RunFault) (from to : Moment) : Type 0 where
   pub outside : List Outside
   pub comes : ComesWith inputs outside
   pub faulted : Faulted quiet outside fault from to
 
 -- or the run on this script came to its end
-pub record Ends (quiet : Bool) (script : Reading) (end : End) (from to : Place) : Type 0 where
+pub record Ends (quiet : Bool) (script : Reading) (end : End) (from to : Moment) : Type 0 where
   pub outside : List Outside
   pub comes : ComesWith script.0 outside
   pub left : List Outside
   pub can : CanEnd to.net left script.1 end
   pub stopped : Stopped quiet outside left to.due from to
 
-abbrev pub RunsIf : Result End RunFault → Bool → Reading → Place → Place → Type 0
+abbrev pub RunsIf : Result End RunFault → Bool → Reading → Moment → Moment → Type 0
 RunsIf result quiet script from to =
     MatchResult result (λ end. Ends quiet script end from to) (λ fault. RunFaulted quiet script.0 fault from to)
 
 -- some inputs of a script were executed, and the later lines say the others; more may come in turn
-pub record HasCome (quiet : Bool) (script later : Reading) (from here : Place) : Type 0 where
+pub record HasCome (quiet : Bool) (script later : Reading) (from here : Moment) : Type 0 where
   pub earlier : List Outside
   pub inputs : script.0 ≡ givens earlier ++ later.0
   pub in_turn : (more : List Outside) → AreInTurn more → AreInTurn (earlier ++ more)
@@ -132,10 +132,10 @@ pub record HasCome (quiet : Bool) (script later : Reading) (from here : Place) :
   pub went : Went quiet earlier from here
 
 -- after a line the run goes on with those after it, or ends
-abbrev pub LineEnds : Option End → Bool → Reading → Reading → Place → Place → Type 0
+abbrev pub LineEnds : Option End → Bool → Reading → Reading → Moment → Moment → Type 0
 LineEnds None quiet script later from to = HasCome quiet script later from to
 LineEnds (Some end) quiet script later from to = Ends quiet script end from to
 
-abbrev pub LineRuns : Result (Option End) RunFault → Bool → Reading → Reading → Place → Place → Type 0
+abbrev pub LineRuns : Result (Option End) RunFault → Bool → Reading → Reading → Moment → Moment → Type 0
 LineRuns result quiet script later from to =
     MatchResult result (λ ending. LineEnds ending quiet script later from to) (λ fault. RunFaulted quiet script.0 fault from to)

@@ -3,7 +3,6 @@ use Rattle.std.specs.Prelude.{ℕ, List}
 use Rattle.mote_types.specs.declared.call.Call.{Call}
 use Rattle.mote_session.specs.SessionView.{SessionView}
 use Rattle.mote_session.specs.declared.session.Next.{Next}
-use Rattle.mote_session.specs.declared.session.Worked.{Worked as Done}
 use Rattle.network_session.specs.Network.{NetworkView}
 use Rattle.network_session.specs.Steps.{IsNetworkSubmitted, SubmittedIn, Worked, WorkedIn}
 
@@ -15,11 +14,11 @@ pub record TurnIn (m : ℕ) (old new : List SessionView) : Type 0 where
   pub submitted : SubmittedIn m call mid new
 
 -- one mote worked
-abbrev pub WorksIn : ℕ → Done → List SessionView → List SessionView → Type 0
-WorksIn m Done.Turn old new = TurnIn m old new
-WorksIn m Done.Entry old new = WorkedIn m Next.Entry old new
-WorksIn m Done.Rest old new = WorkedIn m Next.Rest old new
-WorksIn m Done.Halted old new = WorkedIn m Next.Halted old new
+abbrev pub WorksIn : ℕ → Next → List SessionView → List SessionView → Type 0
+WorksIn m Next.Turn old new = TurnIn m old new
+WorksIn m Next.Entry old new = WorkedIn m Next.Entry old new
+WorksIn m Next.Rest old new = WorkedIn m Next.Rest old new
+WorksIn m Next.Halted old new = WorkedIn m Next.Halted old new
 
 -- the mote that is at work took a turn
 pub record TakesTurn (m : ℕ) (old new : NetworkView) : Type 0 where
@@ -28,8 +27,8 @@ pub record TakesTurn (m : ℕ) (old new : NetworkView) : Type 0 where
   pub opens : Worked m Next.Turn old mid
   pub submitted : IsNetworkSubmitted call mid new
 
-abbrev pub Works : ℕ → Done → NetworkView → NetworkView → Type 0
-Works m Done.Turn old new = TakesTurn m old new
-Works m Done.Entry old new = Worked m Next.Entry old new
-Works m Done.Rest old new = Worked m Next.Rest old new
-Works m Done.Halted old new = Worked m Next.Halted old new
+abbrev pub Works : ℕ → Next → NetworkView → NetworkView → Type 0
+Works m Next.Turn old new = TakesTurn m old new
+Works m Next.Entry old new = Worked m Next.Entry old new
+Works m Next.Rest old new = Worked m Next.Rest old new
+Works m Next.Halted old new = Worked m Next.Halted old new

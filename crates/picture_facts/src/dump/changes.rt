@@ -23,7 +23,7 @@ pub(crate) const LEVELS: usize = 4 + 2 * PROCESSES;
 
 impl Level {
     /// Its position among all.
-    pub(crate) fn place(self) -> usize {
+    pub(crate) fn index(self) -> usize {
         match self {
             Level::Queue => 0,
             Level::Managed => 1,

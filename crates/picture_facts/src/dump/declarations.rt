@@ -26,20 +26,17 @@ const UNITS: [&str; 16] = [
 #[derive(Clone, Copy)]
 pub(crate) struct Scale {
     /// Which of the units it is.
-    place: usize,
+    unit: usize,
     pub(crate) units: u64,
 }
 
 impl Scale {
     /// The scale, by the largest number of lines at one clock.
     pub(crate) fn of(most: u64) -> Scale {
-        let mut scale = Scale {
-            place: 1,
-            units: 10,
-        };
+        let mut scale = Scale { unit: 1, units: 10 };
         for _unit in 2..UNITS.len() {
             if scale.units <= most {
-                scale.place = scale.place.saturating_add(1);
+                scale.unit = scale.unit.saturating_add(1);
                 scale.units = scale.units.saturating_mul(10);
             }
         }
@@ -61,9 +58,9 @@ fn push_identifier(out: &mut String, name: &str) -> Result<(), AllocError> {
 }
 
 /// Appends the declaration of the signal at a position among all.
-fn push_signal(out: &mut String, place: usize, names: &[&str]) -> Result<(), AllocError> {
-    let letter = char::from(33 + place.min(SIGNALS) as u8);
-    let signal = Signal::at(place);
+fn push_signal(out: &mut String, index: usize, names: &[&str]) -> Result<(), AllocError> {
+    let letter = char::from(33 + index.min(SIGNALS) as u8);
+    let signal = Signal::at(index);
     write!(
         out,
         "$var reg {} {letter} {}",
@@ -72,7 +69,7 @@ fn push_signal(out: &mut String, place: usize, names: &[&str]) -> Result<(), All
     )?;
     if let Signal::Process(pid) = signal {
         write!(out, "_{pid}")?;
-        if let Some(name) = names.get(place.saturating_sub(COMMON)) {
+        if let Some(name) = names.get(index.saturating_sub(COMMON)) {
             out.push_str("_")?;
             push_identifier(out, name)?;
         }
@@ -88,10 +85,10 @@ fn push_declarations(
     applications: usize,
 ) -> Result<(), AllocError> {
     out.push_str(HEAD)?;
-    let unit = UNITS.get(scale.place).copied().unwrap_or("1 fs");
+    let unit = UNITS.get(scale.unit).copied().unwrap_or("1 fs");
     write!(out, "$timescale {unit} $end\n$scope module mote $end\n")?;
-    for place in 0..applications.saturating_add(COMMON) {
-        push_signal(out, place, names)?;
+    for index in 0..applications.saturating_add(COMMON) {
+        push_signal(out, index, names)?;
     }
     out.push_str("$upscope $end\n")
 }

@@ -7,7 +7,7 @@ use crate::dump::changes::{Change, LEVELS, Level};
 use crate::dump::signal::Signal;
 use crate::dump::values::Value;
 use crate::memory::Sizes;
-use transcript_lines::{Line, read_line};
+use crate::transcript::{Line, read_line};
 
 /// The levels after the lines so far.
 #[derive(Clone, Copy)]
@@ -42,12 +42,12 @@ impl Levels {
     }
 
     fn level(&self, level: Level) -> u64 {
-        self.levels.get(level.place()).copied().unwrap_or(0)
+        self.levels.get(level.index()).copied().unwrap_or(0)
     }
 
     pub(crate) fn apply_all(&mut self, changes: &[Change]) {
         for change in changes {
-            if let Some(level) = self.levels.get_mut(change.level.place()) {
+            if let Some(level) = self.levels.get_mut(change.level.index()) {
                 *level = if change.rises {
                     level.saturating_add(change.amount)
                 } else {

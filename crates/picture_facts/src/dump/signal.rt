@@ -31,14 +31,14 @@ pub(crate) const COMMON: usize = 5;
 
 impl Signal {
     /// The signal at a position among all.
-    pub(crate) fn at(place: usize) -> Signal {
-        match place {
+    pub(crate) fn at(index: usize) -> Signal {
+        match index {
             0 => Signal::Running,
             1 => Signal::Queue,
             2 => Signal::ManagedFree,
             3 => Signal::HeapFree,
             4 => Signal::Timers,
-            _ => Signal::Process(place - COMMON + FIRST),
+            _ => Signal::Process(index - COMMON + FIRST),
         }
     }
 

@@ -1,6 +1,6 @@
 //! Calls with their replies.
 
-use transcript_lines::{Turn, read_turn};
+use crate::transcript::{Turn, read_turn};
 
 /// A call that wasn't refused.
 #[derive(Clone, Copy)]
@@ -17,12 +17,12 @@ pub(crate) fn accepted_call<'a>(
     turn: &Turn<'a>,
     answer: Option<usize>,
 ) -> Option<Accepted<'a>> {
-    let told = read_turn(lines.get(answer?)?)?;
-    if told.stimulus.starts_with("refused ") {
+    let reply = read_turn(lines.get(answer?)?)?;
+    if reply.stimulus.starts_with("refused ") {
         return None;
     }
     Some(Accepted {
         call: turn.call,
-        answer: told.stimulus,
+        answer: reply.stimulus,
     })
 }

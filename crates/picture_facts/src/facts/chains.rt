@@ -31,7 +31,7 @@ pub(crate) enum ListChange {
     /// A block is put before all others.
     Prepend(u64),
     /// The second block is put after the first one.
-    PutBehind(u64, u64),
+    InsertAfter(u64, u64),
     /// A block leaves the list.
     Remove(u64),
 }
@@ -51,7 +51,7 @@ fn change_by(word: &str, first: u64, last: u64, answer: u64) -> Option<ListChang
     match word {
         "list-add" => Some(ListChange::Append(last)),
         "list-push" => Some(ListChange::Prepend(last)),
-        "list-insert" => Some(ListChange::PutBehind(first, last)),
+        "list-insert" => Some(ListChange::InsertAfter(first, last)),
         "list-remove" => Some(ListChange::Remove(last)),
         "list-pop" | "list-chop" => Some(ListChange::Remove(answer)),
         _ => None,
@@ -66,20 +66,20 @@ fn take_out(blocks: &mut Vec<u64>, block: u64)
 }
 
 /// The position of a block, if the list has it.
-fn place_of(blocks: &[u64], block: u64) -> Option<usize>
-    ensures within { IfSome result (λ place. place < length blocks.now) }
-    ensures place { result ≡ position (λ other. other == block) blocks.now }
+fn position_of(blocks: &[u64], block: u64) -> Option<usize>
+    ensures within { IfSome result (λ index. index < length blocks.now) }
+    ensures found { result ≡ position (λ other. other == block) blocks.now }
 {
     blocks.iter().position(|other| *other == block)
 }
 
 /// The position after a block, or the end where the list doesn't have it.
-fn place_behind(blocks: &[u64], block: u64) -> usize
+fn position_after(blocks: &[u64], block: u64) -> usize
     ensures within { result ≤ length blocks.now }
-    ensures place { result ≡ spec.place_behind block blocks.now }
+    ensures found { result ≡ spec.position_after block blocks.now }
 {
-    match place_of(blocks, block) {
-        Some(place) => place + 1,
+    match position_of(blocks, block) {
+        Some(index) => index + 1,
         None => blocks.len(),
     }
 }
@@ -97,10 +97,10 @@ fn carry_out(blocks: &mut Vec<u64>, change: ListChange) -> Result<(), AllocError
             take_out(blocks, block);
             blocks.insert(0, block)?;
         }
-        ListChange::PutBehind(other, block) => {
+        ListChange::InsertAfter(other, block) => {
             take_out(blocks, block);
-            let place = place_behind(blocks.as_slice(), other);
-            blocks.insert(place, block)?;
+            let index = position_after(blocks.as_slice(), other);
+            blocks.insert(index, block)?;
         }
         ListChange::Remove(block) => take_out(blocks, block),
     }

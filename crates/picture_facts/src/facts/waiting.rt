@@ -10,9 +10,9 @@ ghost use Rattle.picture_facts.specs.Words.{is_space};
 
 use crate::facts::accepted::Accepted;
 use crate::numbers::bit_of;
+use crate::transcript::{Origin, Turn};
 use std::alloc::{AllocError, Global};
 use std::marker::Model;
-use transcript_lines::{Origin, Turn};
 
 /// The number of events that a queue has room for.
 const PLACES: usize = 32;
@@ -40,7 +40,7 @@ struct Posted<'a> {
 #[derive(Clone, Copy)]
 struct Broadcast<'a> {
     event: &'a str,
-    told: u32,
+    receivers: u32,
 }
 
 /// The event queue after the lines so far. Contracts see the numbers of the lines that post: of the events that waited, and of those that
@@ -93,7 +93,7 @@ pub(crate) fn posted_by(call: &str) -> Option<(Option<usize>, &str)>
 
 impl Posted<'_> {
     /// Whether a turn may be its delivery.
-    fn is_told_by(&self, turn: &Turn<'_>) -> bool {
+    fn is_received_by(&self, turn: &Turn<'_>) -> bool {
         let is_for = match self.to {
             Some(to) => to == turn.pid,
             None => true,
@@ -167,10 +167,11 @@ impl<'a> Queue<'a> {
     {
         let bit = bit_of(turn.pid);
         match &mut self.broadcast {
-            Some(broadcast) if broadcast.event == turn.stimulus && broadcast.told & bit == 0 => {
-                broadcast.told |= bit;
-                true
-            }
+            Some(broadcast) if broadcast.event == turn.stimulus && broadcast.receivers & bit == 0 =>
+                {
+                    broadcast.receivers |= bit;
+                    true
+                }
             _ => false,
         }
     }
@@ -183,7 +184,7 @@ impl<'a> Queue<'a> {
             return Ok(());
         }
         match self.receive(turn) {
-            Some(place) => self.end_front(place.saturating_add(1), line),
+            Some(index) => self.end_front(index.saturating_add(1), line),
             None => Ok(()),
         }
     }
@@ -192,17 +193,17 @@ impl<'a> Queue<'a> {
     fn receive(&mut self, turn: &Turn<'a>) -> Option<usize>
         ensures { self.new ≡ self.old }
     {
-        for place in 0..self.posted.len() {
-            let posted = self.posted[place];
-            if posted.is_told_by(turn) {
+        for index in 0..self.posted.len() {
+            let posted = self.posted[index];
+            if posted.is_received_by(turn) {
                 self.broadcast = match posted.to {
                     Some(_) => None,
                     None => Some(Broadcast {
                         event: turn.stimulus,
-                        told: bit_of(turn.pid),
+                        receivers: bit_of(turn.pid),
                     }),
                 };
-                return Some(place);
+                return Some(index);
             }
         }
         None
@@ -217,9 +218,9 @@ impl<'a> Queue<'a> {
             mut waits,
             ..
         } = self;
-        for place in 0..posted.len() {
+        for index in 0..posted.len() {
             waits.push(Wait {
-                line: posted[place].line,
+                line: posted[index].line,
                 end: None,
             })?;
         }

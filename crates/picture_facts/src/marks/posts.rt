@@ -1,13 +1,13 @@
 //! Events on their way, from the rows where they are posted to the rows where they are received.
 
 ghost use Rattle.std.specs.Prelude.{All};
-ghost use Rattle.picture_facts.specs.Spans.{IsToldLater};
+ghost use Rattle.picture_facts.specs.Spans.{IsReceivedLater};
 
 use crate::facts::waiting::posted_by;
 use crate::numbers::bit_of;
+use crate::spans::{Span, Spans};
+use crate::transcript::{Turn, read_turn};
 use std::alloc::Global;
-use std::marker::Model;
-use transcript_lines::{Turn, read_turn};
 
 /// The largest number of events on their way: as many as the queue holds, and one that is being broadcast.
 const MOST: usize = 33;
@@ -22,7 +22,7 @@ struct Posted {
     /// The row of that line. `None` where it is before the first row.
     row: Option<usize>,
     /// A bit for each process that received it.
-    told: u32,
+    receivers: u32,
 }
 
 /// An event from the row where it was posted to the one where it is received.
@@ -38,9 +38,9 @@ pub struct Curve {
 #[derive(Drop)]
 pub(crate) struct Posts {
     posted: Vec<Posted>,
-    curves: Vec<Curve>,
-    /// Whether there was memory for all of them so far.
-    pub(crate) is_whole: bool,
+    curves: Spans<Curve>,
+    /// Whether there was memory for all that were posted so far.
+    is_whole: bool,
 }
 
 /// The code of the event that the call of a line posts, and what it carries.
@@ -54,32 +54,30 @@ fn event_in<'a>(lines: &[&'a str], number: usize) -> Option<&'a str> {
 
 impl Posted {
     /// Whether a turn may be the one that receives it.
-    fn is_told_by(&self, lines: &[&str], turn: &Turn<'_>) -> bool {
+    fn is_received_by(&self, lines: &[&str], turn: &Turn<'_>) -> bool {
         let is_for = match self.to {
             Some(to) => to == turn.pid,
-            None => self.told & bit_of(turn.pid) == 0,
+            None => self.receivers & bit_of(turn.pid) == 0,
         };
         is_for && event_in(lines, self.number) == Some(turn.stimulus)
     }
 }
 
-impl Model for Posts {
-    ghost use Rattle.std.specs.Prelude.{List, All};
-    ghost use Rattle.picture_facts.specs.declared.marks.posts.Curve.{Curve};
-    ghost use Rattle.picture_facts.specs.Spans.{IsToldLater};
+impl Span for Curve {
+    ghost use Rattle.picture_facts.specs.Spans.{IsReceivedLater};
 
-    ghost Value = { List Curve };
+    ghost leads_on = { IsReceivedLater };
 
-    ghost view = { λ posts. posts.curves.items };
-
-    ghost invariant = { λ posts. All IsToldLater posts.curves.items };
+    fn ends_later(&self) -> bool {
+        self.first < self.last
+    }
 }
 
 impl Posts {
     pub(crate) fn new(alloc: Global) -> Self {
         Posts {
             posted: Vec::new(alloc),
-            curves: Vec::new(alloc),
+            curves: Spans::new(alloc),
             is_whole: true,
         }
     }
@@ -97,7 +95,7 @@ impl Posts {
             to,
             number,
             row: Some(row),
-            told: 0,
+            receivers: 0,
         };
         self.is_whole &= self.posted.push(posted).is_ok();
     }
@@ -109,40 +107,36 @@ impl Posts {
     }
 
     /// An event is received in a row. Those that were posted before it were received already, or by nobody.
-    pub(crate) fn tell(&mut self, lines: &[&str], turn: &Turn<'_>, row: usize) {
+    pub(crate) fn receive(&mut self, lines: &[&str], turn: &Turn<'_>, row: usize) {
         let Some(posted) = self.take(lines, turn) else {
             return;
         };
-        let first = posted.row.unwrap_or(row);
-        if first < row {
-            let curve = Curve {
-                from: posted.from,
-                first,
-                to: turn.pid,
-                last: row,
-            };
-            self.is_whole &= self.curves.push(curve).is_ok();
-        }
+        self.curves.end(Curve {
+            from: posted.from,
+            first: posted.row.unwrap_or(row),
+            to: turn.pid,
+            last: row,
+        });
     }
 
     /// A turn receives its event: those before it go, and so does it where it was posted to only one.
     fn take(&mut self, lines: &[&str], turn: &Turn<'_>) -> Option<Posted> {
-        let place = self.place_of(lines, turn)?;
-        let posted = self.posted.as_mut_slice().get_mut(place)?;
-        posted.told |= bit_of(turn.pid);
+        let index = self.position_of(lines, turn)?;
+        let posted = self.posted.as_mut_slice().get_mut(index)?;
+        posted.receivers |= bit_of(turn.pid);
         let posted = *posted;
         match posted.to {
-            Some(_) => self.forget_front(place.saturating_add(1)),
-            None => self.forget_front(place),
+            Some(_) => self.forget_front(index.saturating_add(1)),
+            None => self.forget_front(index),
         }
         Some(posted)
     }
 
     /// Where the event that a turn receives is among those on their way, if it is there.
-    fn place_of(&self, lines: &[&str], turn: &Turn<'_>) -> Option<usize> {
-        for place in 0..self.posted.len() {
-            if self.posted[place].is_told_by(lines, turn) {
-                return Some(place);
+    fn position_of(&self, lines: &[&str], turn: &Turn<'_>) -> Option<usize> {
+        for index in 0..self.posted.len() {
+            if self.posted[index].is_received_by(lines, turn) {
+                return Some(index);
             }
         }
         None
@@ -150,16 +144,21 @@ impl Posts {
 
     /// What was posted so far was posted in no row.
     pub(crate) fn forget_rows(&mut self) {
-        self.curves.clear();
+        self.curves.forget();
         for posted in self.posted.as_mut_slice() {
             posted.row = None;
         }
     }
 
+    /// Whether there was memory for all of them so far.
+    pub(crate) fn is_whole(&self) -> bool {
+        self.is_whole & self.curves.is_whole()
+    }
+
     /// The events that were received.
     pub(crate) fn finish(self) -> Vec<Curve>
-        ensures { All IsToldLater result.items }
+        ensures { All IsReceivedLater result.items }
     {
-        self.curves
+        self.curves.finish()
     }
 }

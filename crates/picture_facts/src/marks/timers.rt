@@ -4,9 +4,9 @@ ghost use Rattle.std.specs.Prelude.{◌≡◌, ◌%◌, nat_le, All};
 ghost use Rattle.picture_facts.specs.Spans.{ArmingEndsLater};
 
 use crate::numbers::{Asked, number_of};
+use crate::spans::{Span, Spans, ends_later};
+use crate::transcript::{Origin, Turn};
 use std::alloc::Global;
-use std::marker::Model;
-use transcript_lines::{Origin, Turn};
 
 /// The number of event timers of a process.
 const EVENT_TIMERS: usize = 8;
@@ -51,7 +51,17 @@ pub struct Arming {
     /// The clock at which it was due.
     pub due: u64,
     /// The clock at which its event was received, if it was: it wasn't stopped or set anew before, and its process did not end.
-    pub told: Option<u64>,
+    pub received: Option<u64>,
+}
+
+impl Span for Arming {
+    ghost use Rattle.picture_facts.specs.Spans.{ArmingEndsLater};
+
+    ghost leads_on = { ArmingEndsLater };
+
+    fn ends_later(&self) -> bool {
+        ends_later(self.first, self.last)
+    }
 }
 
 /// When something happens: in which row, and at which clock.
@@ -65,54 +75,38 @@ pub(crate) struct Moment {
 #[derive(Drop)]
 pub(crate) struct Timers {
     cells: [Cell; CELLS],
-    armings: Vec<Arming>,
-    /// Whether there was memory for all armings so far.
-    is_whole: bool,
-}
-
-impl Model for Timers {
-    ghost use Rattle.std.specs.Prelude.{List, All};
-    ghost use Rattle.picture_facts.specs.declared.marks.timers.Arming.{Arming};
-    ghost use Rattle.picture_facts.specs.Spans.{ArmingEndsLater};
-
-    ghost Value = { List Arming };
-
-    ghost view = { λ timers. timers.armings.items };
-
-    ghost invariant = { λ timers. All ArmingEndsLater timers.armings.items };
+    armings: Spans<Arming>,
 }
 
 impl Timers {
     pub(crate) fn new(alloc: Global) -> Self {
         Timers {
             cells: [UNUSED; CELLS],
-            armings: Vec::new(alloc),
-            is_whole: true,
+            armings: Spans::new(alloc),
         }
     }
 
     fn cell(&mut self, pid: usize, timer: usize) -> Option<&mut Cell> {
-        let place = pid.saturating_mul(TIMERS).saturating_add(timer);
-        self.cells.get_mut(place)
+        let index = pid.saturating_mul(TIMERS).saturating_add(timer);
+        self.cells.get_mut(index)
     }
 
-    /// A timer's arming ends, if it is armed. One that began in the same row is not stored.
-    fn end(&mut self, pid: usize, timer: usize, row: usize, told: Option<u64>) {
+    /// A timer's arming ends, if it is armed.
+    fn end(&mut self, pid: usize, timer: usize, row: usize, received: Option<u64>) {
         let Some(cell) = self.cell(pid, timer) else {
             return;
         };
         let armed = *cell;
         cell.is_armed = false;
-        if armed.is_armed && armed.row < row {
-            let arming = Arming {
+        if armed.is_armed {
+            self.armings.end(Arming {
                 pid,
                 timer,
                 first: armed.row,
                 last: Some(row),
                 due: armed.due(),
-                told,
-            };
-            self.is_whole &= self.armings.push(arming).is_ok();
+                received,
+            });
         }
     }
 
@@ -160,9 +154,9 @@ impl Timers {
     }
 
     /// A process receives a stimulus, perhaps that its timer ran out. Returns the number of ticks since that was due.
-    pub(crate) fn tell(&mut self, turn: &Turn<'_>, moment: Moment) -> u64 {
+    pub(crate) fn receive(&mut self, turn: &Turn<'_>, moment: Moment) -> u64 {
         let Moment { row, clock } = moment;
-        let Some(timer) = timer_told(turn) else {
+        let Some(timer) = expired_timer(turn) else {
             return 0;
         };
         let cell = match self.cell(turn.pid, timer) {
@@ -185,29 +179,28 @@ impl Timers {
 
     /// What has ended so far is forgotten.
     pub(crate) fn forget_rows(&mut self) {
-        self.armings.clear();
+        self.armings.forget();
     }
 
     /// What is still armed stays so to the end. Returns whether there was memory for all armings.
     pub(crate) fn close(&mut self) -> bool {
-        for place in 0..CELLS {
-            self.close_cell(place, self.cells[place]);
+        for index in 0..CELLS {
+            self.close_cell(index, self.cells[index]);
         }
-        self.is_whole
+        self.armings.is_whole()
     }
 
     /// The same for the timer of that number among those of all processes.
-    fn close_cell(&mut self, place: usize, cell: Cell) {
+    fn close_cell(&mut self, index: usize, cell: Cell) {
         if cell.is_armed {
-            let arming = Arming {
-                pid: place / TIMERS,
-                timer: place % TIMERS,
+            self.armings.end(Arming {
+                pid: index / TIMERS,
+                timer: index % TIMERS,
                 first: cell.row,
                 last: None,
                 due: cell.due(),
-                told: None,
-            };
-            self.is_whole &= self.armings.push(arming).is_ok();
+                received: None,
+            });
         }
     }
 
@@ -215,12 +208,12 @@ impl Timers {
     pub(crate) fn finish(self) -> Vec<Arming>
         ensures { All ArmingEndsLater result.items }
     {
-        self.armings
+        self.armings.finish()
     }
 }
 
 /// The timer that ran out by a turn, if one did.
-fn timer_told(turn: &Turn<'_>) -> Option<usize> {
+fn expired_timer(turn: &Turn<'_>) -> Option<usize> {
     match turn.origin {
         Origin::Event => {
             let number = turn.stimulus.strip_prefix("136 ")?;

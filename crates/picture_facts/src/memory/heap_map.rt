@@ -121,11 +121,11 @@ impl HeapMap {
     /// Whether these are the statistics of the heap.
     fn has_stats(&self, answer: &str) -> Result<bool, AllocError> {
         let stats = self.heap.stats();
-        let told = format!(in self.alloc;
+        let reply = format!(in self.alloc;
             "stats {} {} {} {} {}",
             stats.allocated, stats.overhead, stats.available, stats.footprint, stats.chunks
         )?;
-        Ok(told.as_str() == answer)
+        Ok(reply.as_str() == answer)
     }
 
     /// A block's stay ends in a row; where it is still live, another one begins.
@@ -135,14 +135,14 @@ impl HeapMap {
         let pid = key.0.0 as usize;
         let name = key.1 as u64;
         self.record.end(Sought::Named(pid, name), row);
-        let Some(place) = self.heap.place_of(key) else {
+        let Some(block) = self.heap.place_of(key) else {
             return;
         };
         self.record.begin(Stay {
             pid,
             name,
-            at: place.at as u64,
-            taken: self.header as u64 + place.room as u64,
+            at: block.at as u64,
+            taken: self.header as u64 + block.room as u64,
             size: size as u64,
             first: row,
             last: None,

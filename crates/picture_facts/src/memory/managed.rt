@@ -130,8 +130,8 @@ impl Managed {
         };
         let taken = stay.taken;
         self.record.take_away(gone, row);
-        for place in gone..self.record.live().len() {
-            self.record.move_down(place, taken, row);
+        for index in gone..self.record.live().len() {
+            self.record.move_down(index, taken, row);
         }
     }
 

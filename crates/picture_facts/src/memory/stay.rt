@@ -3,8 +3,8 @@
 ghost use Rattle.std.specs.Prelude.{◌≡◌, All};
 ghost use Rattle.picture_facts.specs.Spans.{StayEndsLater};
 
+use crate::spans::{Span, Spans, ends_later};
 use std::alloc::Global;
-use std::marker::Model;
 
 /// A block at its position, from a row on.
 #[derive(Clone, Copy)]
@@ -22,6 +22,16 @@ pub struct Stay {
     pub first: usize,
     /// The row where it goes, or moves. `None` where that never happens.
     pub last: Option<usize>,
+}
+
+impl Span for Stay {
+    ghost use Rattle.picture_facts.specs.Spans.{StayEndsLater};
+
+    ghost leads_on = { StayEndsLater };
+
+    fn ends_later(&self) -> bool {
+        ends_later(self.first, self.last)
+    }
 }
 
 /// What a block is found by.
@@ -49,44 +59,32 @@ impl Sought {
 #[derive(Drop)]
 pub(crate) struct Record {
     live: Vec<Stay>,
-    ended: Vec<Stay>,
-    /// Whether there was memory for all of them so far.
+    ended: Spans<Stay>,
+    /// Whether there was memory for all that have a position so far.
     is_whole: bool,
-}
-
-impl Model for Record {
-    ghost use Rattle.std.specs.Prelude.{List, All};
-    ghost use Rattle.picture_facts.specs.declared.memory.stay.Stay.{Stay};
-    ghost use Rattle.picture_facts.specs.Spans.{StayEndsLater};
-
-    ghost Value = { List Stay };
-
-    ghost view = { λ stays. stays.live.items };
-
-    ghost invariant = { λ stays. All StayEndsLater stays.ended.items };
 }
 
 impl Record {
     pub(crate) fn new(alloc: Global) -> Self {
         Record {
             live: Vec::new(alloc),
-            ended: Vec::new(alloc),
+            ended: Spans::new(alloc),
             is_whole: true,
         }
     }
 
     /// The blocks that have a position.
     pub(crate) fn live(&self) -> &[Stay]
-        ensures { result.now ≡ self.now }
+        ensures { result.now ≡ self.now.live.items }
     {
         self.live.as_slice()
     }
 
     /// The index of the first such block in the list of those that have a position.
     pub(crate) fn find(&self, sought: Sought) -> Option<usize> {
-        for place in 0..self.live.len() {
-            if sought.is(&self.live[place]) {
-                return Some(place);
+        for index in 0..self.live.len() {
+            if sought.is(&self.live[index]) {
+                return Some(index);
             }
         }
         None
@@ -100,25 +98,25 @@ impl Record {
     /// The stay of such a block ends in a row, if there is one. The order of the others may change.
     pub(crate) fn end(&mut self, sought: Sought, row: usize) {
         match self.find(sought) {
-            Some(place) if place < self.live.len() => {
-                let stay = self.live.swap_remove(place);
+            Some(index) if index < self.live.len() => {
+                let stay = self.live.swap_remove(index);
                 self.keep(stay, row);
             }
             _ => {}
         }
     }
 
-    /// The block at index `place` of the list goes in a row, and the others keep their order.
-    pub(crate) fn take_away(&mut self, place: usize, row: usize) {
-        if place < self.live.len() {
-            let stay = self.live.remove(place);
+    /// The block at index `index` of the list goes in a row, and the others keep their order.
+    pub(crate) fn take_away(&mut self, index: usize, row: usize) {
+        if index < self.live.len() {
+            let stay = self.live.remove(index);
             self.keep(stay, row);
         }
     }
 
-    /// The block at index `place` of the list moves down by `bytes` bytes in a row.
-    pub(crate) fn move_down(&mut self, place: usize, bytes: u64, row: usize) {
-        if let Some(stay) = self.live.as_mut_slice().get_mut(place) {
+    /// The block at index `index` of the list moves down by `bytes` bytes in a row.
+    pub(crate) fn move_down(&mut self, index: usize, bytes: u64, row: usize) {
+        if let Some(stay) = self.live.as_mut_slice().get_mut(index) {
             let before = *stay;
             stay.at = before.at.saturating_sub(bytes);
             stay.first = row;
@@ -126,17 +124,15 @@ impl Record {
         }
     }
 
-    /// A stay has ended in a row. One that was in no other row is not stored.
+    /// A stay has ended in a row.
     fn keep(&mut self, stay: Stay, row: usize) {
-        if stay.first < row {
-            let last = Some(row);
-            self.is_whole &= self.ended.push(Stay { last, ..stay }).is_ok();
-        }
+        let last = Some(row);
+        self.ended.end(Stay { last, ..stay });
     }
 
     /// What has ended so far is forgotten, and what has not ended begins in the first row.
     pub(crate) fn forget_rows(&mut self) {
-        self.ended.clear();
+        self.ended.forget();
         for stay in self.live.as_mut_slice() {
             stay.first = 0;
         }
@@ -144,20 +140,20 @@ impl Record {
 
     /// What has not ended stays so to the end. Returns whether there was memory for all.
     pub(crate) fn close(&mut self) -> bool {
-        for place in 0..self.live.len() {
-            self.keep_open(place);
+        for index in 0..self.live.len() {
+            self.keep_open(index);
         }
-        self.is_whole
+        self.is_whole & self.ended.is_whole()
     }
 
     /// The same for the block at that index in the list.
-    fn keep_open(&mut self, place: usize) {
-        if let Some(stay) = self.live.get(place) {
+    fn keep_open(&mut self, index: usize) {
+        if let Some(stay) = self.live.get(index) {
             let open = Stay {
                 last: None,
                 ..*stay
             };
-            self.is_whole &= self.ended.push(open).is_ok();
+            self.ended.end(open);
         }
     }
 
@@ -165,6 +161,6 @@ impl Record {
     pub(crate) fn finish(self) -> Vec<Stay>
         ensures { All StayEndsLater result.items }
     {
-        self.ended
+        self.ended.finish()
     }
 }

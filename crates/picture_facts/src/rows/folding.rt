@@ -5,8 +5,8 @@ ghost use Rattle.std.specs.Bool.{OnTrue};
 ghost use Rattle.picture_facts.specs.Rows.{AreAgain, Cover, IsPlain, IsTrueRow, bytes_of};
 
 use crate::rows::row::{Row, Show};
+use crate::transcript::{Origin, Turn, read_turn};
 use std::alloc::{AllocError, Global};
-use transcript_lines::{Origin, Turn, read_turn};
 
 /// The largest number of parts, each a run of ticks or another input with what follows it, that may be repeated as one.
 const LONGEST_PERIOD: usize = 16;
@@ -18,9 +18,9 @@ const LEAST_TIMES: usize = 2;
 fn ticks_in_front(lines: &[&str]) -> usize
     ensures { result ≤ length lines.now }
 {
-    for place in 0..lines.len() {
-        if !lines[place].starts_with("> tick ") {
-            return place;
+    for index in 0..lines.len() {
+        if !lines[index].starts_with("> tick ") {
+            return index;
         }
     }
     lines.len()
@@ -35,12 +35,12 @@ fn only_ends(line: &str, pid: usize) -> bool {
 }
 
 /// Whether in the line another process receives the same, and it only waits.
-fn waits_too(line: &str, told: &Turn<'_>) -> bool {
+fn waits_too(line: &str, first: &Turn<'_>) -> bool {
     match read_turn(line) {
         Some(turn) => {
-            turn.pid != told.pid
-                && turn.origin == told.origin
-                && turn.stimulus == told.stimulus
+            turn.pid != first.pid
+                && turn.origin == first.origin
+                && turn.stimulus == first.stimulus
                 && turn.call == "wait"
         }
         None => false,
@@ -48,12 +48,12 @@ fn waits_too(line: &str, told: &Turn<'_>) -> bool {
 }
 
 /// The number of lines from the first on in which others only wait, too.
-fn waits_in_front(lines: &[&str], told: &Turn<'_>) -> usize
+fn waits_in_front(lines: &[&str], first: &Turn<'_>) -> usize
     ensures { result ≤ length lines.now }
 {
-    for place in 0..lines.len() {
-        if !waits_too(lines[place], told) {
-            return place;
+    for index in 0..lines.len() {
+        if !waits_too(lines[index], first) {
+            return index;
         }
     }
     lines.len()
@@ -130,8 +130,8 @@ fn are_again(lines: &[&str], before: usize, at: usize) -> bool
     if lines.len() - at < count {
         return false;
     }
-    for place in at..at + count {
-        if lines[place] != lines[place - count] {
+    for index in at..at + count {
+        if lines[index] != lines[index - count] {
             return false;
         }
     }
@@ -143,7 +143,7 @@ fn are_again(lines: &[&str], before: usize, at: usize) -> bool
 fn end_of_repeats(lines: &[&str], before: usize, at: usize) -> usize
     requires order { before < at }
     requires there { at ≤ length lines.now }
-    ensures behind { at ≤ result }
+    ensures after { at ≤ result }
     ensures there { result ≤ length lines.now }
     ensures again { AreAgain (bytes_of lines.now) (at - before) at result }
 {

@@ -1,7 +1,7 @@
 //! The reply to a call.
 
 ghost use Rattle.std.specs.Prelude.{◌≡◌, ◌++◌, [], Some, codes, string_bytes, option_map, IfOk};
-ghost use Rattle.transcript_lines.specs.Lines.{behind};
+ghost use Rattle.picture_facts.specs.Transcript.Lines.{after_prefix};
 ghost use Rattle.picture_facts.specs.Words as spec;
 
 use crate::words::bytes::push_bytes;
@@ -36,7 +36,7 @@ fn reason(number: &str) -> &'static str
 
 /// The number of its refusal, where a reply is one.
 pub fn refusal_in(answer: &str) -> Option<&str>
-    ensures { option_map (λ number. number.now) result ≡ behind (codes "refused ") answer.now }
+    ensures { option_map (λ number. number.now) result ≡ after_prefix (codes "refused ") answer.now }
 {
     answer.strip_prefix("refused ")
 }

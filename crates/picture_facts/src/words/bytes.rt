@@ -117,8 +117,8 @@ fn push_count(out: &mut String, count: usize, most: usize) -> Result<(), AllocEr
     }
 }
 
-/// The bytes that digits stand for; none where they are no digits.
-fn bytes_of(alloc: Global, digits: &str) -> Result<Vec<u8>, AllocError>
+/// The bytes of digits in hex; none where they are no digits.
+pub fn bytes_in(alloc: Global, digits: &str) -> Result<Vec<u8>, AllocError>
     ensures { IfOk result (λ bytes. bytes.items ≡ spec.bytes_in digits.now) }
 {
     match hex::decode(alloc, digits) {
@@ -145,7 +145,7 @@ fn push_shown(out: &mut String, bytes: &[u8], most_text: usize) -> Result<(), Al
 pub(crate) fn push_printed(alloc: Global, out: &mut String, digits: &str) -> Result<(), AllocError>
     ensures { IfOk result (λ _. string_bytes out.new ≡ string_bytes out.old ++ spec.printed_words digits.now) }
 {
-    let bytes = bytes_of(alloc, digits)?;
+    let bytes = bytes_in(alloc, digits)?;
     push_shown(out, bytes.as_slice(), MOST_PRINTED)
 }
 
@@ -153,6 +153,6 @@ pub(crate) fn push_printed(alloc: Global, out: &mut String, digits: &str) -> Res
 pub(crate) fn push_bytes(alloc: Global, out: &mut String, digits: &str) -> Result<(), AllocError>
     ensures { IfOk result (λ _. string_bytes out.new ≡ string_bytes out.old ++ spec.bytes_words digits.now) }
 {
-    let bytes = bytes_of(alloc, digits)?;
+    let bytes = bytes_in(alloc, digits)?;
     push_shown(out, bytes.as_slice(), MOST_BYTES)
 }

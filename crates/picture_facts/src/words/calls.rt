@@ -5,7 +5,7 @@ ghost use Rattle.std.specs.List.{before_first};
 ghost use Rattle.picture_facts.specs.Words as spec;
 
 use crate::words::bytes::{push_bytes, push_printed};
-use crate::words::told::push_payload;
+use crate::words::stimuli::push_payload;
 use std::alloc::{AllocError, Global};
 
 /// Whether the last word of a call is bytes that go to memory.

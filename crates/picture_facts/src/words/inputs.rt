@@ -3,9 +3,9 @@
 ghost use Rattle.std.specs.Prelude.{◌≡◌, ◌++◌, string_bytes, IfOk};
 ghost use Rattle.picture_facts.specs.Words as spec;
 
+use crate::transcript::{Ending, Input, Note};
 use crate::words::bytes::push_bytes;
 use std::alloc::{AllocError, Global};
-use transcript_lines::{Ending, Input, Note};
 
 /// Appends an input.
 pub fn push_input(alloc: Global, out: &mut String, input: &Input<'_>) -> Result<(), AllocError>

@@ -4,7 +4,7 @@ ghost use Rattle.std.specs.Prelude.{◌≡◌, ◌++◌, IfOk};
 ghost use Rattle.picture_svg.specs.Columns as spec;
 
 use crate::page::Page;
-use crate::page::pen::{Area, Pen, Place};
+use crate::page::pen::{Area, Pen, Point};
 use std::alloc::AllocError;
 
 /// Draws a ground from the first row to the last one, and above it the column's name and what it shows.
@@ -19,7 +19,7 @@ pub(crate) fn draw_ground(
     ensures { IfOk result (λ _. pen.new.content ≡ pen.old.content ++ spec.ground_of page.now left width name.now range.now) }
 {
     let area = Area {
-        place: Place {
+        corner: Point {
             left,
             top: page.top,
         },
@@ -28,8 +28,8 @@ pub(crate) fn draw_ground(
     };
     pen.area("j", area, "")?;
     let top = page.top.saturating_sub(24);
-    pen.text("b", Place { left, top }, name)?;
+    pen.text("b", Point { left, top }, name)?;
     let top = page.top.saturating_sub(12);
-    pen.text("g", Place { left, top }, range)?;
+    pen.text("g", Point { left, top }, range)?;
     Ok(())
 }

@@ -1,12 +1,12 @@
-//! The columns of memory beside the rows: a box for each block, for as long as it lies at its place.
+//! The columns of memory beside the rows: a box for each block, for as long as it is there.
 
 ghost use Rattle.std.specs.Prelude.{◌≡◌, ◌+◌, ◌≤◌, ◌++◌, codes, decimal, flat_map, string_bytes, IfOk};
 ghost use Rattle.picture_svg.specs.Boxes as spec;
 ghost use Rattle.picture_svg.specs.Columns as columns;
-ghost use Rattle.picture_svg.specs.Places.{capped};
+ghost use Rattle.picture_svg.specs.Positions.{capped};
 
 use crate::page::ground::draw_ground;
-use crate::page::pen::{Area, Pen, Place};
+use crate::page::pen::{Area, Pen, Point};
 use crate::page::{Page, ROW};
 use picture_facts::memory::managed::FRAMES;
 use picture_facts::memory::{Sizes, Stay};
@@ -72,15 +72,15 @@ pub fn bytes_shown(stays: &[Stay], size: u64) -> u64
 
 /// The part of a column that a block takes.
 fn area_of(page: &Page, column: &Column, stay: &Stay) -> Area
-    ensures from { capped column.now.left ≤ result.place.left }
-    ensures to { result.place.left + result.width ≤ column.now.left + column.now.width + 1 }
+    ensures from { capped column.now.left ≤ result.corner.left }
+    ensures to { result.corner.left + result.width ≤ column.now.left + column.now.width + 1 }
     ensures area { result ≡ spec.area_in page.now column.now stay.now }
 {
     let left = column.reach_of(stay.at);
     let right = column.reach_of(end_of(stay));
     let (top, end) = page.span_of(stay);
     Area {
-        place: Place { left, top },
+        corner: Point { left, top },
         width: right.saturating_sub(left).max(1),
         height: end.saturating_sub(top).max(1),
     }
@@ -102,13 +102,13 @@ fn name_of(alloc: Global, stay: &Stay) -> Result<String, AllocError>
     }
 }
 
-/// Where the name of a box stands.
-fn name_place(area: Area) -> Place
-    ensures { result ≡ spec.name_place area }
+/// Where the name of a box is.
+fn name_point(area: Area) -> Point
+    ensures { result ≡ spec.name_point area }
 {
-    Place {
-        left: area.place.left.saturating_add(3),
-        top: area.place.top.saturating_add(11),
+    Point {
+        left: area.corner.left.saturating_add(3),
+        top: area.corner.top.saturating_add(11),
     }
 }
 
@@ -120,7 +120,7 @@ fn draw_name(pen: &mut Pen, area: Area, stay: &Stay) -> Result<(), AllocError>
         return Ok(());
     }
     let name = name_of(pen.alloc, stay)?;
-    pen.text("v", name_place(area), name.as_str())
+    pen.text("v", name_point(area), name.as_str())
 }
 
 fn frame_title(alloc: Global, stay: &Stay) -> Result<String, AllocError>
@@ -138,7 +138,7 @@ fn handle_title(alloc: Global, stay: &Stay) -> Result<String, AllocError>
     )
 }
 
-/// What a box of managed memory tells.
+/// What a box of managed memory says.
 fn managed_title(alloc: Global, stay: &Stay) -> Result<String, AllocError>
     ensures { IfOk result (λ title. string_bytes title ≡ spec.managed_title stay.now) }
 {
@@ -233,20 +233,20 @@ fn heap_name(alloc: Global, stay: &Stay) -> Result<String, AllocError>
     )
 }
 
-fn heap_place(alloc: Global, at: u64, end: u64, room: u64) -> Result<String, AllocError>
-    ensures { IfOk result (λ place. string_bytes place ≡ spec.heap_place at end room) }
+fn heap_position(alloc: Global, at: u64, end: u64, room: u64) -> Result<String, AllocError>
+    ensures { IfOk result (λ text. string_bytes text ≡ spec.heap_position at end room) }
 {
     format!(in alloc; ", room for {room}, from {at} to {end} with its header")
 }
 
-/// What a box of the heap tells.
+/// What a box of the heap says.
 fn heap_title(alloc: Global, stay: &Stay, header: u32) -> Result<String, AllocError>
     ensures { IfOk result (λ title. string_bytes title ≡ spec.heap_title stay.now header) }
 {
     let mut title = heap_name(alloc, stay)?;
     let room = stay.taken.saturating_sub(header as u64);
-    let place = heap_place(alloc, stay.at, end_of(stay), room)?;
-    title.push_str(place.as_str())?;
+    let position = heap_position(alloc, stay.at, end_of(stay), room)?;
+    title.push_str(position.as_str())?;
     Ok(title)
 }
 
@@ -372,7 +372,7 @@ fn draw_heap_column(
     Ok(())
 }
 
-/// Draws the map of the heap: across the places, so that one sees the gaps between the blocks.
+/// Draws the map of the heap: by position, so that one sees the gaps between the blocks.
 pub fn draw_heap(
     pen: &mut Pen,
     page: &Page,

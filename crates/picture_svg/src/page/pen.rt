@@ -1,4 +1,4 @@
-//! Shapes and texts that are put into a picture, each with what it tells when it is pointed at.
+//! Shapes and texts that are put into a picture, each with what it shows when it is pointed at.
 
 ghost use Rattle.std.specs.Prelude.{◌≡◌, ◌++◌, [], IfOk};
 ghost use Rattle.picture_svg.specs.Parts.{text_of};
@@ -7,9 +7,9 @@ ghost use Rattle.picture_svg.specs.Elements as spec;
 use crate::markup::{Attribute, Content, Element, Tag};
 use std::alloc::{AllocError, Global};
 
-/// Where something stands, in units of a pixel, from the left and from above.
+/// A point of the picture, in units of a pixel, from the left and from above.
 #[derive(Clone, Copy, Drop)]
-pub struct Place {
+pub struct Point {
     pub left: usize,
     pub top: usize,
 }
@@ -17,7 +17,7 @@ pub struct Place {
 /// A rectangle.
 #[derive(Clone, Copy, Drop)]
 pub struct Area {
-    pub place: Place,
+    pub corner: Point,
     pub width: usize,
     pub height: usize,
 }
@@ -37,19 +37,19 @@ pub fn area_element(alloc: Global, class: &str, area: Area) -> Result<Element, A
 {
     Element::new(alloc, Tag::Rect)
         .with(Attribute::Class, class)?
-        .with_number(Attribute::Left, area.place.left)?
-        .with_number(Attribute::Top, area.place.top)?
+        .with_number(Attribute::Left, area.corner.left)?
+        .with_number(Attribute::Top, area.corner.top)?
         .with_number(Attribute::Width, area.width)?
         .with_number(Attribute::Height, area.height)
 }
 
 /// A text's element, with nothing inside.
-pub fn text_element(alloc: Global, place: Place) -> Result<Element, AllocError>
-    ensures { IfOk result (λ element. element ≡ spec.text_element place) }
+pub fn text_element(alloc: Global, point: Point) -> Result<Element, AllocError>
+    ensures { IfOk result (λ element. element ≡ spec.text_element point) }
 {
     Element::new(alloc, Tag::Text)
-        .with_number(Attribute::Left, place.left)?
-        .with_number(Attribute::Top, place.top)
+        .with_number(Attribute::Left, point.left)?
+        .with_number(Attribute::Top, point.top)
 }
 
 /// A text's element, with words of a class after what it says.
@@ -70,8 +70,8 @@ pub fn with_span(
     element.holding(&span)
 }
 
-/// Draws into content. A class says how something looks, as the picture's style has it. A title may be empty: then nothing is
-/// told.
+/// Draws into content. A class says how something looks, as the picture's style has it. A title may be empty: then there is
+/// none.
 #[derive(Drop)]
 pub struct Pen {
     pub alloc: Global,
@@ -117,10 +117,10 @@ impl Pen {
         self.put(element, title)
     }
 
-    pub fn text(&mut self, class: &str, place: Place, text: &str) -> Result<(), AllocError>
-        ensures { IfOk result (λ _. self.new.content ≡ self.old.content ++ text_of (spec.words_element class.now place text.now)) }
+    pub fn text(&mut self, class: &str, point: Point, text: &str) -> Result<(), AllocError>
+        ensures { IfOk result (λ _. self.new.content ≡ self.old.content ++ text_of (spec.words_element class.now point text.now)) }
     {
-        let element = text_element(self.alloc, place)?
+        let element = text_element(self.alloc, point)?
             .with(Attribute::Class, class)?
             .saying(text)?;
         self.content.hold(&element)

@@ -5,7 +5,7 @@ ghost use Rattle.picture_svg.specs.Pools as spec;
 
 use crate::page::ground::draw_ground;
 use crate::page::memory_columns::box_class;
-use crate::page::pen::{Area, Pen, Place};
+use crate::page::pen::{Area, Pen, Point};
 use crate::page::{POOL, Page};
 use picture_facts::memory::Stay;
 use picture_facts::memory::pools::BLOCKS;
@@ -84,8 +84,8 @@ impl Pools {
 /// The part of its pool's column that a block takes, from so far within it on.
 fn area_of(page: &Page, pools: &Pools, stay: &Stay, width: usize) -> Area
     ensures area { result ≡ spec.block_area page.now pools.now width stay.now }
-    ensures from { spec.column_left page.now pools.now (spec.pool_of stay.now) ≤ result.place.left }
-    ensures to { width ≤ 5 → result.place.left + width ≤ spec.column_left page.now pools.now (spec.pool_of stay.now) + 80 }
+    ensures from { spec.column_left page.now pools.now (spec.pool_of stay.now) ≤ result.corner.left }
+    ensures to { width ≤ 5 → result.corner.left + width ≤ spec.column_left page.now pools.now (spec.pool_of stay.now) + 80 }
 {
     let block = (stay.at % BLOCKS) as usize;
     let left = page
@@ -94,7 +94,7 @@ fn area_of(page: &Page, pools: &Pools, stay: &Stay, width: usize) -> Area
         .saturating_add((BLOCK.saturating_sub(width)) / 2);
     let (top, end) = page.span_of(stay);
     Area {
-        place: Place { left, top },
+        corner: Point { left, top },
         width,
         height: end.saturating_sub(top).max(1),
     }
@@ -136,7 +136,7 @@ fn draw_names(pen: &mut Pen, page: &Page, pools: &Pools) -> Result<(), AllocErro
     Ok(())
 }
 
-/// What a used block tells.
+/// What a used block says.
 fn used_title(alloc: Global, stay: &Stay) -> Result<String, AllocError>
     ensures { IfOk result (λ title. string_bytes title ≡ spec.used_title stay.now) }
 {

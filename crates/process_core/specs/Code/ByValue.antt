@@ -30,9 +30,9 @@ served_with pid (Stimulus.Event event) = asked.Job.Serve pid event
 served_with pid _ = asked.Job.Rest
 
 -- what a result of `next_to` and the buffer make up
-abbrev pub job_told : NextJob → Stimulus → asked.Job
-job_told (NextJob.TakeTurn pid origin) told = asked.Job.Give pid origin told
-job_told (NextJob.Serve pid) told = served_with pid told
-job_told (NextJob.CallBack pid number arming) told = asked.Job.Callback pid number arming
-job_told NextJob.Round told = asked.Job.Round
-job_told NextJob.Rest told = asked.Job.Rest
+abbrev pub job_with : NextJob → Stimulus → asked.Job
+job_with (NextJob.TakeTurn pid origin) stimulus = asked.Job.Give pid origin stimulus
+job_with (NextJob.Serve pid) stimulus = served_with pid stimulus
+job_with (NextJob.CallBack pid number arming) stimulus = asked.Job.Callback pid number arming
+job_with NextJob.Round stimulus = asked.Job.Round
+job_with NextJob.Rest stimulus = asked.Job.Rest

@@ -11,6 +11,6 @@ use Rattle.process_core.specs.Code.Yields.{Yields}
 -- from s on, items are processed up to this job, or some that are no jobs; then the caller's buffer and the fields are these
 pub record FindsJob (s : Scheduler ℕ) (ready : Option NextJob) (buffer : Stimulus) (after : SchedulerFields) : Type 0 where
   pub yields : Yields s (option_map (λ r. job_of r buffer) ready) (scheduler_behind after)
-  pub told : HoldsEvent ready buffer
+  pub holds : HoldsEvent ready buffer
   pub front : after.front ≡ front_after ready
   pub order : IsInOrder after

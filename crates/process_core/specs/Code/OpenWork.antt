@@ -1,4 +1,4 @@
--- The open work: what each part of it stands for on the agenda.
+-- The open work: what each part of it means on the agenda.
 use Rattle.std.specs.Prelude.{ℕ, Bool, true, false, List, [], ◌∷◌, ◌++◌, map, flat_map, reverse}
 use Rattle.mote_types.specs.declared.event.Event.{Event}
 use Rattle.mote_types.specs.declared.event.Stimulus.{Stimulus}

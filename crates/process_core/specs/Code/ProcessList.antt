@@ -1,4 +1,4 @@
--- What the code's process list stands for, and its invariant.
+-- What the code's process list means, and its invariant.
 use Rattle.std.specs.Prelude.{◌≡◌, ℕ, ◌*◌, ◌%◌, ◌^◌, ◌<◌, ◌≤◌, Bool, true, false, not, eqb, ◌==◌, List, [], ◌∷◌, ◌++◌, map, filter, length, slice_index_or, bit_and, bit_or}
 use Rattle.std.specs.Int.{bit_at, bit_not, w32}
 use Rattle.std.specs.List.{IsDistinct}

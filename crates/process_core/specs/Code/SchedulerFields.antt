@@ -49,8 +49,8 @@ found false ready = None
 
 -- where a kernel process must be served, the caller's buffer holds an event
 abbrev pub HoldsEvent : Option answer.NextJob → Stimulus → Type 0
-HoldsEvent (Some (answer.NextJob.Serve pid)) told = (event : Event) × (told ≡ Stimulus.Event event)
-HoldsEvent _ told = Unit {0}
+HoldsEvent (Some (answer.NextJob.Serve pid)) stimulus = (event : Event) × (stimulus ≡ Stimulus.Event event)
+HoldsEvent _ stimulus = Unit {0}
 
 -- no process is within an activation, and no poll round is going on: this is all that is open
 pub record IsBare (d : SchedulerFields) (left : Base) : Type 0 where

@@ -31,11 +31,11 @@ served pid _ = Job.Rest
 
 -- the job of the agenda that a result and the caller's buffer stand for
 abbrev pub job_of : answer.NextJob → Stimulus → Job ℕ
-job_of (answer.NextJob.TakeTurn pid origin) told = Job.TakeTurn pid.0 origin told
-job_of (answer.NextJob.Serve pid) told = served pid told
-job_of (answer.NextJob.CallBack pid number arming) told = Job.CallBack pid.0 number arming
-job_of answer.NextJob.Round told = Job.Round
-job_of answer.NextJob.Rest told = Job.Rest
+job_of (answer.NextJob.TakeTurn pid origin) stimulus = Job.TakeTurn pid.0 origin stimulus
+job_of (answer.NextJob.Serve pid) stimulus = served pid stimulus
+job_of (answer.NextJob.CallBack pid number arming) stimulus = Job.CallBack pid.0 number arming
+job_of answer.NextJob.Round stimulus = Job.Round
+job_of answer.NextJob.Rest stimulus = Job.Rest
 
 -- whose turn it is after this job
 abbrev pub turn_of : answer.NextJob → Option Pid

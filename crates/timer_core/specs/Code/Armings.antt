@@ -11,18 +11,18 @@ pub record Armings : Type 0 where
 abbrev pub no_armings : Armings
 no_armings = record { present = replicate 64 0; drawn = 1 }
 
-abbrev pub callback_place : ℕ → ℕ → ℕ
-callback_place p c = 4 * (p - 4) + c
+abbrev pub callback_slot : ℕ → ℕ → ℕ
+callback_slot p c = 4 * (p - 4) + c
 
 abbrev pub present_arming : ℕ → ℕ → Armings → ℕ
-present_arming p c armings = slice_index armings.present (callback_place p c)
+present_arming p c armings = slice_index armings.present (callback_slot p c)
 
 abbrev pub is_present_arming : ℕ → ℕ → ℕ → Armings → Bool
 is_present_arming p c arming armings = present_arming p c armings == arming
 
 -- callback timer c of p gets a number that was never used
 abbrev pub renumbered : ℕ → Armings → ℕ → Armings
-renumbered p armings c = record { present = slice_set armings.present (callback_place p c) armings.drawn; drawn = armings.drawn + 1 }
+renumbered p armings c = record { present = slice_set armings.present (callback_slot p c) armings.drawn; drawn = armings.drawn + 1 }
 
 -- so does each callback timer of p
 abbrev pub all_renumbered : ℕ → Armings → Armings

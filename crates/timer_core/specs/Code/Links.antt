@@ -8,7 +8,7 @@ use Rattle.timer_core.specs.declared.table.LinkedCell.{LinkedCell}
 use Rattle.timer_core.specs.declared.table.TimerTable.TheInside.{Inside}
 use Rattle.timer_core.specs.Names.{all_timers, is_timer}
 use Rattle.timer_core.specs.Code.Conditions.{IsNamed}
-use Rattle.timer_core.specs.Code.Places.{place_of, timer_at}
+use Rattle.timer_core.specs.Code.Slots.{slot_of, timer_at}
 use Rattle.timer_core.specs.Timers.{NamedCell, Timers, zero_cell}
 
 abbrev pub zero_linked : LinkedCell
@@ -20,7 +20,7 @@ led_to link = option_map timer_at link
 
 -- the link in the timer's cell
 abbrev pub link_of : List LinkedCell → Timer → Option ℕ
-link_of cells timer = (slice_index_or cells (place_of timer) zero_linked).next
+link_of cells timer = (slice_index_or cells (slot_of timer) zero_linked).next
 
 -- the timer that follows
 abbrev pub next_of : List LinkedCell → Timer → Option Timer
@@ -53,14 +53,14 @@ pub record IsList (cells : List LinkedCell) (link : Option Timer) : Type 0 where
 
 -- whether the timer's cell says that it is on the list
 abbrev pub flag_of : List LinkedCell → Timer → Bool
-flag_of cells timer = (slice_index_or cells (place_of timer) zero_linked).is_armed
+flag_of cells timer = (slice_index_or cells (slot_of timer) zero_linked).is_armed
 
 -- each cell says whether its timer is among these
 abbrev pub AreFlagged : List LinkedCell → List Timer → Type 0
 AreFlagged cells armed = (timer : Timer) → IsNamed timer → flag_of cells timer ≡ list_any (is_timer timer) armed
 
 pub record IsTable (table : Inside) : Type 0 where
-  pub places : length table.cells ≡ 192
+  pub slots : length table.cells ≡ 192
   pub listed : IsList table.cells (led_to table.first)
   pub flags : AreFlagged table.cells (listed_from table.cells (led_to table.first))
   pub starts : All (λ linked_cell. linked_cell.cell.start ≤ 2 ^ 63) table.cells

@@ -4,5 +4,5 @@ use Rattle.timer_core.specs.Code.Armings.{Armings}
 
 -- each callback timer has a number that was drawn
 pub record IsNumbered (armings : Armings) : Type 0 where
-  pub places : length armings.present ≡ 64
+  pub slots : length armings.present ≡ 64
   pub below : All (λ arming. arming < armings.drawn) armings.present

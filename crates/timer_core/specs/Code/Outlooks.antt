@@ -6,7 +6,7 @@ use Rattle.timer_core.specs.declared.table.Passed.{Passed}
 use Rattle.timer_core.specs.declared.timer.Timer.{Timer}
 use Rattle.timer_core.specs.Code.Conditions.{IsNamed}
 use Rattle.timer_core.specs.Code.Neighbours.{EndsWith}
-use Rattle.timer_core.specs.Code.Places.{timer_at}
+use Rattle.timer_core.specs.Code.Slots.{timer_at}
 use Rattle.timer_core.specs.Code.Watched.{NoneDueBefore}
 use Rattle.timer_core.specs.Names.{is_timer}
 use Rattle.timer_core.specs.Timers.{Timers, first_due, is_due}
@@ -33,6 +33,6 @@ pub record IsNext (timer : Timer) (so_far : Passed) (timers : Timers) : Type 0 w
 
 -- the first due timer, after those that were passed; or that there is none, nor will be before a moment
 abbrev pub IsOutlook : ℕ → Timers → Outlook → Type 0
-IsOutlook clock timers (Outlook.Due place passed) =
-    (first_due clock timers ≡ Some (timer_at place)) × IsNamed (timer_at place) × IsNext (timer_at place) passed timers
+IsOutlook clock timers (Outlook.Due slot passed) =
+    (first_due clock timers ≡ Some (timer_at slot)) × IsNamed (timer_at slot) × IsNext (timer_at slot) passed timers
 IsOutlook clock timers (Outlook.NoneBefore moment) = (first_due clock timers ≡ None) × NoneDueBefore moment timers

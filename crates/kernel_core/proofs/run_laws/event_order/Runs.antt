@@ -1,6 +1,6 @@
 -- What every step preserves holds in every run: after each entry, and at rest.
 use Rattle.process_core.specs.Scheduler.{after_front_of, job_at, job_of_event, job_of_item, wants_round}
-use Rattle.kernel_core.proofs.Common.{decide, list_any, Input, Entry, Applications, Job, after_front, job, Config, Machine, scheduled, IsAtRest, effect, Answers, StepMade, Running, Runs, ComesToRest, silent, job_done, within_limit, is_still, is_at_rest, after_step, after_steps, answers_after, at_start, with_input, gone_on, list_any-append, Call, Reply, Stimulus, Event, Origin, Note, Queued, Item, is_kernel_process, reply_of, Scheduler, after_item, in_front, after_call, serve, with_more_work}
+use Rattle.kernel_core.proofs.Common.{decide, list_any, Input, Entry, Applications, Job, after_front, job, Config, Machine, scheduled, IsAtRest, effect, Choices, StepMade, Running, Runs, ComesToRest, silent, job_done, within_limit, is_still, is_at_rest, after_step, after_steps, choices_after, at_start, with_input, gone_on, list_any-append, Call, Reply, Stimulus, Event, Origin, Note, Queued, Item, is_kernel_process, reply_of, Scheduler, after_item, in_front, after_call, serve, with_more_work}
 use Rattle.std.proofs.Common.{◌≡◌, ℕ, zero, suc, Bool, true, false, List, [], ◌∷◌, ◌++◌, refl, subst, arith, append-nil, append_assoc, Option, Some, None, option_to_list, if◌then◌else◌, sym, ◌==◌, slice_get}
 use Rattle.mote_types.specs.Entries.{is_halt}
 use Rattle.kernel_core.proofs.run_laws.Changes.{serve-untouched, is_note, is_turn, behind}
@@ -181,9 +181,9 @@ module _ (K : Invariant) (R : List Entry → Entry → Type 0) (cases : Cases K 
       at_agenda : (agenda : List Item) → m.scheduler.agenda ≡ agenda → Holds m X → Holds (with_agenda agenda m) X
       at_agenda agenda e h = grind arith
 
-      module _ (answers : Answers) where
+      module _ (choices : Choices) where
         round_kept : (b : Bool) → m.scheduler.agenda ≡ [] → Holds m X
-            → Kept X (job_done answers (Some (if b then Job.Round else Job.Rest))
+            → Kept X (job_done choices (Some (if b then Job.Round else Job.Rest))
             (record m { scheduler = if b then in_front (Item.Polls ∷ Item.Deliver ∷ []) m.scheduler else m.scheduler }))
         round_kept true e h =
             limit_kept (scheduled (in_front (Item.Polls ∷ Item.Deliver ∷ [])) m) _
@@ -192,7 +192,7 @@ module _ (K : Invariant) (R : List Entry → Entry → Type 0) (cases : Cases K 
         round_kept false e h = silent_kept m live h
 
         delivered_kept : (event : Option (Queued Bool)) → ((known : Known) → K known (facing Item.Deliver m) X)
-            → Kept X (job_done answers (job_of_event event) (carried Item.Deliver m))
+            → Kept X (job_done choices (job_of_event event) (carried Item.Deliver m))
         delivered_kept (Some (Queued.Expiry q c false)) h =
             silent_kept _ live
             (λ known u. cases.called_back known m X q c (h known) (cases.carried known m X Item.Deliver refl refl (h known)))
@@ -200,7 +200,7 @@ module _ (K : Invariant) (R : List Entry → Entry → Type 0) (cases : Cases K 
 
         give_kept : (b : Bool) (q : ℕ) (origin : Origin) (event : Event) → is_kernel_process q ≡ b
             → ((known : Known) → K known (facing (Item.Give q origin (Stimulus.Event event)) m) X)
-            → Kept X (job_done answers (if b then Some (Job.Serve q event) else None)
+            → Kept X (job_done choices (if b then Some (Job.Serve q event) else None)
             (carried (Item.Give q origin (Stimulus.Event event)) m))
         give_kept true q origin event k h =
             subst (λ n. Kept X (silent (serve q event n))) (sym (kernel_carried q origin (Stimulus.Event event) m k))
@@ -208,9 +208,9 @@ module _ (K : Invariant) (R : List Entry → Entry → Type 0) (cases : Cases K 
         give_kept false q origin event k h = silent_kept _ live (λ known u. cases.carried known m X _ refl k (h known))
 
         front_kept : (full : Scheduler Bool) (item : Item) → Holds (facing item m) X
-            → Kept X (job_done answers (job_of_item item full) (carried item m))
+            → Kept X (job_done choices (job_of_item item full) (carried item m))
         front_kept full (Item.Turn q origin stimulus) h =
-            let t : Taken = record { m = m; X = X; q = q; origin = origin; stimulus = stimulus; call = answers q stimulus } in
+            let t : Taken = record { m = m; X = X; q = q; origin = origin; stimulus = stimulus; call = choices q stimulus } in
             let before : (known : Known) → K (told (entry_of t) known) (taking t) X = λ known. h (told (entry_of t) known) (grind decide) in
             let r = cases.told t (before nothing_known) in
             limit_kept m _ (record {
@@ -234,11 +234,11 @@ module _ (K : Invariant) (R : List Entry → Entry → Type 0) (cases : Cases K 
         front_kept full Item.Deliver h = delivered_kept (slice_get full.events 0) (λ known. h known tt)
         front_kept full item h = silent_kept _ live (λ known u. cases.carried known m X item refl refl (h known tt))
 
-    step_kept : (m : Machine) → m.is_halted ≡ false → (answers : Answers) (agenda : List Item) → m.scheduler.agenda ≡ agenda → Holds m X
-        → Kept X (job_done answers (job_at agenda m.scheduler) (record m { scheduler = after_front_of agenda m.scheduler }))
-    step_kept m live answers [] e h = round_kept m live answers (wants_round m.scheduler) e h
-    step_kept m live answers (item ∷ items) e h =
-        front_kept (with_agenda items m) live answers m.scheduler item (at_agenda m live (item ∷ items) e h)
+    step_kept : (m : Machine) → m.is_halted ≡ false → (choices : Choices) (agenda : List Item) → m.scheduler.agenda ≡ agenda → Holds m X
+        → Kept X (job_done choices (job_at agenda m.scheduler) (record m { scheduler = after_front_of agenda m.scheduler }))
+    step_kept m live choices [] e h = round_kept m live choices (wants_round m.scheduler) e h
+    step_kept m live choices (item ∷ items) e h =
+        front_kept (with_agenda items m) live choices m.scheduler item (at_agenda m live (item ∷ items) e h)
 
   module _ (Q : List Entry → Type 0) (rest : (m : Machine) (X : List Entry) → is_at_rest m ≡ true → K nothing_known m X → Q X) where
     record Good (r : Running) : Type 0 where
@@ -277,11 +277,11 @@ module _ (K : Invariant) (R : List Entry → Entry → Type 0) (cases : Cases K 
 
         good-step : (b : Bool) → r.machine.is_halted ≡ b → Good r
             → Good (gone_on r.entries
-            (if b then silent r.machine else job_done (answers_after says r.entries) (job r.machine.scheduler)
+            (if b then silent r.machine else job_done (choices_after says r.entries) (job r.machine.scheduler)
             (scheduled after_front r.machine)))
         good-step true e g = grind (decide, append-nil)
         good-step false e g =
-            kept-good _ g (step_kept r.entries r.machine e (answers_after says r.entries) r.machine.scheduler.agenda refl (g.holds e))
+            kept-good _ g (step_kept r.entries r.machine e (choices_after says r.entries) r.machine.scheduler.agenda refl (g.holds e))
 
       good-steps : (n : ℕ) (r : Running) → Good r → Good (after_steps says n r)
       good-steps zero r g = g

@@ -8,7 +8,7 @@ returns c room links deeds =
     let sound : IsSound (still_air room links) = record { order = tt; ahead = tt; within = omega arith } in
     let after = sound_all deeds (still_air room links) sound in
     record {
-      exact = λ m place. exact_on m place deeds (link_at links m place) (still_air room links) sound (record { here = refl; near = tt });
+      exact = λ m position. exact_on m position deeds (link_at links m position) (still_air room links) sound (record { here = refl; near = tt });
       punctual = punctual_all deeds (still_air room links) sound;
       pending = after.ahead;
       within = let h = after.within in let e = same_room deeds (still_air room links) in omega (arith, h, e);

@@ -6,7 +6,7 @@ use Rattle.medium_core.proofs.medium.send_over.Given as goal
 abbrev pub invariant-loop-link : goal.invariant-loop-link
 invariant-loop-link l =
     record {
-      place : l.place ≡ l.link-index;
+      position : l.position ≡ l.link-index;
       room : l.flights.room ≡ l.initial.flights.room;
       after : take l.link-index l.links ++ after_frames (l.flights.room - length l.flights.flights) (drop l.link-index l.links)
           ≡ after_frames (l.initial.flights.room - length l.initial.flights.flights) l.initial.links;

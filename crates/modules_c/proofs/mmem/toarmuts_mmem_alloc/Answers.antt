@@ -26,7 +26,7 @@ returns-then-not-fits-clause-answer c sound =
 
 pub put_last-requires-clause-unused : goal.put_last-requires-clause-unused
 put_last-requires-clause-unused c =
-    still_unused c.args.blocks.now c.make_room-place.new.blocks c.args.buffer.now c.make_room-place.new.buffer c.args.handle c.make_room-place.ensures.store
+    still_unused c.args.blocks.now c.make_room-offset.new.blocks c.args.buffer.now c.make_room-offset.new.buffer c.args.handle c.make_room-offset.ensures.store
     (c.has_block.ensures.none c.if-has_block.false)
 
 pub returns-clause-answer : goal.returns-clause-answer
@@ -46,25 +46,25 @@ returns-clause-given c done = record {
   together = λ over.
       let table = c.args.blocks.now in let buffer = c.args.buffer.now in let i = c.args.handle in
       let left = ap unused (c.put_last.ensures.store ∙ (ap (allocated (process_of i)
-      (handle_of i) c.args.size) c.make_room-place.ensures.store)) ∙ unused_after table buffer i c.args.size c.if-handle-blocks.false
+      (handle_of i) c.args.size) c.make_room-offset.ensures.store)) ∙ unused_after table buffer i c.args.size c.if-handle-blocks.false
       (c.has_block.ensures.none c.if-has_block.false) in
       omega (
         arith,
         unused_left table buffer (c.lie_apart.ensures.0 c.if-not-lie_apart.false),
         c.put_last.ensures.last,
-        c.make_room-place.ensures.together over,
+        c.make_room-offset.ensures.together over,
         c.left_over.ensures,
       );
   down =
-      let table = c.args.blocks.now in let block : Block = record { place = c.make_room-place.result; size = c.args.size } in
+      let table = c.args.blocks.now in let block : Block = record { offset = c.make_room-offset.result; size = c.args.size } in
       subst (LieNoHigher table) (sym c.put_last.ensures.row)
-      (no_higher table c.make_room-place.new.blocks c.args.handle block
-      (c.has_block.ensures.none c.if-has_block.false) c.make_room-place.ensures.moves.down);
+      (no_higher table c.make_room-offset.new.blocks c.args.handle block
+      (c.has_block.ensures.none c.if-has_block.false) c.make_room-offset.ensures.moves.down);
   order =
-      let table = c.args.blocks.now in let block : Block = record { place = c.make_room-place.result; size = c.args.size } in
+      let table = c.args.blocks.now in let block : Block = record { offset = c.make_room-offset.result; size = c.args.size } in
       subst (KeepOrder table) (sym c.put_last.ensures.row)
-      (same_order table c.make_room-place.new.blocks c.args.handle block (c.has_block.ensures.none c.if-has_block.false)
+      (same_order table c.make_room-offset.new.blocks c.args.handle block (c.has_block.ensures.none c.if-has_block.false)
       (table_lies table (length c.args.buffer.now)
-      (c.lie_apart.ensures.0 c.if-not-lie_apart.false)).no_empty c.make_room-place.ensures.moves.order);
-  behind = grind arith;
+      (c.lie_apart.ensures.0 c.if-not-lie_apart.false)).no_empty c.make_room-offset.ensures.moves.order);
+  new_last = grind arith;
 }

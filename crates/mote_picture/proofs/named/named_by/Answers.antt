@@ -9,7 +9,7 @@ use Rattle.command_line.proofs.Matches.{names_given}
 use Rattle.command_line.specs.CommandLine.{names_of, sizes_of}
 use Rattle.command_line.specs.declared.failure.Failure.{Failure}
 use Rattle.node_memory.specs.Sizes.{are_sizes}
-use Rattle.mote_picture.specs.Named.{MayRefuse, MayTell}
+use Rattle.mote_picture.specs.Named.{MayRefuse, MayReport}
 use Rattle.mote_picture.specs.declared.undrawn.Undrawn.{Undrawn}
 use Rattle.mote_picture.proofs.named.named_by.Goals as goal
 
@@ -29,9 +29,9 @@ as_many names rows read = sym (length-map names (λ (name : Bor Text). name.now)
 
 refused_as : {T : Type 0} (result : Result T Undrawn) (failure : Failure) (rows : List Row)
     → IsErrAnd result (λ undrawn. undrawn ≡ Undrawn.Program failure) → MayRefuse (sizes_of rows) (length (names_of rows)) failure
-    → IfErr result (MayTell rows)
-refused_as (Ok named) failure rows is told = tt
-refused_as (Err undrawn) failure rows is told = subst (MayTell rows) (sym is) told
+    → IfErr result (MayReport rows)
+refused_as (Ok named) failure rows is given = tt
+refused_as (Err undrawn) failure rows is given = subst (MayReport rows) (sym is) given
 
 pub returns-clause-named : goal.returns-clause-named
 returns-clause-named c =

@@ -2,12 +2,12 @@ use Rattle.std.proofs.Common.{List}
 use Rattle.std.proofs.lemmas.Result.{IfErr-weaker, IfOk-weaker}
 use Rattle.clap.specs.Walk.{Row, rows_of}
 use Rattle.clap.specs.Words.{found_of}
-use Rattle.mote_picture.specs.Named.{IsOfWords, MayTell}
+use Rattle.mote_picture.specs.Named.{IsOfWords, MayReport}
 use Rattle.mote_picture.specs.declared.undrawn.Undrawn.{Undrawn}
 use Rattle.mote_picture.proofs.named.read_words.Goals as goal
 
-of_words : (rows : List Row) (undrawn : Undrawn) → MayTell rows undrawn → IsOfWords undrawn
-of_words rows (Undrawn.Program failure) told = tt
+of_words : (rows : List Row) (undrawn : Undrawn) → MayReport rows undrawn → IsOfWords undrawn
+of_words rows (Undrawn.Program failure) given = tt
 of_words rows (Undrawn.BadRange from to) back = back
 of_words rows (Undrawn.NoLine number) none = absurd none
 of_words rows Undrawn.Quiet none = absurd none

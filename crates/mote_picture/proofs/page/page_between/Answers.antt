@@ -10,7 +10,7 @@ returns c =
     let end = c.shown_of-shown.result.end in
     let text : c.as_str.result.now ≡ ended_lines (slice_range c.args.lines.now first end) = c.as_str.ensures.value ∙ c.in_ok-text.ensures in
     let members : c.in_ok-members.members ≡ begins_with (ended_lines (slice_range c.args.lines.now first end)) c.in_ok-rest.rest =
-    c.in_ok-members.ensures ∙ ap (λ told. begins_with told c.in_ok-rest.rest) text in
+    c.in_ok-members.ensures ∙ ap (λ front. begins_with front c.in_ok-rest.rest) text in
     IfOk-weaker c.filled.result _ _
     (λ page same. record {
       first = first;

@@ -6,35 +6,35 @@ use Rattle.picture_facts.specs.Rows.{bytes_of}
 use Rattle.mote_picture.specs.Reading.{IsLine}
 use Rattle.mote_picture.proofs.reading.texts_of.Goals as goal
 
-text_is : (parts : List (Bor (List ℕ))) (place : ℕ) (part : Bor (List ℕ)) → part.now ≡ []
-    → slice_index_or (bytes_of parts) place [] ≡ (slice_index_or parts place part).now
-text_is [] place part none = sym none
+text_is : (parts : List (Bor (List ℕ))) (index : ℕ) (part : Bor (List ℕ)) → part.now ≡ []
+    → slice_index_or (bytes_of parts) index [] ≡ (slice_index_or parts index part).now
+text_is [] index part none = sym none
 text_is (first ∷ parts) zero part none = refl
-text_is (first ∷ parts) (suc place) part none = text_is parts place part none
+text_is (first ∷ parts) (suc index) part none = text_is parts index part none
 
-pub loop-place-preserved : goal.loop-place-preserved
-loop-place-preserved c =
+pub loop-index-preserved : goal.loop-index-preserved
+loop-index-preserved c =
     let parts = c.args.parts.now in
-    let place = c.loop-place.place in
+    let index = c.loop-index.index in
     let size : length (bytes_of parts) ≡ length parts = length-map parts (λ (part : Bor (List ℕ)). part.now) in
-    let inside : place < length (bytes_of parts) = omega (arith, size) in
-    let here : c.in-Some.line.now ≡ get_or (bytes_of parts) place [] = c.in-Some.ensures.same ∙ sym (text_is parts place _ refl) in
+    let inside : index < length (bytes_of parts) = omega (arith, size) in
+    let here : c.in-Some.line.now ≡ get_or (bytes_of parts) index [] = c.in-Some.ensures.same ∙ sym (text_is parts index _ refl) in
     record {
       lines = ap bytes_of c.in_ok-push.ensures.items
-          ∙ map-append (λ (part : Bor (List ℕ)). part.now) c.loop-place.lines.items (c.in-Some.line ∷ [])
-          ∙ ap₂ (λ front line. front ++ line ∷ []) c.loop-place.invariant.lines here ∙ sym (take_more (bytes_of parts) place [] inside);
-      told = All-more IsLine (bytes_of parts) place [] inside c.loop-place.invariant.told (subst IsLine here c.in-Some.ensures.told);
+          ∙ map-append (λ (part : Bor (List ℕ)). part.now) c.loop-index.lines.items (c.in-Some.line ∷ [])
+          ∙ ap₂ (λ front line. front ++ line ∷ []) c.loop-index.invariant.lines here ∙ sym (take_more (bytes_of parts) index [] inside);
+      read = All-more IsLine (bytes_of parts) index [] inside c.loop-index.invariant.read (subst IsLine here c.in-Some.ensures.read);
     }
 
 pub returns-in_default-clause-unread : goal.returns-in_default-clause-unread
 returns-in_default-clause-unread c =
     let size : length (bytes_of c.args.parts.now) ≡ length c.args.parts.now =
     length-map c.args.parts.now (λ (part : Bor (List ℕ)). part.now) in
-    let before : c.loop-place.place ≡ c.loop-place.place + 1 - 1 = omega arith in
-    (omega arith, omega (arith, size), subst (λ n. All IsLine (take n (bytes_of c.args.parts.now))) before c.loop-place.invariant.told)
+    let before : c.loop-index.index ≡ c.loop-index.index + 1 - 1 = omega arith in
+    (omega arith, omega (arith, size), subst (λ n. All IsLine (take n (bytes_of c.args.parts.now))) before c.loop-index.invariant.read)
 
-pub returns-clause-told : goal.returns-clause-told
-returns-clause-told c =
+pub returns-clause-read : goal.returns-clause-read
+returns-clause-read c =
     let size : length (bytes_of c.args.parts.now) ≡ length c.args.parts.now =
     length-map c.args.parts.now (λ (part : Bor (List ℕ)). part.now) in
-    subst (All IsLine) (take_all c.loop-place.place (bytes_of c.args.parts.now) (omega (arith, size))) c.loop-place.invariant.told
+    subst (All IsLine) (take_all c.loop-index.index (bytes_of c.args.parts.now) (omega (arith, size))) c.loop-index.invariant.read

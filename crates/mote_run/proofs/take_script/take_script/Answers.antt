@@ -16,7 +16,7 @@ returns-in_err-settle-clause-ran g c = λ s k. (
   [],
   sym (append-nil _),
   failed (c.in_err-settle.ensures.goes k).3 c.from_residual.ensures.0 (λ more limits. (inputs more, refl))
-      (not_read c.from_residual.result (rw c.in_err-settle.ensures.failures.2 at c.from_residual.ensures.1)),
+      (not_read c.from_residual.result c.from_residual.ensures.1),
 )
 
 pub part-init : goal.part-init
@@ -54,7 +54,7 @@ returns-in_err-refill-clause-ran g c = λ s k.
     let i = c.part.invariant.has_come in (
       i.read,
       c.in_err-refill.ensures.nothing_taken s ∙ i.taken s,
-      failed (went_further (i.went k) (went_written (c.in_err-refill.ensures.cut_off k).1)) c.from_residual-in_err-refill.ensures.0
+      failed (went_further (i.went k) (went_written (c.in_err-refill.ensures.writes k).1)) c.from_residual-in_err-refill.ensures.0
           (λ more limits. goes_on_so i.so_far more)
           (λ failed. wrote_whole_lines i.so_far c.part.invariant.ready.endless c.part.invariant.ready.few
           (went_further (i.went k) (went_written (c.in_err-refill.ensures.written_first
@@ -64,7 +64,7 @@ returns-in_err-refill-clause-ran g c = λ s k.
 
 pub returns-then-is_empty-clause-ran : goal.returns-then-is_empty-clause-ran
 returns-then-is_empty-clause-ran g c = λ s k.
-    let i = come_refilled c.part.invariant.has_come c.in_ok-refill.ensures.taken c.in_ok-refill.ensures.written in (
+    let i = come_refilled c.part.invariant.has_come c.in_ok-refill.ensures.taken c.in_ok-refill.ensures.writes in (
       i.read,
       i.taken s,
       rw (c.in_ok-refill.ensures.ended, ← c.is_empty.ensures, c.if-is_empty.true)
@@ -73,7 +73,7 @@ returns-then-is_empty-clause-ran g c = λ s k.
 
 pub returns-then-script-eq-LIMIT-clause-ran : goal.returns-then-script-eq-LIMIT-clause-ran
 returns-then-script-eq-LIMIT-clause-ran g c = λ s k.
-    let i = come_refilled c.part.invariant.has_come c.in_ok-refill.ensures.taken c.in_ok-refill.ensures.written in (
+    let i = come_refilled c.part.invariant.has_come c.in_ok-refill.ensures.taken c.in_ok-refill.ensures.writes in (
       i.read,
       i.taken s,
       finished (i.went k) End.TooLong c.part.invariant.still (λ more limits. (
@@ -84,21 +84,21 @@ returns-then-script-eq-LIMIT-clause-ran g c = λ s k.
       )) (rw (sym c.halted.ensures ∙ c.if-halted.false) refl),
     )
 
-pub returns-in_err-settle_input-in-Ok-true-clause-ran : goal.returns-in_err-settle_input-in-Ok-true-clause-ran
-returns-in_err-settle_input-in-Ok-true-clause-ran g c = λ s k.
-    let i = come_refilled c.part.invariant.has_come c.in_ok-refill.ensures.taken c.in_ok-refill.ensures.written in (
+pub returns-in_err-feed-in-Ok-true-clause-ran : goal.returns-in_err-feed-in-Ok-true-clause-ran
+returns-in_err-feed-in-Ok-true-clause-ran g c = λ s k.
+    let i = come_refilled c.part.invariant.has_come c.in_ok-refill.ensures.taken c.in_ok-refill.ensures.writes in (
       i.read,
       i.taken s,
-      failed (went_on (i.went k) (c.in_err-settle_input-in-Ok-true.ensures.goes k).3)
-          c.from_residual-in_err-settle_input-in-Ok-true.ensures.0
+      failed (went_on (i.went k) (c.in_err-feed-in-Ok-true.ensures.goes k).3)
+          c.from_residual-in_err-feed-in-Ok-true.ensures.0
           (λ more limits. goes_on_so ((rw c.in-Ok-true.field-0-test at c.in-Ok-true.ensures.takes) i.read i.earlier i.so_far) more)
-          (not_read c.from_residual-in_err-settle_input-in-Ok-true.result
-          (rw c.in_err-settle_input-in-Ok-true.ensures.failures.2 at c.from_residual-in_err-settle_input-in-Ok-true.ensures.1)),
+          (not_read c.from_residual-in_err-feed-in-Ok-true.result
+          c.from_residual-in_err-feed-in-Ok-true.ensures.1),
     )
 
 pub returns-in-Err-clause-ran : goal.returns-in-Err-clause-ran
 returns-in-Err-clause-ran g c = λ s k.
-    let i = come_refilled c.part.invariant.has_come c.in_ok-refill.ensures.taken c.in_ok-refill.ensures.written in (
+    let i = come_refilled c.part.invariant.has_come c.in_ok-refill.ensures.taken c.in_ok-refill.ensures.writes in (
       i.read,
       i.taken s,
       finished (i.went k) _ c.part.invariant.still (λ more limits. (
@@ -129,8 +129,8 @@ returns-then-script-eq-LIMIT-clause-no_further g c = λ s k.
     c.part.invariant.ready c.in_ok-refill.ensures.taken c.in_ok-refill.ensures.piece_limit c.in_ok-refill.ensures.left
     (c.part.invariant.no_further s k)
 
-pub returns-in_err-settle_input-in-Ok-true-clause-no_further : goal.returns-in_err-settle_input-in-Ok-true-clause-no_further
-returns-in_err-settle_input-in-Ok-true-clause-no_further g c = λ s k.
+pub returns-in_err-feed-in-Ok-true-clause-no_further : goal.returns-in_err-feed-in-Ok-true-clause-no_further
+returns-in_err-feed-in-Ok-true-clause-no_further g c = λ s k.
     read_while_running c.part.invariant.has_come s k c.part.invariant.still (sym c.halted.ensures ∙ c.if-halted.false)
     c.part.invariant.ready c.in_ok-refill.ensures.taken c.in_ok-refill.ensures.piece_limit c.in_ok-refill.ensures.left
     (c.part.invariant.no_further s k)
@@ -150,33 +150,33 @@ returns-in_err-refill-clause-few g c = λ s.
 
 pub returns-then-is_empty-clause-few : goal.returns-then-is_empty-clause-few
 returns-then-is_empty-clause-few g c =
-    few_come (come_refilled c.part.invariant.has_come c.in_ok-refill.ensures.taken c.in_ok-refill.ensures.written)
+    few_come (come_refilled c.part.invariant.has_come c.in_ok-refill.ensures.taken c.in_ok-refill.ensures.writes)
     (within_limit c.part.invariant.ready.few c.part.invariant.few c.in_ok-refill.ensures.few)
 
 pub returns-then-script-eq-LIMIT-clause-few : goal.returns-then-script-eq-LIMIT-clause-few
 returns-then-script-eq-LIMIT-clause-few g c =
-    few_come (come_refilled c.part.invariant.has_come c.in_ok-refill.ensures.taken c.in_ok-refill.ensures.written)
+    few_come (come_refilled c.part.invariant.has_come c.in_ok-refill.ensures.taken c.in_ok-refill.ensures.writes)
     (within_limit c.part.invariant.ready.few c.part.invariant.few c.in_ok-refill.ensures.few)
 
-pub returns-in_err-settle_input-in-Ok-true-clause-few : goal.returns-in_err-settle_input-in-Ok-true-clause-few
-returns-in_err-settle_input-in-Ok-true-clause-few g c =
-    few_come (come_refilled c.part.invariant.has_come c.in_ok-refill.ensures.taken c.in_ok-refill.ensures.written)
+pub returns-in_err-feed-in-Ok-true-clause-few : goal.returns-in_err-feed-in-Ok-true-clause-few
+returns-in_err-feed-in-Ok-true-clause-few g c =
+    few_come (come_refilled c.part.invariant.has_come c.in_ok-refill.ensures.taken c.in_ok-refill.ensures.writes)
     (within_limit c.part.invariant.ready.few c.part.invariant.few c.in_ok-refill.ensures.few)
 
 pub returns-in-Err-clause-few : goal.returns-in-Err-clause-few
 returns-in-Err-clause-few g c =
-    few_come (come_refilled c.part.invariant.has_come c.in_ok-refill.ensures.taken c.in_ok-refill.ensures.written)
+    few_come (come_refilled c.part.invariant.has_come c.in_ok-refill.ensures.taken c.in_ok-refill.ensures.writes)
     (within_limit c.part.invariant.ready.few c.part.invariant.few c.in_ok-refill.ensures.few)
 
-pub settle_input-requires-clause-bytes : goal.settle_input-requires-clause-bytes
-settle_input-requires-clause-bytes g c = (c.in-Ok-true.ensures.input c.in-Ok-true.field-0-test).0
+pub feed-requires-clause-bytes : goal.feed-requires-clause-bytes
+feed-requires-clause-bytes g c = (c.in-Ok-true.ensures.input c.in-Ok-true.field-0-test).0
 
-pub settle_input-requires-clause-clock : goal.settle_input-requires-clause-clock
-settle_input-requires-clause-clock g c = grind arith
+pub feed-requires-clause-clock : goal.feed-requires-clause-clock
+feed-requires-clause-clock g c = grind arith
 
 pub part-preserved : goal.part-preserved
 part-preserved g c =
-    let i = come_refilled c.part.invariant.has_come c.in_ok-refill.ensures.taken c.in_ok-refill.ensures.written in
+    let i = come_refilled c.part.invariant.has_come c.in_ok-refill.ensures.taken c.in_ok-refill.ensures.writes in
     record {
       has_come = record {
         read = i.read;
@@ -202,21 +202,21 @@ part-preserved g c =
 
 pub part-preserved-in-Continue-branch-3 : goal.part-preserved-in-Continue-branch-3
 part-preserved-in-Continue-branch-3 g c =
-    let i = come_refilled c.part.invariant.has_come c.in_ok-refill.ensures.taken c.in_ok-refill.ensures.written in
+    let i = come_refilled c.part.invariant.has_come c.in_ok-refill.ensures.taken c.in_ok-refill.ensures.writes in
     record {
       has_come = record {
         read = i.read;
         earlier = _;
         taken = i.taken;
         so_far = (rw c.in-Ok-true.field-0-test at c.in-Ok-true.ensures.takes) i.read i.earlier i.so_far;
-        went = λ k. went_on (i.went k) (c.in_ok-settle_input-in-Ok-true.ensures.goes k);
+        went = λ k. went_on (i.went k) (c.in_ok-feed-in-Ok-true.ensures.goes k);
       };
       no_further = λ s k.
           read_while_running c.part.invariant.has_come s k c.part.invariant.still (sym c.halted.ensures ∙ c.if-halted.false)
           c.part.invariant.ready c.in_ok-refill.ensures.taken c.in_ok-refill.ensures.piece_limit c.in_ok-refill.ensures.left
           (c.part.invariant.no_further s k);
       boxes = search rules;
-      still = c.in_ok-settle_input-in-Ok-true.ensures.still;
+      still = c.in_ok-feed-in-Ok-true.ensures.still;
       clock = grind arith;
       inputs = grind arith;
       ready = c.in-Ok-true.ensures.ready;

@@ -1,20 +1,20 @@
 use Rattle.std.proofs.Common.{◌≡◌, ◌≤◌, ◌+◌, ◌*◌, ◌-◌, ◌^◌, length, true, false}
-use Rattle.mote_run.proofs.Common.{says_of, is_still, HasCome, IsReady, ReadWhileRunning, place}
+use Rattle.mote_run.proofs.Common.{says_of, is_still, HasCome, IsReady, ReadWhileRunning, moment}
 use Rattle.mote_run.proofs.take_script.take_script.Given as goal
 
 abbrev pub invariant-part : goal.invariant-part
 invariant-part g l = record {
   has_come : HasCome g.S.ByteSource.is_named g.K.ByteSink.is_named l.quiet (g.S.ByteSource.taken l.fn.source)
       (g.S.ByteSource.taken l.source)
-      (place (g.K.ByteSink.given l.fn.sink) l.fn.work (says_of (λ b. (goal.App-dyn g (b.vtable, b.value)).says b.value) l.fn.apps))
-      (place (g.K.ByteSink.given l.sink) l.work (says_of (λ b. (goal.App-dyn g (b.vtable, b.value)).says b.value) l.apps)) l.script;
+      (moment (g.K.ByteSink.given l.fn.sink) l.fn.mote (says_of (λ b. (goal.App-dyn g (b.vtable, b.value)).says b.value) l.fn.apps))
+      (moment (g.K.ByteSink.given l.sink) l.mote (says_of (λ b. (goal.App-dyn g (b.vtable, b.value)).says b.value) l.apps)) l.script;
   no_further : g.S.ByteSource.is_named → g.K.ByteSink.is_named → ReadWhileRunning l.quiet
-      (place (g.K.ByteSink.given l.fn.sink) l.fn.work (says_of (λ b. (goal.App-dyn g (b.vtable, b.value)).says b.value) l.fn.apps))
+      (moment (g.K.ByteSink.given l.fn.sink) l.fn.mote (says_of (λ b. (goal.App-dyn g (b.vtable, b.value)).says b.value) l.fn.apps))
       (g.S.ByteSource.taken l.fn.source) (g.S.ByteSource.taken l.source);
-  boxes : length l.apps ≡ l.work.kernel.machine.scheduler.applications;
-  still : is_still l.work.kernel.machine ≡ true;
-  clock : l.work.kernel.machine.clock ≤ l.script.taken * 2 ^ 32;
-  inputs : l.work.kernel.inputs ≤ l.script.taken;
+  boxes : length l.apps ≡ l.mote.kernel.machine.scheduler.applications;
+  still : is_still l.mote.kernel.machine ≡ true;
+  clock : l.mote.kernel.machine.clock ≤ l.script.taken * 2 ^ 32;
+  inputs : l.mote.kernel.inputs ≤ l.script.taken;
   ready : IsReady l.script;
   few : l.script.taken + length l.script.piece ≤ 16777217;
   unended : g.S.ByteSource.is_ended l.source ≡ false;

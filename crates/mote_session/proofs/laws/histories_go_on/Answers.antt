@@ -5,7 +5,7 @@ use Rattle.mote_types.specs.declared.entry.Entry.{Entry}
 use Rattle.process_core.specs.Idle.{is_idle}
 use Rattle.kernel_core.specs.Code.Steps.{MakesEntry}
 use Rattle.kernel_core.specs.Machine.{Machine}
-use Rattle.kernel_core.specs.Run.{answers_after, at_start}
+use Rattle.kernel_core.specs.Run.{choices_after, at_start}
 use Rattle.mote_session.specs.Answered.{AnswersAs}
 use Rattle.mote_session.specs.History.{History, last_entry, with_entry}
 use Rattle.mote_session.specs.SessionRuns.{HasComeTo, IsHistoryOf, StandsAt}
@@ -13,7 +13,7 @@ use Rattle.mote_session.specs.SessionView.{AwaitedCall, SessionView}
 use Rattle.mote_session.specs.Steps.{HasSameInputs, with_made}
 use Rattle.mote_session.specs.declared.session.Next.{Next}
 use Rattle.mote_session.proofs.Answering.{answers_before}
-use Rattle.mote_session.proofs.Leading.{leads_fed, leads_on, makes_behind, running_at, silent_from}
+use Rattle.mote_session.proofs.Leading.{leads_fed, leads_on, makes_after, running_at, silent_from}
 use Rattle.mote_session.proofs.laws.histories_go_on.Goals as goal
 
 last_is : (entries : List Entry) (entry : Entry) → last_entry (entries ++ entry ∷ []) ≡ Some entry
@@ -27,17 +27,17 @@ rest_is turn halted idle h = grind (arith, nat_tests)
 
 module _ {history : History} {old new : SessionView} (is : IsHistoryOf history old) (same : HasSameInputs old new) where
   -- an entry is made from the machine that the entries before it lead to
-  behind_entry : (before : Machine) (entry : Entry) → HasComeTo history before → new.turn ≡ None → new.last ≡ Some entry →
+  after_entry : (before : Machine) (entry : Entry) → HasComeTo history before → new.turn ≡ None → new.last ≡ Some entry →
       ((says : Applications) → AnswersAs says (history.entries ++ entry ∷ []) →
-      MakesEntry (answers_after says history.entries) before entry new.machine) →
+      MakesEntry (choices_after says history.entries) before entry new.machine) →
       IsHistoryOf (with_entry entry history) new
-  behind_entry before entry come closed last makes = record {
+  after_entry before entry come closed last makes = record {
     bootable = is.bootable;
     stands = rw closed (λ says answers.
         leads_on says (at_start history.config) (running_at history.entries before)
         (running_at (history.entries ++ entry ∷ []) new.machine) history.inputs
         (come says (answers_before says history.entries entry answers))
-        (makes_behind says history.entries before new.machine entry (makes says answers)));
+        (makes_after says history.entries before new.machine entry (makes says answers)));
     inputs = same.0 ∙ is.inputs;
     last = grind (arith, last_is);
   }
@@ -45,11 +45,11 @@ module _ {history : History} {old new : SessionView} (is : IsHistoryOf history o
 pub returns-clause-submit : goal.returns-clause-submit
 returns-clause-submit c history call old new is answered same =
     let turn = answered.turn in
-    let stood : StandsAt history (Some turn) old.machine = rw answered.awaited at is.stands in
-    rw answered.awaited (behind_entry is same stood.0 (Entry.Turn turn.process turn.origin turn.stimulus call) stood.1
+    let at_turn : StandsAt history (Some turn) old.machine = rw answered.awaited at is.stands in
+    rw answered.awaited (after_entry is same at_turn.0 (Entry.Turn turn.process turn.origin turn.stimulus call) at_turn.1
     answered.closed answered.last (λ says answers.
     rw answered.machine (rw (answers history.entries [] turn.process turn.origin turn.stimulus call refl)
-    at (stood.2 (answers_after says history.entries)))))
+    at (at_turn.2 (choices_after says history.entries)))))
 
 pub returns-clause-next : goal.returns-clause-next
 returns-clause-next c history Next.Turn old new is closed opens same =
@@ -61,13 +61,13 @@ returns-clause-next c history Next.Turn old new is closed opens same =
     }
 returns-clause-next c history Next.Entry old new is closed makes same =
     subst (λ (last : Option Entry). IsHistoryOf (with_made Next.Entry last history) new) (sym makes.last)
-    (behind_entry is same old.machine makes.entry (rw closed at is.stands) makes.closed makes.last
-    (λ says answers. makes.made (answers_after says history.entries)))
+    (after_entry is same old.machine makes.entry (rw closed at is.stands) makes.closed makes.last
+    (λ says answers. makes.made (choices_after says history.entries)))
 returns-clause-next c history Next.Rest old new is closed rested same =
     let come : HasComeTo history old.machine = rw closed at is.stands in record {
       bootable = is.bootable;
       stands = rw rested.closed (λ says answers.
-          let goes = (rested.goes (answers_after says history.entries)).before in
+          let goes = (rested.goes (choices_after says history.entries)).before in
           leads_on says (at_start history.config) (running_at history.entries old.machine)
           (running_at history.entries new.machine) history.inputs (come says answers)
           (goes.count, silent_from says history.entries goes.count old.machine new.machine goes.steps));

@@ -9,7 +9,7 @@ bytes-preserved c =
     let low : 2 * at + 1 ≡ 2 * c.args.at + (2 * c.bytes.i + 1) = omega arith in
     let next : c.args.at + (c.bytes.i + 1) ≡ at + 1 = omega arith in
     rw next (
-    read_more c.args.digits.now c.bytes.place at c.bytes.bits _ _ (omega arith) (omega arith)
+    read_more c.args.digits.now c.bytes.buffer at c.bytes.bits _ _ (omega arith) (omega arith)
     (rw high (c.values_of-values.ensures (2 * c.bytes.i) (omega arith)))
     (rw low (c.values_of-values.ensures (2 * c.bytes.i + 1) (omega arith))) c.bytes.invariant
     )

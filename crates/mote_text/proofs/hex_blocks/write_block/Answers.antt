@@ -12,5 +12,5 @@ digits_of-low-requires c = low_small c.args.bytes.now c.requires.bytes
 pub returns : goal.returns
 returns c =
     rw (c.digits_of-high.ensures, c.digits_of-low.ensures) (
-    put_chunk_whole c.args.place.now _ c.requires.place ∙ both_written c.args.bytes.now c.requires.bytes
+    put_chunk_whole c.args.buffer.now _ c.requires.buffer ∙ both_written c.args.bytes.now c.requires.bytes
     )

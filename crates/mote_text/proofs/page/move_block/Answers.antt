@@ -4,5 +4,5 @@ use Rattle.mote_text.proofs.page.move_block.Goals as goal
 
 pub returns : goal.returns
 returns g c =
-    put_chunk_whole c.args.place.now (take g.row.N c.args.block.now)
-    (omega (arith, (length-take-le g.row.N c.args.block.now c.requires.block), c.requires.place))
+    put_chunk_whole c.args.buffer.now (take g.row.N c.args.block.now)
+    (omega (arith, (length-take-le g.row.N c.args.block.now c.requires.block), c.requires.buffer))

@@ -2,8 +2,8 @@ use Rattle.std.proofs.Common.{[], ◌∷◌, inr, refl}
 use Rattle.network_run.specs.Outside.{Outside}
 use Rattle.network_run.proofs.Refused.{pass_far, pass_refused}
 use Rattle.network_run.proofs.Ways.{faulted_same, goes_after, takes_all, went_mute}
-use Rattle.network_text.specs.NetworkRuns.{Move}
-use Rattle.network_text.specs.declared.input.NetworkInput.{NetworkInput}
+use Rattle.network_steps.specs.NetworkRuns.{Move}
+use Rattle.network_steps.specs.declared.input.NetworkInput.{NetworkInput}
 use Rattle.network_run.proofs.input.pass_time.Goals as goal
 
 pub returns-in-Ok-clause-takes : goal.returns-in-Ok-clause-takes

@@ -1,5 +1,5 @@
-use Rattle.network_run.specs.Code.Way.{place}
-use Rattle.network_run.specs.NetworkRunText.{script_lines}
+use Rattle.network_run.specs.Code.Way.{moment}
+use Rattle.mote_text.specs.ScriptLines.{script_lines}
 use Rattle.network_run.proofs.Closing.{fault_at_start, spent_at_start, started}
 use Rattle.network_run.proofs.Ways.{fault_on}
 use Rattle.network_run.proofs.run.carry_out.Goals as goal
@@ -11,7 +11,7 @@ returns-in_err-run_to_rest-clause-runs g c = λ named.
 pub returns-then-branch-clause-runs : goal.returns-then-branch-clause-runs
 returns-then-branch-clause-runs g c = λ named.
     started c.args.quiet c.take_lines.result c.args.first (script_lines c.args.script.now) _ _
-    (place (g.K.ByteSink.given c.take_lines.new.sink) c.take_lines.new.text.due.items c.take_lines.new.network (g.H.Caller.voices c.take_lines.new.caller))
+    (moment (g.K.ByteSink.given c.take_lines.new.sink) c.take_lines.new.text.items c.take_lines.new.network (g.H.Caller.voices c.take_lines.new.caller))
     (c.in_ok-run_to_rest.ensures.goes named) (c.take_lines.ensures.runs named)
 
 pub returns-else-branch-clause-runs : goal.returns-else-branch-clause-runs

@@ -1,4 +1,5 @@
-use Rattle.std.proofs.Common.{sym}
+use Rattle.std.proofs.Common.{refl, sym}
+use Rattle.network_run.specs.declared.fault.RunFault.{RunFault}
 use Rattle.network_run.proofs.Closing.{at_write, emptied, failed, failed_before, failed_now}
 use Rattle.network_run.proofs.run.fail.Goals as goal
 
@@ -8,11 +9,11 @@ returns-then-is_write-clause-ran g c = λ named quiet script start net voices la
 
 pub returns-in_err-flush-clause-ran : goal.returns-in_err-flush-clause-ran
 returns-in_err-flush-clause-ran g c = λ named quiet script start net voices later given faulted.
-    let cut = c.in_err-flush.ensures.puts named in
-    at_write quiet script start voices given _ c.from_residual.result _ c.from_residual.ensures.1 c.in_err-flush.ensures.failures.2
+    let cut = c.in_err-flush.ensures.writes named in
+    at_write quiet script start voices given _ c.from_residual.result RunFault.Write c.from_residual.ensures.1 refl
     (failed_now c.texts_go_on.ensures.promise quiet script start net voices later c.args.fault given _ _ _ cut.0 (sym c.if-is_write.ensures) faulted cut.1)
 
 pub returns-clause-ran : goal.returns-clause-ran
 returns-clause-ran g c = λ named quiet script start net voices later given faulted.
     failed c.texts_go_on.ensures.promise quiet script start net voices later c.args.fault given _ _ _ (sym c.if-is_write.ensures) faulted
-    (emptied c.in_ok-flush.ensures.empty (c.in_ok-flush.ensures.puts named))
+    (emptied c.in_ok-flush.ensures.empty (c.in_ok-flush.ensures.writes named))

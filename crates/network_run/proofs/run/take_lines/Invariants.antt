@@ -1,8 +1,8 @@
 use Rattle.std.proofs.Common.{◌≡◌, ◌+◌, ◌<◌, ◌^◌, length}
-use Rattle.network_run.specs.Code.Way.{HasCome, place}
-use Rattle.network_run.specs.NetworkRunText.{script_lines}
-use Rattle.network_text.specs.NetworkRuns.{IsResting}
-use Rattle.network_text.specs.NetworkScript.{read_network_lines}
+use Rattle.network_run.specs.Code.Way.{HasCome, moment}
+use Rattle.mote_text.specs.ScriptLines.{script_lines}
+use Rattle.network_steps.specs.NetworkRuns.{IsResting}
+use Rattle.network_steps.specs.NetworkScript.{read_network_lines}
 use Rattle.network_run.proofs.run.take_lines.Given as goal
 
 abbrev pub invariant-loop-line : goal.invariant-loop-line
@@ -10,8 +10,8 @@ invariant-loop-line g l = record {
   came : g.K.ByteSink.is_named → HasCome l.quiet
       (read_network_lines (length l.fn.network.motes) l.first (script_lines l.script))
       (read_network_lines (length l.fn.network.motes) l.number (script_lines l.rest))
-      (place (g.K.ByteSink.given l.fn.sink) l.fn.text.due.items l.fn.network (g.H.Caller.voices l.fn.caller))
-      (place (g.K.ByteSink.given l.sink) l.text.due.items l.network (g.H.Caller.voices l.caller));
+      (moment (g.K.ByteSink.given l.fn.sink) l.fn.text.items l.fn.network (g.H.Caller.voices l.fn.caller))
+      (moment (g.K.ByteSink.given l.sink) l.text.items l.network (g.H.Caller.voices l.caller));
   same : g.K.ByteSink.failure_count l.sink ≡ g.K.ByteSink.failure_count l.fn.sink;
   rests : IsResting l.network;
   numbers : l.number + length l.rest < 2 ^ 32;

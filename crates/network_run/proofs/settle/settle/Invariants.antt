@@ -1,12 +1,12 @@
 use Rattle.std.proofs.Common.{◌≡◌, []}
 use Rattle.network_session.specs.Code.Measures.{left_at_work, to_do}
-use Rattle.network_run.specs.Code.Way.{Went, place}
+use Rattle.network_run.specs.Code.Way.{Went, moment}
 use Rattle.network_run.proofs.settle.settle.Given as goal
 
 abbrev pub invariant-loop-mote : goal.invariant-loop-mote
 invariant-loop-mote g l = record {
-  went : g.K.ByteSink.is_named → Went l.quiet [] (place (g.K.ByteSink.given l.fn.sink) l.fn.text.due.items l.fn.network (g.H.Caller.voices l.fn.caller))
-      (place (g.K.ByteSink.given l.sink) l.text.due.items l.network (g.H.Caller.voices l.caller));
+  went : g.K.ByteSink.is_named → Went l.quiet [] (moment (g.K.ByteSink.given l.fn.sink) l.fn.text.items l.fn.network (g.H.Caller.voices l.fn.caller))
+      (moment (g.K.ByteSink.given l.sink) l.text.items l.network (g.H.Caller.voices l.caller));
   same : g.K.ByteSink.failure_count l.sink ≡ g.K.ByteSink.failure_count l.fn.sink;
   left : to_do l.network ≡ to_do l.fn.network;
 }

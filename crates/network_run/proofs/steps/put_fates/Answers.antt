@@ -1,23 +1,30 @@
-use Rattle.std.proofs.Common.{rules, ◌+◌, ◌<◌, drop, length, sym}
-use Rattle.network_text.specs.NetworkText.{fate_lines}
-use Rattle.network_run.proofs.Fates.{fates_next, fates_so_far}
-use Rattle.network_run.proofs.Writing.{lost_then, puts_lost, then_written, written_as}
+use Rattle.std.proofs.Common.{[], drop, rules, refl}
+use Rattle.network_steps.specs.NetworkText.{fate_lines}
+use Rattle.network_run.proofs.Fates.{all_put, one_lost, one_put}
+use Rattle.mote_text.proofs.Writing.{nothing_more, writes_lost}
 use Rattle.network_run.proofs.steps.put_fates.Goals as goal
 
-pub returns-in_err-put_fate-clause-puts : goal.returns-in_err-put_fate-clause-puts
-returns-in_err-put_fate-clause-puts g c = λ named.
-    let cut = c.in_err-put_fate.ensures.puts named in
-    let within : c.loop-link.link-index < length c.args.links.now = search rules in
-    let rest = fate_lines c.args.from (drop (c.loop-link.link-index + 1) c.args.links.now) in
-    puts_lost c.from_residual.result _ c.from_residual.ensures.0
-    (written_as (sym (fates_next c.args.from c.args.links.now c.loop-link.link-index _ within))
-    (lost_then rest (then_written (c.loop-link.invariant.puts named) cut.1)))
+pub loop-fate-init : goal.loop-fate-init
+loop-fate-init g c = record { puts = λ named. ([], refl, nothing_more _ _); same = refl }
 
-pub loop-link-preserved : goal.loop-link-preserved
-loop-link-preserved g c = record {
+pub loop-fate-preserved : goal.loop-fate-preserved
+loop-fate-preserved g c = record {
   puts = λ named.
-      let within : c.loop-link.link-index < length c.args.links.now = search rules in
-      written_as (sym (fates_so_far c.args.from c.args.links.now c.loop-link.link-index _ within))
-      (then_written (c.loop-link.invariant.puts named) (c.in_ok-put_fate.ensures.puts named));
+      let so_far = c.loop-fate.invariant.puts named in
+      let left = fate_lines c.args.from (drop c.in-Some.fate.1 c.links-links.result.now) in
+      one_put c.in-Some.fate.0 c.args.network.now left so_far.1 c.in-Some.ensures.loss c.in-Some.ensures.some so_far.2 (c.in_ok-put_own.ensures.puts named);
   same = search rules;
 }
+
+pub returns-in_err-put_own-clause-puts : goal.returns-in_err-put_own-clause-puts
+returns-in_err-put_own-clause-puts g c = λ named.
+    let so_far = c.loop-fate.invariant.puts named in
+    let cut = c.in_err-put_own.ensures.puts named in
+    let left = fate_lines c.args.from (drop c.in-Some.fate.1 c.links-links.result.now) in
+    rw (← c.links-links.ensures)
+    (writes_lost c.from_residual.result _ c.from_residual.ensures.0
+    (one_lost c.in-Some.fate.0 c.args.network.now left so_far.1 c.in-Some.ensures.loss c.in-Some.ensures.some so_far.2 cut.1))
+
+pub returns-clause-puts : goal.returns-clause-puts
+returns-clause-puts g c = λ named.
+    let so_far = c.loop-fate.invariant.puts named in rw (← c.links-links.ensures) (all_put so_far.1 c.in_default.ensures.none so_far.2)

@@ -1,5 +1,6 @@
 use Rattle.std.proofs.Common.{sym}
-use Rattle.network_steps.proofs.Silent.{goes_further, less}
+use Rattle.network_steps.proofs.Reports.{goes_further}
+use Rattle.network_steps.proofs.Silent.{less}
 use Rattle.network_steps.proofs.working.work.Goals as goal
 
 pub loop-outcome-smaller : goal.loop-outcome-smaller

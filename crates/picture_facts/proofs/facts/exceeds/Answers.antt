@@ -3,19 +3,19 @@ use Rattle.picture_facts.proofs.Room.{exceeds_more, fits_more}
 use Rattle.picture_facts.proofs.facts.exceeds.Goals.{then-saturating_add-size, else-saturating_add-size}
 use Rattle.picture_facts.proofs.facts.exceeds.Goals as goal
 
-pub loop-place-preserved : goal.loop-place-preserved
-loop-place-preserved c =
+pub loop-index-preserved : goal.loop-index-preserved
+loop-index-preserved c =
     let stays = c.args.stays.now in
-    let place = c.loop-place.place in
-    let first = c.loop-place.first in
-    let inside : place < length stays = omega (arith, c.loop-place-test.true) in
+    let index = c.loop-index.index in
+    let first = c.loop-index.first in
+    let inside : index < length stays = omega (arith, c.loop-index-test.true) in
     elim c.if-saturating_add-size.branch [
       | then-saturating_add-size w ↦
           rw (w.first-is, w.min.ensures, w.unwrap_or.ensures)
-          (exceeds_more c.args.size stays place _ first c.saturating_add.result inside c.loop-place.invariant c.saturating_add.ensures
+          (exceeds_more c.args.size stays index _ first c.saturating_add.result inside c.loop-index.invariant c.saturating_add.ensures
           (omega (arith, w.if-saturating_add-size)))
       | else-saturating_add-size w ↦
           rw w.first-is
-          (fits_more c.args.size stays place _ first c.saturating_add.result inside c.loop-place.invariant c.saturating_add.ensures
+          (fits_more c.args.size stays index _ first c.saturating_add.result inside c.loop-index.invariant c.saturating_add.ensures
           (omega (arith, w.if-saturating_add-size)) (omega (arith, c.ranges.size.fits)))
     ]

@@ -19,8 +19,8 @@ returns-clause-between c =
     record {
       before = λ line inside. c.count_before.ensures.before line (omega arith);
       within = λ line begins ends. (
-        c.count_before.ensures.behind line (omega arith) (omega arith),
+        c.count_before.ensures.after line (omega arith) (omega arith),
         c.count_up_to-end.ensures.within line ends,
       );
-      behind = λ line begins inside. c.count_up_to-end.ensures.behind line begins (omega (arith, size));
+      after = λ line begins inside. c.count_up_to-end.ensures.after line begins (omega (arith, size));
     }

@@ -5,5 +5,5 @@ use Rattle.picture_svg.proofs.grounds.title_of.Goals as goal
 
 pub returns-in-Lines : goal.returns-in-Lines
 returns-in-Lines c =
-    IfOk-weaker c.raw_lines.result _ _ (λ title told. told ∙ title_of-lines c.args.lines.now c.args.row.now c.in-Lines.is)
+    IfOk-weaker c.raw_lines.result _ _ (λ title is. is ∙ title_of-lines c.args.lines.now c.args.row.now c.in-Lines.is)
     c.raw_lines.ensures

@@ -1,10 +1,10 @@
 use Rattle.std.proofs.lemmas.List.{length-map}
-use Rattle.picture_svg.proofs.Rows.{picture-told}
+use Rattle.picture_svg.proofs.Rows.{picture-shown}
 use Rattle.picture_svg.proofs.picture.draw.Goals as goal
 
 pub returns-clause-titles : goal.returns-clause-titles
 returns-clause-titles c =
-    picture-told c.args.lines.now c.args.settings.now.from c.args.settings.now.to c.args.settings.now.unfolded c.shown_of-shown.result
+    picture-shown c.args.lines.now c.args.settings.now.from c.args.settings.now.to c.args.settings.now.unfolded c.shown_of-shown.result
     c.as_slice-rows.result.now c.in_ok-text.text.items
     (record {
       order = c.shown_of-shown.ensures.order;

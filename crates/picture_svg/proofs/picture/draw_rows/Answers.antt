@@ -10,7 +10,7 @@ pub returns-clause-shows_rows : goal.returns-clause-shows_rows
 returns-clause-shows_rows c =
     IfOk-weaker c.document_of.result _ _
     (λ picture drawn. record {
-      behind = c.draw_behind.new.pen.content;
+      under = c.draw_under.new.pen.content;
       grounds = c.in_ok-grounds.grounds;
       over = c.draw_over.new.pen.content;
       are_grounds = c.in_ok-grounds.ensures;

@@ -2,8 +2,8 @@ use Rattle.std.proofs.Common.{rules}
 use Rattle.kernel_core.proofs.awaiting_kernel.AwaitingKernel.next.Goals as goal
 
 pub returns-in-Turn-clause-awaits : goal.returns-in-Turn-clause-awaits
-returns-in-Turn-clause-awaits c = λ is answers.
-    rw (← c.self.view_is) (rw c.deref_mut.ensures.value at (c.next-outcome.ensures.awaits c.in-Turn.is answers))
+returns-in-Turn-clause-awaits c = λ is choices.
+    rw (← c.self.view_is) (rw c.deref_mut.ensures.value at (c.next-outcome.ensures.awaits c.in-Turn.is choices))
 
 pub returns-in_default : goal.returns-in_default
 returns-in_default c = record {
@@ -12,8 +12,8 @@ returns-in_default c = record {
   application = λ is. absurd (c.in_default.not-Turn is);
   room = λ is. absurd (c.in_default.not-Turn is);
   closed = search rules;
-  goes = λ other answers.
-      rw (← c.self.view_is) (rw c.deref_mut.ensures.value at (c.next-outcome.ensures.goes c.in_default.not-Turn answers));
+  goes = λ other choices.
+      rw (← c.self.view_is) (rw c.deref_mut.ensures.value at (c.next-outcome.ensures.goes c.in_default.not-Turn choices));
   untold = λ other p. c.next-outcome.ensures.worked.untold c.in_default.not-Turn p;
   halted = search rules;
   clock = search rules;

@@ -1,4 +1,4 @@
 use Rattle.kernel_core.proofs.kernel.Kernel.accept_idle_tick.Goals as goal
 
 pub returns-clause-machine : goal.returns-clause-machine
-returns-clause-machine c = λ done. λ answers. rw (← c.self.view_is) (c.accept_idle_tick.ensures.passed done answers)
+returns-clause-machine c = λ done. λ choices. rw (← c.self.view_is) (c.accept_idle_tick.ensures.passed done choices)

@@ -3,7 +3,7 @@ use Rattle.kernel_core.proofs.kernel.Kernel.step_to.Goals as goal
 
 pub returns-in-Turn-clause-machine : goal.returns-in-Turn-clause-machine
 returns-in-Turn-clause-machine g c =
-    rw (← c.self.view_is, c.in-Turn.is, c.answer_turn.ensures.machine, c.ask.ensures.answer) (c.next-outcome.ensures.awaits c.in-Turn.is _)
+    rw (← c.self.view_is, c.in-Turn.is, c.execute_call.ensures.machine, c.ask.ensures.answer) (c.next-outcome.ensures.awaits c.in-Turn.is _)
 
 pub returns-in_default : goal.returns-in_default
 returns-in_default g c = record {

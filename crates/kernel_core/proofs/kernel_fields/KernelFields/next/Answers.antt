@@ -8,19 +8,19 @@ pub returns-then-not-is_empty : goal.returns-then-not-is_empty
 returns-then-not-is_empty c = record {
   awaits = search rules;
   opens = search rules;
-  goes = λ is answers. entry_is_shown c.args.self.now c.take_first.new.self c.if-self.false c.take_first.ensures.first;
+  goes = λ is choices. entry_is_shown c.args.self.now c.take_first.new.self c.if-self.false c.take_first.ensures.first;
   worked = search rules;
 }
 
 pub returns : goal.returns
 returns c =
     record {
-      awaits = λ is answers. makes_after (c.pass_idle_poll.ensures.steps.passed answers) (c.work_to_entry.ensures.awaits is answers);
+      awaits = λ is choices. makes_after (c.pass_idle_poll.ensures.steps.passed choices) (c.work_to_entry.ensures.awaits is choices);
       opens = c.work_to_entry.ensures.opens;
-      goes = λ is answers. goes_after _ _ (machine_of c.work_to_entry.new.self)
+      goes = λ is choices. goes_after _ _ (machine_of c.work_to_entry.new.self)
           (stepped c.work_to_entry.result c.work_to_entry.new.turn c.work_to_entry.new.other)
           (ap (λ (k : KernelFields). k.halted) c.pass_idle_poll.ensures.kept ∙ c.if-self.false)
-          (c.pass_idle_poll.ensures.steps.passed answers) (c.work_to_entry.ensures.goes is answers);
+          (c.pass_idle_poll.ensures.steps.passed choices) (c.work_to_entry.ensures.goes is choices);
       worked =
           worked_after c.args.self.now c.pass_idle_poll.new.self c.work_to_entry.new.self c.pass_idle_poll.ensures.kept
           c.pass_idle_poll.ensures.steps.applications c.pass_idle_poll.ensures.work c.work_to_entry.ensures.worked;

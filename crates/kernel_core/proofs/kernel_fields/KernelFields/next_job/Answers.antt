@@ -6,20 +6,20 @@ use Rattle.kernel_core.proofs.Costs.{job_is_paid}
 use Rattle.kernel_core.proofs.kernel_fields.KernelFields.next_job.Goals as goal
 
 pub returns-clause-reached : goal.returns-clause-reached
-returns-clause-reached c = λ answers. search (rules, fields_reach)
+returns-clause-reached c = λ choices. search (rules, fields_reach)
 
 pub returns-clause-paid : goal.returns-clause-paid
 returns-clause-paid c = λ bound few.
     job_is_paid bound c.args.self.now.scheduler.state c.next_to.new.self.state
-    (job_of c.next_to.result c.next_to.new.told) few c.next_to.ensures.job
+    (job_of c.next_to.result c.next_to.new.stimulus) few c.next_to.ensures.job
 
 pub returns-clause-fit : goal.returns-clause-fit
 returns-clause-fit c =
     let fit = job_is_fit c.args.self.now.timers.value.armings.drawn c.args.self.now.scheduler.state c.next_to.new.self.state
-    (job_of c.next_to.result c.next_to.new.told) c.requires.at_work.order.events c.next_to.ensures.job in
+    (job_of c.next_to.result c.next_to.new.stimulus) c.requires.at_work.order.events c.next_to.ensures.job in
     record { events = fit.0; draws = omega arith; job = fit.2 }
 
 pub returns-clause-served : goal.returns-clause-served
 returns-clause-served c = λ pid is bound few.
     (rw (is, (c.next_to.ensures.served pid is).2) at (job_is_paid bound c.args.self.now.scheduler.state c.next_to.new.self.state
-    (job_of c.next_to.result c.next_to.new.told) few c.next_to.ensures.job)).0
+    (job_of c.next_to.result c.next_to.new.stimulus) few c.next_to.ensures.job)).0

@@ -9,7 +9,7 @@ returns-clause-steps c =
     let room : (c.args.self.now.work == work_limit) ≡ false = grind (decide, c.if-self-eq-WORK_LIMIT.false) in
     let lone = c.polls_alone.ensures.round c.if-not-polls_alone.false in
     rw (c.pass_poll.ensures, c.is_any_due.ensures.kept) (record {
-      passed = λ answers. poll_passed answers c.args.self.now c.requires.at_work.running c.requires.at_work.shown room none lone;
+      passed = λ choices. poll_passed choices c.args.self.now c.requires.at_work.running c.requires.at_work.shown room none lone;
       order = order_polled c.args.self.now c.requires.at_work.order room;
       applications = refl;
     })

@@ -5,7 +5,7 @@ use Rattle.kernel_core.proofs.kernel_fields.KernelFields.pass_idle_receivers.Goa
 pub returns-in-Wait-clause-steps : goal.returns-in-Wait-clause-steps
 returns-in-Wait-clause-steps c =
     rw c.pass_kernel_receivers.ensures (record {
-      passed = λ answers. receivers_passed answers c.args.self.now c.requires.at_work.running c.requires.at_work.shown;
+      passed = λ choices. receivers_passed choices c.args.self.now c.requires.at_work.running c.requires.at_work.shown;
       order = order_passed c.args.self.now c.requires.at_work.order;
       applications = search rules;
     })

@@ -5,7 +5,7 @@ use Rattle.kernel_core.proofs.kernel_fields.KernelFields.work_to_entry.Goals as 
 
 pub returns-then-begin_turn : goal.returns-then-begin_turn
 returns-then-begin_turn c = record {
-  awaits = λ is answers. job_makes (then_job (c.job.invariant.so_far answers) (c.in-TakeTurn.ensures.reached answers))
+  awaits = λ is choices. job_makes (then_job (c.job.invariant.so_far choices) (c.in-TakeTurn.ensures.reached choices))
       (c.begin_turn.ensures.begins (search rules) _);
   opens = search rules;
   goes = search rules;
@@ -16,17 +16,17 @@ pub returns-in-TakeTurn : goal.returns-in-TakeTurn
 returns-in-TakeTurn c = record {
   awaits = search rules;
   opens = search rules;
-  goes = λ is answers.
-      job_makes (then_job (c.job.invariant.so_far answers) (c.in-TakeTurn.ensures.reached answers))
-      (c.begin_turn.ensures.halts (search rules) (answers c.in-TakeTurn.pid.0 c.next_job.new.told));
+  goes = λ is choices.
+      job_makes (then_job (c.job.invariant.so_far choices) (c.in-TakeTurn.ensures.reached choices))
+      (c.begin_turn.ensures.halts (search rules) (choices c.in-TakeTurn.pid.0 c.next_job.new.stimulus));
   worked = search rules;
 }
 
 pub job-preserved-in-Serve : goal.job-preserved-in-Serve
 job-preserved-in-Serve c = record {
   found = search rules;
-  so_far = λ answers. job_silently (then_job (c.job.invariant.so_far answers) (c.in-Serve.ensures.reached answers))
-      (c.serve.ensures.machine answers _);
+  so_far = λ choices. job_silently (then_job (c.job.invariant.so_far choices) (c.in-Serve.ensures.reached choices))
+      (c.serve.ensures.machine choices _);
   present =
       omega (arith, (c.in-Serve.ensures.paid _ c.job.invariant.present).1);
 }
@@ -34,8 +34,8 @@ job-preserved-in-Serve c = record {
 pub job-preserved-in-CallBack : goal.job-preserved-in-CallBack
 job-preserved-in-CallBack c = record {
   found = search rules;
-  so_far = λ answers. (job_silently (then_job (c.job.invariant.so_far answers) (c.in-CallBack.ensures.reached answers))
-      (rw (← (ap (λ (k : KernelFields). k.timers) c.in-CallBack.ensures.taken.kept)) (c.expire.ensures.machine answers)));
+  so_far = λ choices. (job_silently (then_job (c.job.invariant.so_far choices) (c.in-CallBack.ensures.reached choices))
+      (rw (← (ap (λ (k : KernelFields). k.timers) c.in-CallBack.ensures.taken.kept)) (c.expire.ensures.machine choices)));
   present =
       omega (arith, (c.in-CallBack.ensures.paid _ c.job.invariant.present).1);
 }
@@ -44,7 +44,7 @@ pub returns-in-Rest : goal.returns-in-Rest
 returns-in-Rest c = record {
   awaits = search rules;
   opens = search rules;
-  goes = λ is answers. record {
+  goes = λ is choices. record {
     before = job_silently (then_job (c.job.invariant.so_far _) (c.in-Rest.ensures.reached _)) refl;
     at_rest = search rules;
   };
@@ -55,7 +55,7 @@ pub returns-then-not-begin_round : goal.returns-then-not-begin_round
 returns-then-not-begin_round c = record {
   awaits = search rules;
   opens = search rules;
-  goes = λ is answers. job_makes (then_job (c.job.invariant.so_far _) (c.in-Round.ensures.reached _))
+  goes = λ is choices. job_makes (then_job (c.job.invariant.so_far _) (c.in-Round.ensures.reached _))
       (c.begin_round.ensures.halts (search rules));
   worked = search rules;
 }
@@ -63,7 +63,7 @@ returns-then-not-begin_round c = record {
 pub job-preserved : goal.job-preserved
 job-preserved c = record {
   found = search rules;
-  so_far = λ answers. job_silently (then_job (c.job.invariant.so_far answers) (c.in-Round.ensures.reached answers))
+  so_far = λ choices. job_silently (then_job (c.job.invariant.so_far choices) (c.in-Round.ensures.reached choices))
       (c.begin_round.ensures.begins (search rules));
   present =
       omega (

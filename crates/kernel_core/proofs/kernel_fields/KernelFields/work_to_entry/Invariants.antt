@@ -1,5 +1,5 @@
 use Rattle.std.proofs.Common.{◌≡◌, ◌≤◌, ◌*◌, ◌-◌, ◌+◌}
-use Rattle.kernel_core.proofs.Common.{machine_of, entries_left_in, IsAtWork, Answers, work_limit, GoesSilently, present, costs, round_cost}
+use Rattle.kernel_core.proofs.Common.{machine_of, entries_left_in, IsAtWork, Choices, work_limit, GoesSilently, present, costs, round_cost}
 use Rattle.kernel_core.proofs.kernel_fields.KernelFields.work_to_entry.Given as goal
 
 abbrev pub invariant-job : goal.invariant-job
@@ -12,7 +12,7 @@ invariant-job l = record {
     other : l.other ≡ l.fn.other;
     left : entries_left_in l.self ≤ entries_left_in l.fn.self;
   };
-  so_far : (answers : Answers) → GoesSilently answers (machine_of l.fn.self) (machine_of l.self);
+  so_far : (choices : Choices) → GoesSilently choices (machine_of l.fn.self) (machine_of l.self);
   present : present l.self.scheduler.state ≤ present l.fn.self.scheduler.state;
 }
 

@@ -15,7 +15,7 @@ invariant_of-self c =
       laid_out,
       LieApart-freed m.places m.span.len number named c.self.invariant.1,
       c.self.invariant.2,
-      rw (c.number_of-number.ensures.number, c.place_of_process.ensures.place, c.rounded.ensures, c.rounded-2.ensures)
+      rw (c.number_of-number.ensures.number, c.process_index.ensures.value, c.rounded.ensures, c.rounded-2.ensures)
           (freed_shared m.quotas m.places m.taken m.used m.span.len c.self.invariant.3 p h c.requires.named
           (omega (arith, c.number_of-number.ensures.number, c.number_of-number.ensures.within))
           (up4 place.len) (grind arith)),

@@ -28,7 +28,7 @@ invariant_of-self c =
       laid_out,
       apart,
       c.self.invariant.2,
-      rw (c.number_of-number.ensures.number, c.place_of_process.ensures.place, c.rounded.ensures, c.rounded-2.ensures)
+      rw (c.number_of-number.ensures.number, c.process_index.ensures.value, c.rounded.ensures, c.rounded-2.ensures)
           (block_shared m.quotas m.places m.taken m.used m.span.len c.self.invariant.3 p h c.requires.named
           (omega (arith, below, c.number_of-number.ensures.number)) fresh none' (grind arith) (λ quota each.
           let taken = taken_is m.quotas m.places m.taken m.used m.span.len c.self.invariant.3 p c.requires.named.0 c.requires.named.1 in

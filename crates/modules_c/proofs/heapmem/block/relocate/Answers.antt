@@ -23,5 +23,5 @@ returns-clause-table c = grind (arith, moved_table, length-resized, free_without
 pub insert-requires-clause-order : goal.insert-requires-clause-order
 insert-requires-clause-order c =
     let rows = c.args.rows.now in let bytes = c.args.bytes.now in
-    subst (λ (left : List Row). IsNonDecreasingBy (λ (row : Row). row.place) left) (sym c.remove.ensures.rows)
+    subst (λ (left : List Row). IsNonDecreasingBy (λ (row : Row). row.offset) left) (sym c.remove.ensures.rows)
     (places_rise 0 (without_row c.args.number rows) (length bytes) (lie_without 0 rows (length bytes) c.args.number c.requires.table))

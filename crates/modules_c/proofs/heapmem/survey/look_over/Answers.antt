@@ -19,7 +19,7 @@ loop-row-preserved c =
     let d : Row = grind arith in
     let row = slice_index_or rows i d in let left = drop (i + 1) rows in
     let found = c.in-Some.ensures.some in let best = c.loop-row.best in let from = c.loop-row.end in
-    let end_is : c.if-end-row.end ≡ row.place + room_of row =
+    let end_is : c.if-end-row.end ≡ row.offset + room_of row =
     grind arith in
     let more = drop_more rows i d (omega arith) in (
       grind arith,
@@ -28,7 +28,7 @@ loop-row-preserved c =
           elim c.if-end-row.branch [
             | then-end-row w ↦
                 subst (λ end. IsMidway rows capacity need c.if-end-row.best end left) (sym end_is)
-                (subst (λ (best : Option Hole). IsMidway rows capacity need best (row.place + room_of row) left) (sym w.best-is)
+                (subst (λ (best : Option Hole). IsMidway rows capacity need best (row.offset + room_of row) left) (sym w.best-is)
                 (midway_gap rows capacity need best from row left midway w.if-end-row.true w.better-best.result w.better-best.ensures.better
                 w.better-best.ensures.chosen))
             | else-end-row w ↦

@@ -5,8 +5,8 @@ use Rattle.modules_c.proofs.heapmem.table.insert.Goals as goal
 
 pub returns : goal.returns
 returns c =
-    let rows = c.args.rows.now in let i = c.first_behind-number.result in
+    let rows = c.args.rows.now in let i = c.first_after-number.result in
     ap (λ (l : List Row). slice_set l i c.args.row) c.copy_within.ensures.after
     ∙ inserted c.args.row rows i (length rows - 1)
-    (omega arith) c.first_behind-number.ensures.inside c.first_behind-number.ensures.below
-    c.first_behind-number.ensures.above
+    (omega arith) c.first_after-number.ensures.inside c.first_after-number.ensures.below
+    c.first_after-number.ensures.above

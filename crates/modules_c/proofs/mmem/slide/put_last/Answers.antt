@@ -8,5 +8,5 @@ returns c = rw c.clear.ensures (record {
   store = store_added c.args.blocks.now c.args.buffer.now c.args.handle c.args.block c.requires.there c.requires.table c.requires.lies;
   row = search rules;
   last = last_added c.args.blocks.now c.args.buffer.now c.args.handle c.args.block c.requires.there c.requires.table c.requires.lies;
-  behind = added_behind c.args.blocks.now c.args.buffer.now c.args.handle c.args.block c.requires.there c.requires.table c.requires.lies;
+  new_last = added_behind c.args.blocks.now c.args.buffer.now c.args.handle c.args.block c.requires.there c.requires.table c.requires.lies;
 })

@@ -8,4 +8,4 @@ use Rattle.modules_c.proofs.mmem.table.end_of_last.Given as goal
 abbrev pub invariant-loop-block : goal.invariant-loop-block
 invariant-loop-block l =
     (l.end ≤ last_end (places_told l.blocks))
-    × ((j : ℕ) → j < l.block-index → 0 < (row_of l.blocks j).size → (row_of l.blocks j).place + up4 (row_of l.blocks j).size ≤ l.end)
+    × ((j : ℕ) → j < l.block-index → 0 < (row_of l.blocks j).size → (row_of l.blocks j).offset + up4 (row_of l.blocks j).size ≤ l.end)

@@ -9,32 +9,32 @@ use Rattle.mote_apps.specs.Bundled.{bundled_says}
 use Rattle.mote_apps.specs.declared.bundled.Bundled.{Bundled}
 
 -- what a box of this application says
-told_as : (at i : own-1.I) (y : (own-1.entry i).0.Denot) (x : (own-1.entry at).0.Denot)
+says_as : (at i : own-1.I) (y : (own-1.entry i).0.Denot) (x : (own-1.entry at).0.Denot)
     → Made (λ j. (own-1.entry j).0.coded.code) (own-1.entry at).0.coded.code at i y x → (own-1.entry i).1.says y ≡ (own-1.entry at).1.says x
-told_as at i y x made = read_made own-1 (own-1.entry at) at refl Says (λ object value. object.1.says value) i y x made
+says_as at i y x made = read_made own-1 (own-1.entry at) at refl Says (λ object value. object.1.says value) i y x made
 
 pub loop-application-preserved : goal.loop-application-preserved
 loop-application-preserved g c =
     let boxed = c.match-application.boxed in
-    let told : (own-1.entry boxed.vtable).1.says boxed.value ≡ bundled_says c.in-Some.application =
+    let same : (own-1.entry boxed.vtable).1.says boxed.value ≡ bundled_says c.in-Some.application =
     elim c.match-application.branch [
       | in-Blink+in_ok-new-in-Blink w ↦
-          ap (λ box. (own-1.entry box.vtable).1.says box.value) w.boxed-is ∙ (told_as (inl tt) _ _ w.in_ok-new-in-Blink.field-0.value w.into_dyn_box.ensures.1
+          ap (λ box. (own-1.entry box.vtable).1.says box.value) w.boxed-is ∙ (says_as (inl tt) _ _ w.in_ok-new-in-Blink.field-0.value w.into_dyn_box.ensures.1
           ∙ (ap (λ app. bundled_says (Bundled.Blink app)) w.in_ok-new-in-Blink.ensures.ok ∙ ap bundled_says (sym w.in-Blink.is)))
       | in-Echo+in_ok-new-in-Echo w ↦
-          ap (λ box. (own-1.entry box.vtable).1.says box.value) w.boxed-is ∙ (told_as (inr (inl tt)) _ _ w.in_ok-new-in-Echo.field-0.value w.into_dyn_box-in_ok-new-in-Echo.ensures.1
+          ap (λ box. (own-1.entry box.vtable).1.says box.value) w.boxed-is ∙ (says_as (inr (inl tt)) _ _ w.in_ok-new-in-Echo.field-0.value w.into_dyn_box-in_ok-new-in-Echo.ensures.1
           ∙ (ap (λ app. bundled_says (Bundled.Echo app)) w.in_ok-new-in-Echo.ensures.ok ∙ ap bundled_says (sym w.in-Echo.is)))
       | in-Relay+in_ok-new-in-Relay w ↦
-          ap (λ box. (own-1.entry box.vtable).1.says box.value) w.boxed-is ∙ (told_as (inr (inr (inl tt))) _ _ w.in_ok-new-in-Relay.field-0.value w.into_dyn_box-in_ok-new-in-Relay.ensures.1
+          ap (λ box. (own-1.entry box.vtable).1.says box.value) w.boxed-is ∙ (says_as (inr (inr (inl tt))) _ _ w.in_ok-new-in-Relay.field-0.value w.into_dyn_box-in_ok-new-in-Relay.ensures.1
           ∙ (ap (λ app. bundled_says (Bundled.Relay app)) w.in_ok-new-in-Relay.ensures.ok ∙ ap bundled_says (sym w.in-Relay.is)))
       | in-Ping+in_ok-new-in-Ping w ↦
-          ap (λ box. (own-1.entry box.vtable).1.says box.value) w.boxed-is ∙ (told_as (inr (inr (inr (inl tt)))) _ _ w.in_ok-new-in-Ping.field-0.value w.into_dyn_box-in_ok-new-in-Ping.ensures.1
+          ap (λ box. (own-1.entry box.vtable).1.says box.value) w.boxed-is ∙ (says_as (inr (inr (inr (inl tt)))) _ _ w.in_ok-new-in-Ping.field-0.value w.into_dyn_box-in_ok-new-in-Ping.ensures.1
           ∙ (ap (λ app. bundled_says (Bundled.Ping app)) w.in_ok-new-in-Ping.ensures.ok ∙ ap bundled_says (sym w.in-Ping.is)))
       | in_default+in_ok-new-in_default w ↦
-          ap (λ box. (own-1.entry box.vtable).1.says box.value) w.boxed-is ∙ (told_as (inr (inr (inr (inr (inl tt))))) _ _ w.in_ok-new-in_default.field-0.value
+          ap (λ box. (own-1.entry box.vtable).1.says box.value) w.boxed-is ∙ (says_as (inr (inr (inr (inr (inl tt))))) _ _ w.in_ok-new-in_default.field-0.value
           w.into_dyn_box-in_ok-new-in_default.ensures.1 ∙ search rules)
     ] in
-    one_more_boxed _ _ _ _ boxed _ _ _ _ c.in-Some.application c.loop-application.invariant c.in_ok-push.ensures.items told
+    one_more_boxed _ _ _ _ boxed _ _ _ _ c.in-Some.application c.loop-application.invariant c.in_ok-push.ensures.items same
     c.in-Some.ensures.steps
 
 pub returns-in_err-named-clause-run : goal.returns-in_err-named-clause-run

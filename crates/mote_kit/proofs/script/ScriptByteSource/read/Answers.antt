@@ -11,17 +11,17 @@ front_read size text front rest same few =
     ap (λ n. take n (front ++ rest)) (sym long) ∙ (take-append_seam front rest ∙ same)
 
 -- a text of which n more bytes are read
-read_on : (place size : ℕ) (text front rest : List ℕ) → front ≡ take size (take (length text - place) (drop place text)) →
-    size ≤ length text - place → take (place + size) text ≡ take place text ++ take size (front ++ rest)
-read_on place size text front rest same few =
-    let left : length (drop place text) ≤ length text - place = omega (arith, length-drop place text) in
-    let all : take (length text - place) (drop place text) ≡ drop place text = take_all (length text - place) (drop place text) left in
-    let size_left : size ≤ length (drop place text) = omega (arith, length-drop place text) in
-    take-add place size text
-    ∙ ap (λ v. take place text ++ v) (sym (front_read size (drop place text) front rest (same ∙ ap (λ v. take size v) all) size_left))
+read_on : (position size : ℕ) (text front rest : List ℕ) → front ≡ take size (take (length text - position) (drop position text)) →
+    size ≤ length text - position → take (position + size) text ≡ take position text ++ take size (front ++ rest)
+read_on position size text front rest same few =
+    let left : length (drop position text) ≤ length text - position = omega (arith, length-drop position text) in
+    let all : take (length text - position) (drop position text) ≡ drop position text = take_all (length text - position) (drop position text) left in
+    let size_left : size ≤ length (drop position text) = omega (arith, length-drop position text) in
+    take-add position size text
+    ∙ ap (λ v. take position text ++ v) (sym (front_read size (drop position text) front rest (same ∙ ap (λ v. take size v) all) size_left))
 
 pub returns-clause-taken : goal.returns-clause-taken
 returns-clause-taken c =
-    let few : c.min-size.result ≤ length c.args.self.now.text.now - c.args.self.now.place = search rules in
-    λ named. read_on c.args.self.now.place c.min-size.result c.args.self.now.text.now
+    let few : c.min-size.result ≤ length c.args.self.now.text.now - c.args.self.now.position = search rules in
+    λ named. read_on c.args.self.now.position c.min-size.result c.args.self.now.text.now
     c.copy_from_slice.new.self (drop c.min-size.result c.args.buffer.now) c.copy_from_slice.ensures.after few

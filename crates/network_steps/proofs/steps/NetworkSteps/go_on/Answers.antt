@@ -8,9 +8,9 @@ returns-in-Err-clause-failed c =
 
 pub returns-in-Rest-clause-went : goal.returns-in-Rest-clause-went
 returns-in-Rest-clause-went c =
-    let told = rw (← c.self.view_is) at c.requires.told in
+    let reported = rw (← c.self.view_is) at c.requires.reported in
     rw (← c.self.view_is)
-    (rests_on c.rest.result _ _ c.rest.new.self (rw c.in-Rest.is at c.in-Ok.ensures.works) told told refl refl refl c.rest.ensures.went)
+    (rests_on c.rest.result _ _ c.rest.new.self (rw c.in-Rest.is at c.in-Ok.ensures.works) reported reported refl refl refl c.rest.ensures.went)
 
 pub returns-in-Rest-clause-failed : goal.returns-in-Rest-clause-failed
 returns-in-Rest-clause-failed c =
@@ -19,6 +19,6 @@ returns-in-Rest-clause-failed c =
 
 pub returns-in_default-clause-went : goal.returns-in_default-clause-went
 returns-in_default-clause-went c =
-    let told = rw (← c.self.view_is) at c.requires.told in
+    let reported = rw (← c.self.view_is) at c.requires.reported in
     rw (← c.self.view_is, c.come_to.ensures.came)
-    (goes_by c.in-Ok.outcome _ c.come_to.new.self c.work.new.network told c.in_default.not-Rest c.in-Ok.ensures.works c.come_to.ensures.noted)
+    (goes_by c.in-Ok.outcome _ c.come_to.new.self c.work.new.network reported c.in_default.not-Rest c.in-Ok.ensures.works c.come_to.ensures.noted)

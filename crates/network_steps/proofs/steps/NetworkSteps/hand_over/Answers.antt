@@ -1,31 +1,33 @@
 use Rattle.std.proofs.Common.{refl}
-use Rattle.network_steps.proofs.Reports.{handed, input_refused, later_refused, unheard}
+use Rattle.network_steps.proofs.Reports.{handed_on, input_refused, is_not, later_refused, unheard}
 use Rattle.network_steps.proofs.steps.NetworkSteps.hand_over.Goals as goal
 
-pub returns-then-is_halted-clause-went : goal.returns-then-is_halted-clause-went
-returns-then-is_halted-clause-went c =
+pub returns-then-is_given-clause-went : goal.returns-then-is_given-clause-went
+returns-then-is_given-clause-went c =
     let rests = rw (← c.self.view_is) at c.requires.rests in
-    let told = rw (← c.self.view_is) at c.requires.told in
+    let reported = rw (← c.self.view_is) at c.requires.reported in
     let taken = rw (← c.self.view_is) at c.requires.taken in
-    rw (← c.self.view_is) (unheard c.args.waiting _ _ rests c.if-is_halted.ensures told taken refl)
+    rw (← c.self.view_is)
+    (handed_on c.work_on.result c.args.waiting _ _ c.work_on.new.self rests (c.in-Ok.ensures.given c.if-is_given.true) reported reported taken taken refl refl
+    c.work_on.ensures.went)
+
+pub returns-then-is_given-clause-failed : goal.returns-then-is_given-clause-failed
+returns-then-is_given-clause-failed c =
+    let rests = rw (← c.self.view_is) at c.requires.rests in
+    rw (← c.self.view_is)
+    (later_refused c.work_on.result c.args.waiting _ c.give_input.new.network c.work_on.new.self.net rests (c.in-Ok.ensures.given c.if-is_given.true)
+    c.work_on.ensures.failed)
+
+pub returns-else-is_given-clause-went : goal.returns-else-is_given-clause-went
+returns-else-is_given-clause-went c =
+    let rests = rw (← c.self.view_is) at c.requires.rests in
+    let reported = rw (← c.self.view_is) at c.requires.reported in
+    let taken = rw (← c.self.view_is) at c.requires.taken in
+    rw (← c.self.view_is, c.in-Ok.ensures.missed c.if-is_given.false)
+    (unheard c.args.waiting _ _ rests (is_not _ (rw c.if-is_given.false at c.in-Ok.ensures.halted)) reported taken refl)
 
 pub returns-in-Err-clause-failed : goal.returns-in-Err-clause-failed
 returns-in-Err-clause-failed c =
     let rests = rw (← c.self.view_is) at c.requires.rests in
     rw (← c.self.view_is, c.fault_of.ensures)
-    (input_refused c.in-Err.fault c.args.waiting _ c.feed.new.self rests c.in-Err.ensures.refused.0 c.in-Err.ensures.refused.1)
-
-pub returns-in-Err-work-clause-failed : goal.returns-in-Err-work-clause-failed
-returns-in-Err-work-clause-failed c =
-    let rests = rw (← c.self.view_is) at c.requires.rests in
-    rw (← c.self.view_is, c.fault_of-in-Err-work.ensures)
-    (later_refused c.in-Err-work.fault c.args.waiting _ c.feed.new.self c.work.new.network rests c.in_default.ensures.fed c.in-Err-work.ensures.refused c.in-Err-work.ensures.why)
-
-pub returns-in-Ok-clause-went : goal.returns-in-Ok-clause-went
-returns-in-Ok-clause-went c =
-    let rests = rw (← c.self.view_is) at c.requires.rests in
-    let told = rw (← c.self.view_is) at c.requires.told in
-    let taken = rw (← c.self.view_is) at c.requires.taken in
-    rw (← c.self.view_is, c.come_to.ensures.came)
-    (handed c.args.waiting c.in-Ok.outcome _ c.come_to.new.self c.feed.new.self c.work.new.network rests c.in_default.ensures.fed told taken
-    c.in-Ok.ensures.works c.come_to.ensures.noted)
+    (input_refused c.in-Err.fault c.args.waiting _ c.give_input.new.network rests c.in-Err.ensures.refused.0 c.in-Err.ensures.refused.1)

@@ -1,5 +1,5 @@
 use Rattle.std.proofs.Common.{sym}
-use Rattle.network_steps.proofs.Reports.{all_told, loss_reported, turn_refused}
+use Rattle.network_steps.proofs.Reports.{all_reported, loss_reported, turn_refused}
 use Rattle.network_steps.proofs.steps.NetworkSteps.next.Goals as goal
 
 pub returns-in-Some-clause-went : goal.returns-in-Some-clause-went
@@ -8,7 +8,7 @@ returns-in-Some-clause-went c =
 
 pub returns-clause-went : goal.returns-clause-went
 returns-clause-went c =
-    all_told c.go_on.result c.args.self.now c.report_fate.new.self c.go_on.new.self c.in_default.ensures.none.0 c.in_default.ensures.none.1
+    all_reported c.go_on.result c.args.self.now c.report_fate.new.self c.go_on.new.self c.in_default.ensures.none.0 c.in_default.ensures.none.1
     c.go_on.ensures.went
 
 pub returns-then-is_some-clause-failed : goal.returns-then-is_some-clause-failed

@@ -4,10 +4,10 @@ use Rattle.picture_facts.specs.Rows.{Cover, bytes_of}
 use Rattle.picture_facts.proofs.RowClocks.{HasClocks}
 use Rattle.picture_facts.proofs.marks.ClockedWalk.take_rows.Given as goal
 
-abbrev pub invariant-loop-place : goal.invariant-loop-place
-invariant-loop-place l = record {
+abbrev pub invariant-loop-index : goal.invariant-loop-index
+invariant-loop-index l = record {
   clocks : (first end : ℕ) → Cover first l.rows end → l.initial.self.clock ≡ clock_after (take first (bytes_of l.lines))
-      → HasClocks (bytes_of l.lines) l.rows end l.initial.self.clocks.items l.place l.self.clock l.self.clocks.items;
-  answers : length l.self.answers.items ≡ length l.initial.self.answers.items + l.place;
-  lateness : length l.self.lateness.items ≡ length l.initial.self.lateness.items + l.place;
+      → HasClocks (bytes_of l.lines) l.rows end l.initial.self.clocks.items l.index l.self.clock l.self.clocks.items;
+  answers : length l.self.answers.items ≡ length l.initial.self.answers.items + l.index;
+  lateness : length l.self.lateness.items ≡ length l.initial.self.lateness.items + l.index;
 }

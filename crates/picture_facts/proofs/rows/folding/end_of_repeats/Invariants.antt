@@ -4,7 +4,7 @@ use Rattle.picture_facts.proofs.rows.folding.end_of_repeats.Given as goal
 
 abbrev pub invariant-loop-end : goal.invariant-loop-end
 invariant-loop-end l = record {
-  behind : l.at ≤ l.end;
+  after : l.at ≤ l.end;
   there : l.end ≤ length l.lines;
   again : AreAgain (bytes_of l.lines) l.count l.at l.end;
 }

@@ -6,4 +6,4 @@ pub returns : goal.returns
 returns c =
     let bytes = c.bytes_shown-bytes in
     IfOk-weaker c.draw_managed_column.result _ _
-    (λ _ told. inr (search rules, (bytes.result, bytes.ensures, told))) c.draw_managed_column.ensures
+    (λ _ is. inr (search rules, (bytes.result, bytes.ensures, is))) c.draw_managed_column.ensures

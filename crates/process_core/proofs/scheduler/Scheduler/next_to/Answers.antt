@@ -4,16 +4,16 @@ use Rattle.process_core.proofs.scheduler.Scheduler.next_to.Goals.{in-Some, in-No
 
 -- the front or the work after it led to the job
 finds : (c : goal.After-each_is_once)
-    → FindsJob (scheduler_of c.self.inside.fields) (Some c.match-take_front.ready) c.match-take_front.told
+    → FindsJob (scheduler_of c.self.inside.fields) (Some c.match-take_front.ready) c.match-take_front.stimulus
     c.match-take_front.self-inside.fields
 finds c =
     elim c.match-take_front.branch [
-      | in-Some w ↦ rw (w.told-is, w.ready-is, w.self-inside-is) w.in-Some.ensures
-      | in-None w ↦ rw (w.told-is, w.ready-is, w.self-inside-is) (finds_after w.in-None.ensures w.work_on-ready.ensures)
+      | in-Some w ↦ rw (w.stimulus-is, w.ready-is, w.self-inside-is) w.in-Some.ensures
+      | in-None w ↦ rw (w.stimulus-is, w.ready-is, w.self-inside-is) (finds_after w.in-None.ensures w.work_on-ready.ensures)
     ]
 
 comes_to : (c : goal.After-each_is_once)
-    → ComesTo c.args.self.now.state (job_of c.match-take_front.ready c.match-take_front.told)
+    → ComesTo c.args.self.now.state (job_of c.match-take_front.ready c.match-take_front.stimulus)
     (scheduler_of c.match-take_front.self-inside.fields)
 comes_to c =
     let f = finds c in
@@ -21,7 +21,7 @@ comes_to c =
 
 pub returns-clause-served : goal.returns-clause-served
 returns-clause-served c = λ p serves.
-    let held = rw serves at ((finds c).told) in (
+    let held = rw serves at ((finds c).holds) in (
       served_below c.args.self.now.state p.0 held.0 (scheduler_of c.match-take_front.self-inside.fields)
           (rw (serves, held.1) at (comes_to c)),
       held.0,
@@ -38,7 +38,7 @@ returns-clause-job c = comes_to c
 
 pub returns-clause-applications : goal.returns-clause-applications
 returns-clause-applications c =
-    applications_from_comes_to c.args.self.now.state (job_of c.match-take_front.ready c.match-take_front.told)
+    applications_from_comes_to c.args.self.now.state (job_of c.match-take_front.ready c.match-take_front.stimulus)
     (scheduler_of c.match-take_front.self-inside.fields) (comes_to c)
 
 pub returns-clause-standing : goal.returns-clause-standing

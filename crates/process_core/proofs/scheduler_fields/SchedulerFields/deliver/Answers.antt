@@ -3,6 +3,6 @@ use Rattle.process_core.proofs.scheduler_fields.SchedulerFields.deliver.Goals as
 
 pub returns-in-Some-To-clause-finds : goal.returns-in-Some-To-clause-finds
 returns-in-Some-To-clause-finds c =
-    rw c.tell.ensures
+    rw c.write_event.ensures
     (finds_from (deliver_to_yields c.args.self.now c.drop_first.new.events c.in-Some-To.pid c.in-Some-To.event _ _
-    (rw c.in-Some-To.field-0-is at c.in-Some-To.ensures) c.drop_first.ensures) (rw c.tell.ensures at c.give.ensures.finds))
+    (rw c.in-Some-To.field-0-is at c.in-Some-To.ensures) c.drop_first.ensures) (rw c.write_event.ensures at c.give.ensures.finds))

@@ -7,7 +7,7 @@ returns-in-Running-clause-finds c =
     let d = c.args.self.now in
     record {
       yields = search rules;
-      told = tt;
+      holds = tt;
       front = refl;
       order =
           in_order d c.requires.order
@@ -19,10 +19,10 @@ pub returns-in_default-state_of-clause-finds : goal.returns-in_default-state_of-
 returns-in_default-state_of-clause-finds c =
     record {
       yields =
-          give_yields_nothing (scheduler_behind c.args.self.now) c.args.pid.0 c.args.origin c.args.told.now
+          give_yields_nothing (scheduler_behind c.args.self.now) c.args.pid.0 c.args.origin c.args.stimulus.now
           c.if-pid-lt-FIRST_APPLICATION.false
           (λ e. c.in_default-state_of.not-Running (c.state_of.ensures.value ∙ e));
-      told = tt;
+      holds = tt;
       front = c.requires.idle;
       order = c.requires.order;
     }

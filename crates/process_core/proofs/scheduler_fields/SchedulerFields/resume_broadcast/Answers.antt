@@ -11,10 +11,10 @@ returns-in-Some-clause-finds c =
       | else-not-is_polled-via-then-not-is_polled+else-is_any_marked w ↦ λ e. sym w.is_any_marked.ensures ∙ w.if-is_any_marked.false
       | else-not-is_polled-via-else-not-is_polled w ↦ λ e. absurd (cc)
     ] in
-    rw c.tell.ensures
+    rw c.write_event.ensures
     (finds_from
     (received c.args.self.now c.args.is_polled c.in-Some.pid.0 c.advance.new.self _ _ c.requires.bare c.in-Some.ensures unmarked)
-    (rw c.tell.ensures at c.give.ensures.finds))
+    (rw c.write_event.ensures at c.give.ensures.finds))
 
 pub returns-then-not-is_over-clause-finds : goal.returns-then-not-is_over-clause-finds
 returns-then-not-is_over-clause-finds c =
@@ -23,7 +23,7 @@ returns-then-not-is_over-clause-finds c =
           polled_receiver c.args.self.now c.args.is_polled c.args.self.now.walk c.walk_to_poll-self.result c.requires.bare
           c.if-not-is_polled.true refl (sym c.is_over.ensures ∙ c.if-not-is_over.true)
           (sym c.is_any_marked.ensures ∙ c.if-is_any_marked.true) c.walk_to_poll-self.ensures.rest;
-      told = tt;
+      holds = tt;
       front = c.requires.idle;
       order = search rules;
     }

@@ -17,7 +17,7 @@ returns-then-is_any_marked-clause-finds c =
       yields =
           polled_first c.args.self.now c.args.is_polled c.walk_to_poll-self.result c.requires.bare c.if-not-is_polled.true
           (sym c.is_any_marked.ensures ∙ c.if-is_any_marked.true) c.walk_to_poll-self.ensures.rest;
-      told = tt;
+      holds = tt;
       front = c.requires.idle;
       order = search rules;
     }

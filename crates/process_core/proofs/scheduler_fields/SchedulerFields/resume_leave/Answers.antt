@@ -14,7 +14,7 @@ returns-then-not-exits-clause-finds c =
     let d = c.args.self.now in
     record {
       yields = search rules;
-      told = tt;
+      holds = tt;
       front = c.requires.idle;
       order =
           in_order d c.requires.order
@@ -37,7 +37,7 @@ returns-else-not-exits-clause-finds c =
             c.if-not-exits.false,
           )
           (1, refl, refl);
-      told = tt;
+      holds = tt;
       front = refl;
       order =
           in_order d c.requires.order

@@ -8,7 +8,7 @@ returns-in_default c = record {
       rw (none_reported c.args.self.now.front c.args.self.now.reply c.args.self.now.synch c.requires.rare c.in_default.not-Give
       c.in_default.not-Start c.in_default.not-Callback)
       (0, refl);
-  told = tt;
+  holds = tt;
   front = refl;
   order = search rules;
 }

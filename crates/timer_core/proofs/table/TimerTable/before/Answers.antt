@@ -1,8 +1,8 @@
-use Rattle.timer_core.proofs.Lemmas.{arith, listed_from_none, passes_at, behind_walked, walked_more, none_of_more, at_below, list_any-append}
+use Rattle.timer_core.proofs.Lemmas.{arith, listed_from_none, passes_at, follows_walked, walked_more, none_of_more, at_below, list_any-append}
 use Rattle.timer_core.proofs.table.TimerTable.before.Goals as goal
 
-pub returns-then-other-place : goal.returns-then-other-place
-returns-then-other-place c = grind (arith, behind_walked)
+pub returns-then-other-slot : goal.returns-then-other-slot
+returns-then-other-slot c = grind (arith, follows_walked)
 
 pub bounds-self-inside-other : goal.bounds-self-inside-other
 bounds-self-inside-other c =

@@ -13,8 +13,8 @@ one_more : (o : Option ℕ) (d : ℕ) (later : Option ℕ) → earliest_with (So
     (Some (earlier_of d later))
 one_more o d later = grind arith
 
-pub bounds-self-inside-place : goal.bounds-self-inside-place
-bounds-self-inside-place c = at_below c.in-Some.place (passes_at c.in-Some.is c.loop-link.invariant.list).named
+pub bounds-self-inside-slot : goal.bounds-self-inside-slot
+bounds-self-inside-slot c = at_below c.in-Some.slot (passes_at c.in-Some.is c.loop-link.invariant.list).named
 
 pub deadline-requires : goal.deadline-requires
 deadline-requires c =
@@ -30,11 +30,11 @@ loop-link-preserved c =
     let cells = c.self.inside.cells in
     let timers = timers_of c.self.inside in
     let step = passes_at c.in-Some.is h.list in
-    let next = next_at cells c.in-Some.place step.named in
-    let rest = earliest_of timers (listed_from cells (next_of cells (timer_at c.in-Some.place))) in
+    let next = next_at cells c.in-Some.slot step.named in
+    let rest = earliest_of timers (listed_from cells (next_of cells (timer_at c.in-Some.slot))) in
     let known =
     ap (earliest_of timers) step.listed ∙ ap (λ (m : ℕ). Some (earlier_of m rest))
-    (deadline_at c.self.inside c.in-Some.place step.named ∙ sym c.deadline.ensures) in
+    (deadline_at c.self.inside c.in-Some.slot step.named ∙ sym c.deadline.ensures) in
     record {
       list = rw next at step.later;
       known =

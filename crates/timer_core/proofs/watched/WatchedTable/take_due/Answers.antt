@@ -1,9 +1,9 @@
-use Rattle.timer_core.proofs.Lemmas.{◌∙◌, ap, sym, subst, first_due, none_due_in_fewer, passed_without, behind_passed}
+use Rattle.timer_core.proofs.Lemmas.{◌∙◌, ap, sym, subst, first_due, none_due_in_fewer, passed_without, follows_passed}
 use Rattle.timer_core.specs.Code.Outlooks.{IsPassed}
 use Rattle.timer_core.proofs.watched.WatchedTable.take_due.Goals as goal
 
-pub unlink-requires-clause-behind : goal.unlink-requires-clause-behind
-unlink-requires-clause-behind c = behind_passed c.self.inside.table _ c.in-Due.passed c.in-Due.ensures.2
+pub unlink-requires-clause-follows : goal.unlink-requires-clause-follows
+unlink-requires-clause-follows c = follows_passed c.self.inside.table _ c.in-Due.passed c.in-Due.ensures.2
 
 pub invariant_of-self : goal.invariant_of-self
 invariant_of-self c = (

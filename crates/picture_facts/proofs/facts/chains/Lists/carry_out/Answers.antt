@@ -1,7 +1,7 @@
 use Rattle.std.proofs.Common.{◌≡◌, ◌∙◌, ◌<◌, [], ◌++◌, ◌∷◌, length, sym, ap, arith}
 use Rattle.std.proofs.lemmas.List.{length-map, get_or-map}
 use Rattle.picture_facts.specs.declared.facts.chains.Chain.{Chain}
-use Rattle.picture_facts.specs.Chains.{blocks_behind}
+use Rattle.picture_facts.specs.Chains.{blocks_after}
 use Rattle.picture_facts.specs.Chains.AreChains.{more}
 use Rattle.picture_facts.specs.Lists.{changed}
 use Rattle.picture_facts.proofs.Chained.{set_blocks}
@@ -17,10 +17,10 @@ invariant_of-self-2 c =
     let has = c.self.invariant.0 in
     let there : list < length lists = omega (arith, c.len.ensures, c.if-list-len.false) in
     let inside : list < 8 = omega (arith, there, has.size, length-map lists (λ blocks. blocks.items)) in
-    let before : c.in_ok-blocks.blocks.items ≡ blocks_behind list [] chains =
+    let before : c.in_ok-blocks.blocks.items ≡ blocks_after list [] chains =
     c.in_ok-blocks.ensures.items ∙ c.as_slice.ensures.value ∙ ap (λ blocks. blocks.items) c.index.ensures
     ∙ sym (get_or-map (λ blocks. blocks.items) lists list c.index.result.now [] there) ∙ has.blocks list inside in
-    let change : chain.blocks.items ≡ changed c.in-Some.change (blocks_behind list [] chains) =
+    let change : chain.blocks.items ≡ changed c.in-Some.change (blocks_after list [] chains) =
     c.in_ok-carry_out.ensures ∙ ap (changed c.in-Some.change) before in
     let kept : c.in_ok-kept.kept.items ≡ chain.blocks.items = c.in_ok-kept.ensures.items ∙ c.as_slice-2.ensures.value in (
       set_blocks lists c.push.new.self.items c.in_ok-kept.kept chains chain kept pushed has inside,

@@ -1,2 +1,0 @@
--- The code's invariants.
-pub mod Tournaments

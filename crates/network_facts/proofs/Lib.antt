@@ -1,3 +1,0 @@
-mod Examples
-mod InFlightExamples
-pub mod Walked

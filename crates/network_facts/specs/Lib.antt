@@ -1,4 +1,0 @@
-pub mod Capture
-pub mod Flights
-pub mod InFlight
-pub mod NetworkLines

@@ -1,4 +1,0 @@
-pub mod Digits
-mod Examples
-pub mod Moves
-pub mod Parting

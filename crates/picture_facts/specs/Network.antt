@@ -1,0 +1,4 @@
+pub mod Capture
+pub mod Flights
+pub mod InFlight
+pub mod Lines

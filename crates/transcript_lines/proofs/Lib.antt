@@ -1,4 +1,0 @@
-mod Examples
-pub mod Numbers
-pub mod Told
-pub mod Words

@@ -1,8 +1,0 @@
-use Rattle.std.proofs.Common.{◌≡◌, drop}
-use Rattle.transcript_lines.specs.Code.{words_in}
-use Rattle.transcript_lines.specs.Turns.{have_forms}
-use Rattle.transcript_lines.proofs.forms.have_forms.Given as goal
-
--- the remaining words have the remaining forms exactly if all words have all forms
-abbrev pub invariant-loop-form : goal.invariant-loop-form
-invariant-loop-form l = have_forms (drop l.form-index l.forms) (words_in l.left) ≡ have_forms l.forms (words_in l.initial.left)
