@@ -25,38 +25,57 @@ def load_kit() -> Any | None:
 
 
 def note_of(crate: Any) -> Path:
-    """The file that names the builds of the libraries below, over which this one was built: its statements fit only those."""
+    """The file that says what the library was built from: its statements fit only the builds below over which it was built."""
     return Path(crate.rlib).with_name("over")
 
 
-def builds_below(crate: Any) -> str:
-    """The build of each library below, by the sizes and times of its files: a line for each."""
-    lines = []
-    for it in crate.below():
-        files = sorted(path for path in Path(it.rlib).rglob("*") if path.is_file())
-        facts = "".join(f"{path.relative_to(it.rlib)} {path.stat().st_size} {path.stat().st_mtime_ns}\n" for path in files)
-        lines.append(f"{it.name} {hashlib.sha256(facts.encode()).hexdigest()}\n")
-    return "".join(lines)
+def sum_of_files(folder: Path) -> str:
+    """A sum of the names and contents of all files in a folder."""
+    files = sorted(path for path in folder.rglob("*") if path.is_file())
+    sums = "".join(f"{path.relative_to(folder)} {hashlib.sha256(path.read_bytes()).hexdigest()}\n" for path in files)
+    return hashlib.sha256(sums.encode()).hexdigest()
 
 
-def is_current(crate: Any) -> bool:
-    """Whether it is of the present sources, and over the present builds, if it has a note of these. One that rt built has none."""
+def built_from(rt: Any, crate: Any) -> str:
+    """What a library is built from: the kit, the crate's own sources, and the build of each library below it; a line for each."""
+    own = [crate.said, crate.has_c, *((file.removeprefix(crate.folder), Path(file).read_bytes()) for file in rt.files_of(crate.folder))]
+    sums = {"kit": hashlib.sha256(Path(rt.KIT, "WHAT").read_bytes()).hexdigest(), "own": hashlib.sha256(repr(own).encode()).hexdigest(),
+            **{f"crate {it.name}": sum_of_files(Path(it.rlib)) for it in crate.below()}}
+    return "".join(f"{name} {told}\n" for name, told in sums.items())
+
+
+def stamp(crate: Any) -> None:
+    """Writes the stamp by which rt knows that the library is of the present sources."""
+    Path(crate.rlib).with_name("stamp").write_text(crate.stamp(), encoding="utf-8")
+
+
+def is_current(rt: Any, crate: Any) -> bool:
+    """Whether it was built from the present sources, over the present builds. One that rt built has no note of that.
+
+    A library whose own sources are the same, over builds that are the same byte for byte, gets the present stamp: a comment in a crate
+    below changes the stamps of all above it, and nothing that their proofs read."""
     note = note_of(crate)
-    return crate.is_built() and (not note.exists() or note.read_text(encoding="utf-8") == builds_below(crate))
+    if not note.exists():
+        return bool(crate.is_built())
+    if note.read_text(encoding="utf-8") != built_from(rt, crate):
+        return False
+    if not crate.is_built():
+        stamp(crate)
+    return True
 
 
 def build(rt: Any, folder: Path, options: list[str]) -> int:
-    """Proves and builds it, unless it is current, and writes the stamp by which rt knows that. Returns the status."""
+    """Proves and builds it, unless it is current. Returns the status."""
     crate = next(it for it in rt.crates_below(str(folder.parent.parent)) if it.name == folder.name)
-    if is_current(crate):
+    if is_current(rt, crate):
         return 0
-    library = Path(crate.rlib)
+    library, made_from = Path(crate.rlib), built_from(rt, crate)
     shutil.rmtree(library.parent, ignore_errors=True)
     library.parent.mkdir(parents=True)
     status: int = crate.call(rt.RATTLE, "build", *crate.words(options, keeps=False), "--statements", "-o", crate.rlib)
     if status == 0:
-        note_of(crate).write_text(builds_below(crate), encoding="utf-8")
-        library.with_name("stamp").write_text(crate.stamp(), encoding="utf-8")
+        note_of(crate).write_text(made_from, encoding="utf-8")
+        stamp(crate)
     return status
 
 

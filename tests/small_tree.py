@@ -65,7 +65,7 @@ class Tree:
 
     def settings(self, **settings: str) -> dict[str, str]:
         return {"PATH": f"{self.bin}:{os.environ['PATH']}", "WITH_RT": os.environ["PATH"], "BEGUN": str(self.began), "RT_JOBS": "1",
-                **settings}
+                "XDG_CACHE_HOME": str(self.room / "cache"), **settings}
 
     def run(self, script: str, *words: Word, stdin: bytes | Path = b"", cwd: Path | None = None, **settings: str) -> Completed:
         self.ran = run(self.root / script, *words, stdin=stdin, cwd=cwd, settings=self.settings(**settings), timeout=300)

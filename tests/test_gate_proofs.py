@@ -118,6 +118,31 @@ def test_notes_of_programs(tree: Tree, edits: str) -> None:
     assert not (tree.crate("low") / "out/checked").exists()
 
 
+def test_notes_are_kept(tree: Tree) -> None:
+    """A note that an earlier run copied serves a later one of the same sources, in which `rt ci` writes none. Three are kept."""
+    room, note, main = tree.room / "temporary", tree.crate("mote") / "out/checked", tree.crate("mote") / "src/main.rt"
+    room.mkdir()
+    first = main.read_bytes()
+    for number in range(4):
+        main.write_bytes(first + b"\n" * number)
+        assert prove_all(tree, MEANWHILE='sleep 1; rm -r "$TMPDIR"/rt-proved-*', TMPDIR=str(room))[-1] == LAST
+        shutil.rmtree(note)
+    for number, is_kept in ((3, True), (1, True), (0, False)):
+        main.write_bytes(first + b"\n" * number)
+        assert prove_all(tree, FROM_STORE="1", TMPDIR=str(room))[-1] == LAST and note.exists() == is_kept
+        assert not is_kept or (note / "inputs").read_text(encoding="utf-8") == "crate mote program\n"
+        shutil.rmtree(note, ignore_errors=True)
+    assert len(list((tree.room / "cache/toarmuts/notes").glob("mote-*"))) == 3
+
+
+def test_notes_cannot_be_kept(tree: Tree) -> None:
+    """Where there can be no folder for notes, they serve this run alone."""
+    room, cache = tree.room / "temporary", tree.room / "cache"
+    room.mkdir()
+    cache.write_text("no folder", encoding="utf-8")
+    assert prove_all(tree, MEANWHILE="sleep 1", TMPDIR=str(room))[-1] == LAST and (tree.crate("mote") / "out/checked").exists()
+
+
 @in_both
 def test_failure(tree: Tree, edits: str) -> None:
     """What fails isn't taken as proved, and its last line and status are those of `rt ci`."""

@@ -16,7 +16,11 @@ class Library:
     def __init__(self, room: Path) -> None:
         self.kit, self.begun, self.built = room / "kit", room / "begun", room / "crates/tool/out/rlib"
         shutil.copytree(ROOT / "tests/stand_in_kit", self.kit)
+        (self.kit / "WHAT").write_text("a kit", encoding="utf-8")
         self.built.mkdir(parents=True)
+        self.source = room / "crates/tool/src/lib.rt"
+        self.source.parent.mkdir()
+        self.source.write_text("first", encoding="utf-8")
         for name in ("stamp", "old"):
             (self.built / name).write_text("old", encoding="utf-8")
         self.lower = room / "crates/lower/out/rlib/lower.rlib/file"
@@ -52,12 +56,27 @@ def test_current_library(library: Library) -> None:
     assert (ran.returncode, ran.stdout, library.files()) == (0, b"", ["old", "stamp"])
 
 
-def test_library_below_is_built_again(library: Library) -> None:
-    """The library is built over the new one, whatever its own sources; over the same one it isn't built again."""
+@pytest.mark.parametrize("changed", ["lower", "source"])
+def test_library_is_built_again(library: Library, changed: str) -> None:
+    """The library is built from other sources, or over another build, whatever the stamp says; from the same ones it isn't built again."""
     library.prove()
     assert library.prove(BUILT="1").stdout == b""
-    library.lower.write_text("second", encoding="utf-8")
+    getattr(library, changed).write_text("second", encoding="utf-8")
     assert library.prove(BUILT="1").stdout.startswith(b"rattle build") and library.prove(BUILT="1").stdout == b""
+
+
+def test_library_below_is_the_same_again(library: Library) -> None:
+    """The stamp of a library fits no more after any change below it. Where its own sources, the builds below and the kit are the same, it
+    gets the present one, and isn't built again."""
+    library.prove()
+    (library.built / "stamp").write_text("of other sources below", encoding="utf-8")
+    library.lower.unlink()
+    library.lower.write_text("first", encoding="utf-8")
+    assert library.prove().stdout == b"" and (library.built / "stamp").read_text(encoding="utf-8") == "stamp"
+    (library.kit / "WHAT").write_text("another kit", encoding="utf-8")
+    assert library.prove().stdout.startswith(b"rattle build")
+    (library.lower.parent / "more").touch()
+    assert library.prove().stdout.startswith(b"rattle build") and library.prove().stdout == b""
 
 
 def test_library_that_is_not_proved(library: Library) -> None:

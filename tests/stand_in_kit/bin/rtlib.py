@@ -3,11 +3,15 @@
 import os
 
 RATTLE = "rattle"
+KIT = os.path.dirname(os.path.dirname(os.path.realpath(__file__)))
 
 
 class Crate:
     name = "tool"
-    rlib = f"{os.getcwd()}/out/rlib/tool.rlib"
+    folder = os.getcwd()
+    said = {"name": "tool"}
+    has_c = False
+    rlib = f"{folder}/out/rlib/tool.rlib"
 
     def stamp(self):
         return "stamp"
@@ -30,6 +34,10 @@ class Crate:
 class Lower:
     name = "lower"
     rlib = f"{os.getcwd()}/../lower/out/rlib/lower.rlib"
+
+
+def files_of(folder):
+    return sorted(f"{folder}/src/{name}" for name in os.listdir(f"{folder}/src"))
 
 
 def crates_below(root):
