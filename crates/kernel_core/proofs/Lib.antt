@@ -1,5 +1,6 @@
 pub mod Carrying
 pub mod Costs
+pub mod EntriesLeft
 pub mod Silent
 pub mod Still
 pub mod Determined

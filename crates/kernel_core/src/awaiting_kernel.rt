@@ -12,6 +12,7 @@ ghost use Rattle.kernel_core.specs.Inputs.{fed};
 ghost use Rattle.kernel_core.specs.Code.Conditions.{has_bytes, ticks_of};
 ghost use Rattle.kernel_core.specs.Machine.{is_bootable, booted};
 ghost use Rattle.kernel_core.specs.Code.Conditions.{TakesEntry};
+ghost use Rattle.kernel_core.specs.Mote.{most_entries_left};
 ghost use Rattle.kernel_core.specs.Run.{Choices, heard, is_at_rest};
 ghost use Rattle.timer_core.specs.Deadlines.{next_deadline};
 
@@ -156,6 +157,14 @@ impl AwaitingKernel {
         ensures closed { self.new.turn ≡ None }
     {
         self.fields.feed(input);
+    }
+
+    /// Before it rests, a mote makes no more than this many entries. Nothing is done.
+    #[inline(always)]
+    pub fn entries_are_few(&self)
+        ensures { self.now.mote.entries_left ≤ most_entries_left }
+    {
+        let _ = &self.turn;
     }
 
     /// The application whose call is awaited.

@@ -9,6 +9,7 @@ ghost use Rattle.mote_types.specs.declared.entry.Entry.{Entry as Made};
 ghost use Rattle.kernel_core.specs.Calls.{after_call};
 ghost use Rattle.kernel_core.specs.Code.Conditions.{ticks_of};
 ghost use Rattle.kernel_core.specs.Machine.{booted, is_bootable};
+ghost use Rattle.kernel_core.specs.Mote.{most_entries_left};
 ghost use Rattle.kernel_core.specs.declared.turn.Turn.{Turn as Taken};
 ghost use Rattle.timer_core.specs.Deadlines.{next_deadline};
 ghost use Rattle.std.specs.Option.{option_copied};
@@ -503,6 +504,14 @@ impl Session {
         }
         self.kernel.feed(input);
         Ok(())
+    }
+
+    /// Before it rests, a mote makes no more than this many entries. Nothing is done.
+    #[inline(always)]
+    pub fn entries_are_few(&self)
+        ensures { self.now.entries_left ≤ most_entries_left }
+    {
+        self.kernel.entries_are_few();
     }
 
     /// The turn that awaits its call, if one does.

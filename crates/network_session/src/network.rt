@@ -8,6 +8,7 @@ ghost use Rattle.network_session.specs.Schedule.{arriving, due_now, due_step, is
 ghost use Rattle.network_session.specs.declared.fault.NetworkBootFault.{NetworkBootFault};
 ghost use Rattle.network_session.specs.declared.outcome.Outcome.TheVariants.{Woken};
 ghost use Rattle.network_session.specs.Steps.{SubmittedIn, HandedIn, IsNetworkSubmitted, IsNetworkFed, IsToldTime, Steps, ToldIn, WorkedIn, aired_if};
+ghost use Rattle.network_session.specs.Code.Measures.{left_at_work, most_left_at_work};
 ghost use Rattle.network_session.specs.Code.Wakes.{AreWakes, IsSteady};
 ghost use Rattle.mote_session.specs.Code.Speaking.{SpeaksBy};
 ghost use Rattle.network_session.specs.Code.Working.{Works, WorksIn};
@@ -560,6 +561,16 @@ impl Network {
         }
         self.tell_time(m)?;
         Ok(true)
+    }
+
+    /// Before it rests, the mote at work makes no more than this many entries. Nothing is done.
+    #[inline(always)]
+    pub fn entries_are_few(&self)
+        ensures { left_at_work self.now ≤ most_left_at_work }
+    {
+        if let Some(m) = self.active {
+            self.motes[m].entries_are_few();
+        }
     }
 
     /// The ticks since boot.

@@ -1,5 +1,6 @@
 -- What is left to do until a network rests.
 use Rattle.std.specs.Prelude.{◌≡◌, ℕ, ◌+◌, ◌-◌, ◌<◌, List, Bool, true, false, length, slice_get, Option, None, Some, suc}
+use Rattle.kernel_core.specs.Mote.{most_entries_left}
 use Rattle.mote_session.specs.SessionView.{SessionView}
 use Rattle.network_session.specs.Network.{NetworkView}
 use Rattle.network_session.specs.declared.outcome.Outcome.{Outcome}
@@ -19,6 +20,9 @@ left_at motes (Some m) = suc (left_of (slice_get motes m))
 
 abbrev pub left_at_work : NetworkView → ℕ
 left_at_work net = left_at net.motes net.active
+
+abbrev pub most_left_at_work : ℕ
+most_left_at_work = 2 + most_entries_left
 
 pub record IsNearerRest (old new : NetworkView) : Type 0 where
   pub nearer : left_at_work new < left_at_work old
