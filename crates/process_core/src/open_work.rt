@@ -124,16 +124,27 @@ fn begin_reply(stimulus: &mut Stimulus)
     *stimulus = Stimulus::Answer(Reply::Done);
 }
 
-/// Writes a reply as a stimulus; the reply stays. Most are Done, and all but bytes take fewer moves than a copy of the whole reply.
-pub(crate) fn write_reply(stimulus: &mut Stimulus, reply: &Reply)
+// Writes a reply that carries something.
+fn write_other_reply(stimulus: &mut Stimulus, reply: &Reply)
     ensures { stimulus.new ≡ Received.Answer reply.now }
 {
-    begin_reply(stimulus);
-    if matches!(reply, Reply::Done) {
-        return;
+    if !matches!(stimulus, Stimulus::Answer(_)) {
+        begin_reply(stimulus);
     }
     if let Stimulus::Answer(slot) = stimulus {
         put_reply(slot, reply);
+    }
+}
+
+/// Writes a reply as a stimulus; the reply stays. Most are Done, which the buffer often has from the turn before.
+#[inline(always)]
+pub(crate) fn write_reply(stimulus: &mut Stimulus, reply: &Reply)
+    ensures { stimulus.new ≡ Received.Answer reply.now }
+{
+    if !matches!(reply, Reply::Done) {
+        write_other_reply(stimulus, reply);
+    } else if !matches!(stimulus, Stimulus::Answer(Reply::Done)) {
+        begin_reply(stimulus);
     }
 }
 

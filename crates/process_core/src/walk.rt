@@ -53,10 +53,7 @@ impl Walk {
     pub fn advance(&mut self) -> Option<Pid>
         ensures { MatchOption result ((self.old ≡ []) × (self.new ≡ [])) (λ p. self.old ≡ p.0 ∷ self.new) }
     {
-        if self.at == self.numbers.len() {
-            return None;
-        }
-        let number = self.numbers.as_slice()[self.at];
+        let number = *self.numbers.as_slice().get(self.at)?;
         self.at += 1;
         Some(Pid(number))
     }
