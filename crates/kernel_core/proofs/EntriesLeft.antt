@@ -4,7 +4,7 @@ use Rattle.mote_types.specs.declared.entry.Input.{Input}
 use Rattle.mote_types.specs.declared.entry.Note.{Note}
 use Rattle.kernel_core.specs.Code.Pending.{Pending, pending_count}
 use Rattle.kernel_core.specs.Code.View.{entries_left_in}
-use Rattle.kernel_core.specs.Mote.{most_entries_left}
+use Rattle.kernel_core.specs.Code.Conditions.{most_entries_left}
 use Rattle.kernel_core.specs.Run.{work_limit}
 use Rattle.kernel_core.specs.declared.kernel_fields.KernelFields.{KernelFields}
 

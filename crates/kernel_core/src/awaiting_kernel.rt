@@ -11,8 +11,7 @@ ghost use Rattle.kernel_core.specs.Code.Steps.{GoesOn, made as made_by, stepped}
 ghost use Rattle.kernel_core.specs.Inputs.{fed};
 ghost use Rattle.kernel_core.specs.Code.Conditions.{has_bytes, ticks_of};
 ghost use Rattle.kernel_core.specs.Machine.{is_bootable, booted};
-ghost use Rattle.kernel_core.specs.Code.Conditions.{TakesEntry};
-ghost use Rattle.kernel_core.specs.Mote.{most_entries_left};
+ghost use Rattle.kernel_core.specs.Code.Conditions.{TakesEntry, most_entries_left};
 ghost use Rattle.kernel_core.specs.Run.{Choices, heard, is_at_rest};
 ghost use Rattle.timer_core.specs.Deadlines.{next_deadline};
 

@@ -1,6 +1,6 @@
 -- What is left to do until a network rests.
 use Rattle.std.specs.Prelude.{◌≡◌, ℕ, ◌+◌, ◌-◌, ◌<◌, List, Bool, true, false, length, slice_get, Option, None, Some, suc}
-use Rattle.kernel_core.specs.Mote.{most_entries_left}
+use Rattle.kernel_core.specs.Code.Conditions.{most_entries_left}
 use Rattle.mote_session.specs.SessionView.{SessionView}
 use Rattle.network_session.specs.Network.{NetworkView}
 use Rattle.network_session.specs.declared.outcome.Outcome.{Outcome}
