@@ -19,6 +19,8 @@ PAGES = [*READMES, ROOT / "interface/public-calls.md", *sorted((ROOT / "docs").g
 ORDER = (ROOT / "docs/reading-order.md").read_text(encoding="utf-8")
 # The files of docs/reading-order.md, in their order, each with its lines.
 ROWS = re.findall(r"^- `(crates/[^`]+)` \((\d+)\):", ORDER, re.M)
+# The same of part three.
+NETWORK_ROWS = re.findall(r"^- `(\w+/specs/[^`]+)` \((\d+)\):", ORDER, re.M)
 of_each_page = pytest.mark.parametrize("page", PAGES, ids=lambda page: str(page.relative_to(ROOT)))
 
 
@@ -47,12 +49,17 @@ def test_reading_order_has_each_file() -> None:
     assert not faults, "\n".join(faults)
 
 
-def test_definitions_are_reached() -> None:
-    """A file of definitions that `run` reaches has no others."""
+def not_reached(file: str) -> set[str]:
+    """The definitions of a file that `run` doesn't reach."""
     of_text, of_laws = reached()
+    return set(definitions(file)) - {name for place, name in of_text | of_laws if place == file}
+
+
+def test_definitions_are_reached() -> None:
+    """A file of definitions that `run` reaches has no others, but where part three lists it again, with the lines of these."""
     faults = []
-    for file in filter(is_definitions, all_lines()):
-        others = set(definitions(file)) - {name for place, name in of_text | of_laws if place == file}
+    for file in filter(is_definitions, all_lines().keys() - {f"crates/{file}" for file, _ in NETWORK_ROWS}):
+        others = not_reached(file)
         faults += [f"{file}: has what no clause of run reaches: {name}" for name in sorted(others)]
     assert not faults, "\n".join(faults)
 
@@ -79,10 +86,12 @@ def test_sum_of_types() -> None:
 
 
 def test_definitions_of_a_network() -> None:
-    """Part three lists each file of definitions of the network's crates, once, with its lines, and their sum."""
-    rows = re.findall(r"^- `(\w+/specs/[^`]+)` \((\d+)\):", ORDER, re.M)
-    lines = {file: sum(len(each) for each, _ in definitions(f"crates/{file}").values()) for file, _ in rows}
-    assert [(file, str(lines[file])) for file, _ in rows] == rows and len(lines) == len(rows)
+    """Part three lists each file of definitions of the network's crates, once, with the lines that `run` doesn't reach, and their sum."""
+    lines: dict[str, int] = {}
+    for file in dict(NETWORK_ROWS):
+        found = definitions(f"crates/{file}")
+        lines[file] = sum(len(found[name][0]) for name in not_reached(f"crates/{file}"))
+    assert [(file, str(lines[file])) for file, _ in NETWORK_ROWS] == NETWORK_ROWS and len(lines) == len(NETWORK_ROWS)
     assert f"{sum(lines.values())} lines more in {len(lines)} files" in " ".join(ORDER.split())
     own = {str(path.relative_to(CRATES)) for crate in ("medium_core", "network_session", "network_run")
            for path in (CRATES / crate / "specs").glob("*.antt") if path.stem not in ("Lib", "Code")}

@@ -12,6 +12,7 @@ use Rattle.mote_types.specs.declared.refusal.Refusal.{Refusal}
 use Rattle.mote_types.specs.declared.reply.Reply.{Reply}
 use Rattle.mote_text.proofs.WholeLines.{inputs_of_short}
 use Rattle.mote_text.specs.Code.EntryLines.{entry_line_limit}
+use Rattle.mote_text.specs.Script.{script_lines}
 use Rattle.mote_text.specs.Transcript.{final_line, prints_or_sends, text}
 
 small : (n : ℕ) → n ≤ 1000 → n ≤ script_limit
@@ -31,6 +32,14 @@ a_bad_line = inputs_of_short (codes "tick 5\n\nticks 1\ntick 7\n") (small 23 (li
 nothing : inputs [] ≡ ([], End.Finished)
 unfolding read_line
 nothing = grind (arith, inputs_of_short, small)
+
+-- of a script that is read as a whole, too, a newline ends a line, and the last line may have none; after the last newline is no line
+lines : (script_lines [] ≡ []) × (script_lines (codes "a\nb") ≡ codes "a" ∷ codes "b" ∷ []) × (script_lines (codes "a\nb\n") ≡ codes "a" ∷ codes "b" ∷ [])
+    × (script_lines (codes "\n") ≡ [] ∷ []) × (script_lines (codes "a\n\nb\n\n") ≡ codes "a" ∷ [] ∷ codes "b" ∷ [] ∷ [])
+lines = (refl, refl, refl, refl, refl)
+
+no_such_lines : (script_lines (codes "\n") ≡ [] → ⊥) × (script_lines (codes "a\n") ≡ codes "a" ∷ [] ∷ [] → ⊥) × (script_lines (codes "a\n\nb") ≡ codes "a" ∷ codes "b" ∷ [] → ⊥)
+no_such_lines = (λ e. absurd (cc), λ e. absurd (cc), λ e. absurd (cc))
 
 -- the last line has not ended
 one_whole_line : whole_lines (codes "tick 5\ntick") ≡ codes "tick 5" ∷ []

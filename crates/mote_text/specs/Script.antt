@@ -78,6 +78,10 @@ is_line is_end rest = nat_lt line_limit (length rest) || is_end && nat_lt 0 (len
 abbrev pub lines_of : Bytes → List Bytes
 lines_of bytes = with_last_if (is_line (not (is_too_long bytes))) (parts (take script_limit bytes))
 
+-- the lines of a script that is read as a whole, which has no limit here; the last one may have no line end
+abbrev pub script_lines : Bytes → List Bytes
+script_lines bytes = with_last_if (λ last. nat_lt 0 (length last)) (parts bytes)
+
 -- the inputs and the end from line n on, by what line n says and what the lines after it give
 abbrev pub with_line : ℕ → Option (Option Input) → List Input × End → List Input × End
 with_line n None later = ([], End.BadLine n)

@@ -3,8 +3,7 @@
 ghost use Rattle.std.specs.Prelude.{◌≡◌, ◌≢◌, ◌<◌, ◌≤◌, ◌+◌, ◌↔◌, ◌++◌, [], ◌∷◌, true, length, take, None, IfNone, IfSome, IsTrue};
 ghost use Rattle.mote_text.specs.Code.LineAnswers.{IsTickLine};
 ghost use Rattle.mote_text.specs.Code.Lines.{nothing_taken, unfinished, unfinished_after, with_end, has_no_end, GoesOnAt};
-ghost use Rattle.mote_text.specs.Script.{line_limit};
-ghost use Rattle.mote_text.specs.ScriptLines.{script_lines};
+ghost use Rattle.mote_text.specs.Script.{line_limit, script_lines};
 ghost use Rattle.mote_text.specs.declared.script_lines.Taken.{Taken as Stopped};
 
 use crate::script::{LINE_LIMIT, put_tick, short_number};
