@@ -19,7 +19,7 @@ use Rattle.network_session.specs.Happenings.{Happening}
 use Rattle.network_run.specs.Voices.{MakeTheCalls}
 use Rattle.network_session.specs.declared.outcome.Outcome.{Outcome}
 use Rattle.network_run.specs.NetworkRunText.{AwaitsNone, CanEnd, HasRun, IsAtStart, IsTooMuch, NetworkRan, ending_text}
-use Rattle.mote_text.specs.ScriptLines.{script_lines}
+use Rattle.mote_text.specs.Script.{script_lines}
 use Rattle.network_run.specs.declared.fault.RunFault.{RunFault}
 use Rattle.network_steps.specs.NetworkRuns.{IsResting}
 use Rattle.network_run.specs.Outside.{AreInTurn, Outside, next_refusal}

@@ -5,7 +5,7 @@ use Rattle.std.proofs.lemmas.List.{length-set}
 use Rattle.std.proofs.lemmas.List.Elements.{filter_map-append}
 use Rattle.mote_session.specs.SessionView.{SessionView}
 use Rattle.mote_text.specs.Script.{line_limit}
-use Rattle.mote_text.specs.ScriptLines.{script_lines}
+use Rattle.mote_text.specs.Script.{script_lines}
 use Rattle.mote_text.specs.declared.script.End.{End}
 use Rattle.mote_types.specs.declared.entry.Input.{Input}
 use Rattle.network_session.specs.Network.{NetworkView}

@@ -3,7 +3,7 @@
 ghost use Rattle.std.specs.Prelude.{◌≡◌, ◌<◌, ◌+◌, ◌-◌, ◌^◌, ◌↔◌, [], ℕ, Bool, List, None, false, length, if◌then◌else◌, IfOk, IsErrOf};
 ghost use Rattle.network_run.specs.Code.Way.{CountsFaults, Ends, HasCome, LineRuns, Moment, Reading, RunFaulted, RunsIf, is_write, moment};
 ghost use Rattle.network_run.specs.NetworkRunText.{Gives, HasRun};
-ghost use Rattle.mote_text.specs.ScriptLines.{script_lines};
+ghost use Rattle.mote_text.specs.Script.{script_lines};
 ghost use Rattle.mote_session.specs.Voices.{Voices};
 ghost use Rattle.network_session.specs.Network.{NetworkView};
 ghost use Rattle.network_steps.specs.NetworkRuns.{IsResting};

@@ -2,7 +2,7 @@
 use Rattle.std.proofs.Common.{◌≡◌, ◌≤◌, ◌∙◌, ℕ, Bool, List, [], append-nil, length, refl, sym, Option, Result, Err}
 use Rattle.mote_text.specs.Script.{script_limit}
 use Rattle.mote_text.specs.declared.script.End.{End}
-use Rattle.mote_text.specs.ScriptLines.{script_lines}
+use Rattle.mote_text.specs.Script.{script_lines}
 use Rattle.network_run.specs.NetworkRunText.{Gives}
 use Rattle.network_setup.specs.FirstLines.{IsBadLine}
 use Rattle.network_setup.specs.ScriptRuns.{EndsAtOnce, HasRunScript, bad_line, no_memory}

@@ -2,7 +2,7 @@
 use Rattle.std.specs.Prelude.{◌≡◌, ◌≤◌, ◌<◌, ◌+◌, ℕ, Bool, true, false, ◌&&◌, List, [], ◌++◌, length, nat_le, Option, Some, None, Result, Ok, Err}
 use Rattle.mote_text.specs.Script.{script_limit}
 use Rattle.mote_text.specs.declared.script.End.{End}
-use Rattle.mote_text.specs.ScriptLines.{script_lines}
+use Rattle.mote_text.specs.Script.{script_lines}
 use Rattle.network_run.specs.declared.fault.RunFault.{RunFault}
 use Rattle.network_setup.specs.FirstLines.{AreCarriedOut, IsBadLine}
 use Rattle.network_setup.specs.MoteApps.{voices_of}

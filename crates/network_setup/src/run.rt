@@ -2,7 +2,7 @@
 
 ghost use Rattle.std.specs.Prelude.{◌≡◌, ◌≤◌, ◌<◌, ◌+◌, ◌-◌, ◌^◌, ◌↔◌, codes, false, length, IfErr, IfOk, IsErrOf};
 ghost use Rattle.mote_text.specs.Script.{argument_of};
-ghost use Rattle.mote_text.specs.ScriptLines.{script_lines};
+ghost use Rattle.mote_text.specs.Script.{script_lines};
 ghost use Rattle.network_run.specs.NetworkRunText.{Gives};
 ghost use Rattle.network_run.specs.declared.fault.RunFault.{RunFault};
 ghost use Rattle.network_setup.specs.FirstLines.{AreCarriedOut, DoesLine, IsBadLine, SaysNothing, is_blank};

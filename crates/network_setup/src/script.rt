@@ -1,7 +1,7 @@
 //! The lines of a script, with their numbers.
 
 ghost use Rattle.std.specs.Prelude.{◌≡◌, ◌<◌, ◌≤◌, ◌+◌, ◌^◌, [], length, IfNone, IfSome, MatchOption};
-ghost use Rattle.mote_text.specs.ScriptLines.{script_lines};
+ghost use Rattle.mote_text.specs.Script.{script_lines};
 ghost use Rattle.network_setup.specs.Code.Words.{IsNextLine};
 ghost use Rattle.network_setup.specs.FirstLines.{IsText};
 

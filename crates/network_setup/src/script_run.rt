@@ -1,7 +1,7 @@
 //! The run of a whole script.
 
 ghost use Rattle.std.specs.Prelude.{◌≡◌, ◌<◌, ◌+◌, ◌-◌, ◌^◌, ◌↔◌, [], length, Err, IsErrOf};
-ghost use Rattle.mote_text.specs.ScriptLines.{script_lines};
+ghost use Rattle.mote_text.specs.Script.{script_lines};
 ghost use Rattle.network_run.specs.NetworkRunText.{Gives};
 ghost use Rattle.network_setup.specs.MoteApps.{voices_of};
 ghost use Rattle.network_setup.specs.ScriptRuns.{EndsAtOnce, HasRunScript, is_there};

@@ -1,5 +1,5 @@
 use Rattle.network_run.specs.Code.Way.{moment}
-use Rattle.mote_text.specs.ScriptLines.{script_lines}
+use Rattle.mote_text.specs.Script.{script_lines}
 use Rattle.network_run.proofs.Closing.{fault_at_start, spent_at_start, started}
 use Rattle.network_run.proofs.Ways.{fault_on}
 use Rattle.network_run.proofs.run.carry_out.Goals as goal

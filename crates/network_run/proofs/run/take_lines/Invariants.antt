@@ -1,6 +1,6 @@
 use Rattle.std.proofs.Common.{◌≡◌, ◌+◌, ◌<◌, ◌^◌, length}
 use Rattle.network_run.specs.Code.Way.{HasCome, moment}
-use Rattle.mote_text.specs.ScriptLines.{script_lines}
+use Rattle.mote_text.specs.Script.{script_lines}
 use Rattle.network_steps.specs.NetworkRuns.{IsResting}
 use Rattle.network_steps.specs.NetworkScript.{read_network_lines}
 use Rattle.network_run.proofs.run.take_lines.Given as goal

@@ -1,5 +1,5 @@
 use Rattle.std.proofs.Common.{◌+◌, ◌≤◌, ◌^◌, length}
-use Rattle.mote_text.specs.ScriptLines.{script_lines}
+use Rattle.mote_text.specs.Script.{script_lines}
 use Rattle.network_setup.proofs.SettingUp.{IsOnTheWay}
 use Rattle.network_setup.proofs.run.read_setup.Given as goal
 

@@ -1,7 +1,7 @@
 use Rattle.std.proofs.Common.{◌≡◌, ◌≤◌, ◌<◌, [], append-nil, arith, false, length, refl, rules, sym, true}
 use Rattle.std.proofs.lemmas.Bool.Decides.{nat_tests}
 use Rattle.mote_text.specs.Script.{script_limit}
-use Rattle.mote_text.specs.ScriptLines.{script_lines}
+use Rattle.mote_text.specs.Script.{script_lines}
 use Rattle.network_setup.specs.ScriptRuns.{is_there, no_mote, runs, too_long}
 use Rattle.network_setup.proofs.Ending.{ended_in_setup}
 use Rattle.network_setup.proofs.script_run.run_script.Goals as goal
