@@ -1,5 +1,5 @@
 -- A mote that got the time has it until the network rests.
-use Rattle.std.proofs.Common.{◌≡◌, ℕ, ◌+◌, ◌<◌, ◌≤◌, ◌==◌, ◌||◌, List, [], ◌∷◌, length, set, slice_get, refl, ap, sym, subst, ◌∙◌, arith, Bool, true, false, Option, Some, None, nat_lt, if◌then◌else◌, Result, Ok, Err, IfOk}
+use Rattle.std.proofs.Common.{◌≡◌, ℕ, ◌+◌, ◌<◌, ◌≤◌, ◌==◌, ◌||◌, List, [], ◌∷◌, ◌++◌, map, length, set, slice_get, refl, ap, sym, subst, ◌∙◌, arith, Bool, true, false, Option, Some, None, nat_lt, if◌then◌else◌, inl, inr}
 use Rattle.std.proofs.lemmas.Bool.Decides.{nat_tests}
 use Rattle.network_session.specs.Alarms.{first_come}
 use Rattle.kernel_core.specs.Machine.{Machine}
@@ -10,19 +10,23 @@ use Rattle.mote_session.specs.declared.session.Next.{Next}
 use Rattle.mote_types.specs.declared.entry.Input.{Input}
 use Rattle.network_session.specs.Network.{NetworkView, wakes_of}
 use Rattle.network_session.specs.Schedule.{arriving, due_now, due_step, hearing, is_rest, waking}
-use Rattle.network_session.specs.Steps.{IsToldTime, Worked}
+use Rattle.network_session.specs.Steps.{IsToldTime, Steps, Worked}
 use Rattle.network_session.specs.Waking.{due_ticks}
 use Rattle.network_session.specs.declared.outcome.Outcome.{Outcome}
 use Rattle.network_session.proofs.Due.{due_is}
 use Rattle.network_session.proofs.Timely.{fed_clock, landed_clock, none_at_work}
-use Rattle.network_run.specs.Code.Ready.{IsCaught, IsOnTime, IsReady}
-use Rattle.network_run.specs.Code.Way.{Goes, Moment}
-use Rattle.network_run.specs.Outside.{all_outside}
-use Rattle.network_run.specs.declared.fault.RunFault.{RunFault}
-use Rattle.network_run.proofs.Ready.{aired_clock, each_with, move_ready}
+use Rattle.network_run.specs.Code.Ready.{IsCaught, IsCaughtAtRest, IsFit, IsFitIf, IsOnTime, IsReady}
+use Rattle.network_run.specs.Outside.{Outside, all_outside}
+use Rattle.network_run.proofs.Ready.{aired_clock, each_with}
+use Rattle.network_run.proofs.Lengths.{leads_length}
+use Rattle.network_run.proofs.OutsideMoves.{outside_is}
+use Rattle.network_steps.proofs.Going.{none_more}
 use Rattle.network_steps.specs.Works.{is_behind}
 use Rattle.network_steps.proofs.GivenInputs.{not_given}
-use Rattle.network_steps.specs.NetworkRuns.{DoesStep, Leads, Move, TellsTime}
+use Rattle.network_steps.specs.NetworkRuns.{DoesStep, IsResting, Leads, Move, TellsTime, inputs_of, times_of}
+use Rattle.network_steps.specs.Works.{inputs_waiting}
+use Rattle.network_steps.specs.declared.came.Waiting.{Waiting}
+use Rattle.network_steps.specs.declared.input.NetworkInput.{NetworkInput}
 
 -- ---- time is up at rest, and doesn't go on
 
@@ -156,26 +160,70 @@ leads_caught m (Move.Hand k input mid ∷ moves) old new caught own leads = absu
 leads_caught m (Move.Miss k input mid ∷ moves) old new caught own leads = absurd (cc)
 
 -- a mote that just got the time
-pub told_caught : (m : ℕ) (old new : NetworkView) → IsReady old → TellsTime m old new → IsCaught m new
-told_caught m old new ready tells =
+pub told_caught : (m : ℕ) (old new : NetworkView) → IsReady new → TellsTime m old new → IsCaught m new
+told_caught m old new after tells =
     let result = tells.told.result in
     let clock : new.air.clock ≡ old.air.clock = ap (λ (v : NetworkView). v.air.clock) result in
     let target : new.target ≡ old.target = ap (λ (v : NetworkView). v.target) result in
     let active : new.active ≡ Some m = ap (λ (v : NetworkView). v.active) result in
     let before = rest_time old tells.rested.due in
-    let after = move_ready (Move.Tell m new) old ready tells in
     record { up = omega (arith, clock, target, before); on_time = λ mote there. (after.time m mote there).at_work active }
 
--- ---- and then it isn't behind
+-- one that isn't behind
+pub untold_on_time : (m : ℕ) (net : NetworkView) (one : SessionView) → slice_get net.motes m ≡ Some one → is_behind net one ≡ false → IsOnTime m net
+untold_on_time m net one here is mote there up =
+    not_given m net false mote (λ other other_there. let same : one ≡ other = let x = here in let y = other_there in cc in sym (subst (λ (s : SessionView). is_behind net s ≡ false) same is)) refl there up
+
+-- ---- what waits is for a mote that has got the time
+
+-- a network at rest stays as it is
+rest_leads : (moves : List Move) (old new : NetworkView) → IsResting old → all_outside moves ≡ [] → Leads old moves new → new ≡ old
+rest_leads [] old new rests own leads = sym leads
+rest_leads (Move.Step x mid ∷ moves) old new rests own leads =
+    let x_rest : x ≡ Outcome.Rest = leads.0.due rests.idle ∙ rests.due in
+    let same : mid ≡ old = subst (λ (y : Outcome). Steps y old mid) x_rest leads.0.steps in
+    rest_leads moves mid new (rw same rests) own leads.1 ∙ same
+rest_leads (Move.Submit call mid ∷ moves) old new rests own leads =
+    let e = leads.0.was_active in let f = rests.idle in absurd (let g : None ≡ Some leads.0.m = sym f ∙ e in cc)
+rest_leads (Move.Tick ticks mid ∷ moves) old new rests own leads = absurd (cc)
+rest_leads (Move.Tell m mid ∷ moves) old new rests own leads = absurd (cc)
+rest_leads (Move.Hand m input mid ∷ moves) old new rests own leads = absurd (cc)
+rest_leads (Move.Miss m input mid ∷ moves) old new rests own leads = absurd (cc)
 
 caught_on_time : (m : ℕ) (net : NetworkView) → IsCaught m net → IsOnTime m net
 caught_on_time m net caught mote there up = let same = caught.on_time mote there in grind (arith, nat_tests)
 
-pub caught_after : (result : Result Bool RunFault) (quiet : Bool) (m : ℕ) (from to : Moment) → IsCaught m from.net → Goes result quiet [] from to →
-    IfOk result (λ rests. rests ≡ true → IsOnTime m to.net)
-caught_after (Ok rests) quiet m from to caught went = λ yes. caught_on_time m to.net (leads_caught m went.moves from.net to.net caught went.carried went.leads)
-caught_after (Err fault) quiet m from to caught faulted = tt
+pub on_time_by : (m : ℕ) (net : NetworkView) → IsCaughtAtRest m net → IsOnTime m net
+on_time_by m net (inl caught) = caught_on_time m net caught
+on_time_by m net (inr rest) = rest.1
 
-pub kept_on_time : (m : ℕ) (old new : NetworkView) (given : Bool) → new ≡ old → given ≡ false →
-    ((one : SessionView) → slice_get old.motes m ≡ Some one → given ≡ is_behind old one) → IsOnTime m new
-kept_on_time m old new given same kept behind = rw same (λ mote there up. not_given m old given mote behind kept there up)
+caught_still : (m : ℕ) (moves : List Move) (old new : NetworkView) → all_outside moves ≡ [] → Leads old moves new → IsCaughtAtRest m old → IsCaughtAtRest m new
+caught_still m moves old new own leads (inl caught) = inl (leads_caught m moves old new caught own leads)
+caught_still m moves old new own leads (inr rest) = inr (rw (rest_leads moves old new rest.0 own leads) rest)
+
+fit_still : (w : Waiting) (moves : List Move) (old new : NetworkView) → all_outside moves ≡ [] → Leads old moves new → IsFit w old → IsFit w new
+fit_still w moves old new own leads fit = record {
+  there = rw (leads_length moves old new leads) fit.there;
+  outside = fit.outside;
+  caught = caught_still w.mote moves old new own leads fit.caught;
+}
+
+-- what waits still is what waited
+fit_by : (inputs : List NetworkInput) (moves : List Move) (waiting left : Option Waiting) (old new : NetworkView) → inputs_of moves ≡ inputs →
+    inputs ++ inputs_waiting left ≡ inputs_waiting waiting → times_of moves ≡ [] → Leads old moves new → IsFitIf waiting old → IsFitIf left new
+fit_by inputs moves waiting None old new is e untold leads fit = tt
+fit_by [] moves None (Some w) old new is e untold leads fit = absurd (cc)
+fit_by [] moves (Some one) (Some w) old new is e untold leads fit =
+    let number : w.mote + 1 ≡ one.mote + 1 = cc in
+    let mote : one.mote ≡ w.mote = omega (arith, number) in
+    let input : one.input ≡ w.input = cc in
+    let own : all_outside moves ≡ [] = outside_is moves untold ∙ ap (map Outside.Given) is in
+    let fits : IsFit one new = fit_still one moves old new own leads fit in
+    record { there = rw (← mote) fits.there; outside = rw (← input) fits.outside; caught = rw (← mote) fits.caught }
+fit_by (first ∷ inputs) moves None (Some w) old new is e untold leads fit = absurd (cc)
+fit_by (first ∷ inputs) moves (Some one) (Some w) old new is e untold leads fit =
+    let none : inputs ++ NetworkInput.ForMote (w.mote + 1) w.input ∷ [] ≡ [] = cc in absurd (none_more inputs _ none)
+
+pub fit_on : (moves : List Move) (waiting left : Option Waiting) (old new : NetworkView) → inputs_of moves ++ inputs_waiting left ≡ inputs_waiting waiting →
+    times_of moves ≡ [] → Leads old moves new → IsFitIf waiting old → IsFitIf left new
+fit_on moves waiting left old new e untold leads fit = fit_by (inputs_of moves) moves waiting left old new refl e untold leads fit

@@ -14,7 +14,8 @@ use Rattle.network_run.specs.NetworkRunText.{CanStop, Gives, HasRun, IsSpent, Ne
 use Rattle.mote_session.specs.Voices.{Voices}
 use Rattle.network_run.specs.declared.fault.RunFault.{RunFault}
 use Rattle.network_run.proofs.Ready.{leads_awaits, start_ready}
-use Rattle.network_run.proofs.Scripts.{all_given, given_all, given_in_turn, leads_length}
+use Rattle.network_run.proofs.Lengths.{leads_length}
+use Rattle.network_run.proofs.Scripts.{all_given, given_all, given_in_turn}
 use Rattle.network_run.proofs.Speaking.{make_the_calls}
 use Rattle.network_run.specs.Outside.{AreInTurn, Outside, all_outside, given_of, givens}
 use Rattle.network_run.proofs.Ways.{faulted_after, faulted_before, stopped_after}

@@ -1,6 +1,6 @@
 -- Worked examples: the lines of a script, and how a run can end.
 use Rattle.std.specs.Fmt.{digits}
-use Rattle.std.proofs.Common.{◌≡◌, ◌^◌, [], ◌∷◌, ◌∙◌, ℕ, Bool, List, true, false, codes, inl, inr, refl, sym, Err, None, Ok, Option, Result, Some, slice_get}
+use Rattle.std.proofs.Common.{◌≡◌, ◌^◌, [], ◌∷◌, ◌∙◌, ℕ, Bool, List, codes, inl, inr, refl, sym, Err, None, Ok, Option, Result, Some, slice_get}
 use Rattle.mote_text.specs.declared.script.End.{End}
 use Rattle.mote_text.specs.EntryText.{line_of}
 use Rattle.mote_text.specs.Script.{read_line}

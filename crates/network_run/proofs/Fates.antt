@@ -1,13 +1,12 @@
 -- The lines of what came, and of links that didn't carry a frame, one after the other.
-use Rattle.std.proofs.Common.{◌≡◌, ℕ, Bool, true, false, not, List, [], ◌++◌, append_assoc, append-nil, ap, refl, sym, ◌∙◌}
+use Rattle.std.proofs.Common.{◌≡◌, ℕ, Bool, true, false, is_some, Option, None, Some, List, [], ◌++◌, append_assoc, append-nil, ap, refl, sym, ◌∙◌}
 use Rattle.network_session.specs.Network.{NetworkView}
-use Rattle.network_session.specs.Time.{is_work}
-use Rattle.network_session.specs.declared.outcome.Outcome.{Outcome}
-use Rattle.network_steps.specs.Lines.{came_line, is_loss, loss_line}
-use Rattle.network_steps.specs.Works.{came_lines, came_of}
+use Rattle.network_steps.specs.Lines.{came_line, is_loss, loss_line, losses_left, shown_losses}
+use Rattle.network_steps.specs.StepsView.{StepsView}
+use Rattle.network_steps.specs.declared.came.Phase.{Phase}
+use Rattle.network_steps.specs.declared.came.Sending.{Sending}
 use Rattle.network_steps.specs.declared.came.Came.{Came}
 use Rattle.network_steps.proofs.Reports.{loss_is_line}
-use Rattle.network_steps.specs.NetworkText.{if_shown}
 use Rattle.mote_text.specs.Code.Writing.{WritesOn}
 use Rattle.mote_text.proofs.Writing.{lost_then, then_written, written_as}
 
@@ -34,17 +33,26 @@ pub all_put : {g₀ d₀ g₁ d₁ all done left : List ℕ} → all ≡ done ++
 all_put {done = done} so_far none writes =
     written_as (sym (so_far ∙ (ap (λ (text : List ℕ). done ++ text) none ∙ append-nil done))) writes
 
--- a step that was due has no lines but one of the network's own
-pub due_lines : (quiet : Bool) (x : Outcome) (net : NetworkView) → is_work x ≡ false → (came_of x ≡ Came.Rest → ⊥) → (came_of x ≡ Came.Halt → ⊥) →
-    if_shown (not quiet) (came_line (came_of x) net) ≡ came_lines quiet (came_of x) net
-due_lines quiet (Outcome.Missed from to) net idle rest halt = sym (append-nil _)
-due_lines quiet Outcome.Passed net idle rest halt = sym (append-nil _)
-due_lines quiet (Outcome.Turn m) net idle rest halt = absurd (cc)
-due_lines quiet (Outcome.Made m) net idle rest halt = absurd (cc)
-due_lines quiet (Outcome.Started m) net idle rest halt = absurd (rest refl)
-due_lines quiet (Outcome.Rested m) net idle rest halt = absurd (rest refl)
-due_lines quiet (Outcome.Stopped m) net idle rest halt = absurd (rest refl)
-due_lines quiet (Outcome.Woken m) net idle rest halt = absurd (rest refl)
-due_lines quiet (Outcome.Heard m) net idle rest halt = absurd (rest refl)
-due_lines quiet Outcome.Rest net idle rest halt = absurd (rest refl)
-due_lines quiet Outcome.Exhausted net idle rest halt = absurd (halt refl)
+-- all of them, where the transcript isn't quiet
+pub shown_all : (o : Option Sending) (net : NetworkView) → losses_left o net ≡ shown_losses false o net
+shown_all None net = refl
+shown_all (Some sending) net = refl
+
+-- nothing was sent
+pub none_by : (quiet : Bool) (o : Option Sending) (net : NetworkView) → is_some o ≡ false → shown_losses quiet o net ≡ []
+none_by quiet None net e = refl
+none_by quiet (Some sending) net e = absurd (cc)
+
+module _ (came : Came) (old new : StepsView) (is : new ≡ record old { last = came; sending = new.sending; phase = Phase.Working }) (loss : is_loss came ≡ true)
+    (next : losses_left old.sending old.net ≡ loss_line came ++ losses_left new.sending old.net) (net : NetworkView) where
+  same_net : new.net ≡ old.net
+  same_net = ap (λ (s : StepsView). s.net) is
+
+  -- one more loss is reported
+  pub loss_put : {g₀ d₀ g₁ d₁ g₂ d₂ all done : List ℕ} → all ≡ done ++ losses_left old.sending old.net → WritesOn g₀ d₀ g₁ d₁ done →
+      WritesOn g₁ d₁ g₂ d₂ (came_line came net) → (more : List ℕ) × (all ≡ more ++ losses_left new.sending new.net) × WritesOn g₀ d₀ g₂ d₂ more
+  loss_put so_far first second = rw same_net (one_put came net (losses_left new.sending old.net) so_far loss next first second)
+
+  pub loss_lost : {g₀ d₀ g₁ d₁ g₂ lost all done : List ℕ} → all ≡ done ++ losses_left old.sending old.net → WritesOn g₀ d₀ g₁ d₁ done →
+      WritesOn g₁ d₁ g₂ lost (came_line came net) → WritesOn g₀ d₀ g₂ (lost ++ losses_left new.sending old.net) all
+  loss_lost so_far first second = one_lost came net (losses_left new.sending old.net) so_far loss next first second

@@ -1,12 +1,16 @@
 mod Examples
-pub mod Fates
-pub mod Doing
 pub mod Speaking
+pub mod Fates
+pub mod OwnLines
 pub mod Ready
 pub mod Refused
+pub mod Lengths
+pub mod OutsideMoves
 pub mod Caught
 pub mod Inputs
 pub mod Ways
 mod Refusals
 pub mod Scripts
+pub mod Submitting
+pub mod Running
 pub mod Closing

@@ -1,5 +1,5 @@
 -- What a network keeps true with each move.
-use Rattle.std.proofs.Common.{◌≡◌, ◌≢◌, ℕ, ◌+◌, ◌<◌, ◌≤◌, ◌==◌, List, [], ◌∷◌, ◌++◌, length, set, slice_get, refl, ap, sym, subst, ◌∙◌, arith, Bool, true, false, Option, Some, None, nat_lt, if◌then◌else◌}
+use Rattle.std.proofs.Common.{◌≡◌, ◌≢◌, ℕ, ◌+◌, ◌<◌, ◌≤◌, ◌==◌, List, [], ◌∷◌, length, set, slice_get, refl, ap, sym, subst, ◌∙◌, arith, Bool, true, false, Option, Some, None, nat_lt, if◌then◌else◌}
 use Rattle.std.proofs.lemmas.Bool.Decides.{nat_tests}
 use Rattle.network_session.specs.Alarms.{earliest_by, earliest_in, first_alarm, first_come}
 use Rattle.network_session.specs.declared.alarm.Alarm.{Alarm}
@@ -22,7 +22,8 @@ use Rattle.network_session.specs.declared.outcome.Outcome.{Outcome}
 use Rattle.network_session.proofs.Logging.{get_other}
 use Rattle.network_session.proofs.Timely.{fed_clock, landed_clock, none_at_work, not_waking, rests_up, timely_feed, timely_handed, timely_step, timely_submit, until_low, wake_beyond, wake_within}
 use Rattle.network_session.proofs.Working.{there_after}
-use Rattle.network_run.specs.Code.Ready.{AwaitsAtWork, IsReady, IsWithin, OthersAreStill, StaysWithin, ends_open, is_turn, is_turn_step}
+use Rattle.network_run.specs.Code.Ready.{AwaitsAtWork, IsReady, IsWithin, OthersAreStill, StaysWithin}
+use Rattle.network_steps.specs.Code.Turns.{ends_open, is_turn, is_turn_step}
 use Rattle.network_run.specs.NetworkRunText.{AwaitsNone, IsAtStart}
 use Rattle.network_steps.specs.NetworkRuns.{DoesStep, IsMove, Leads, Move, after_move}
 
@@ -398,13 +399,6 @@ after_last move (next ∷ moves) old new awaits leads closed =
 pub leads_awaits : (moves : List Move) (old new : NetworkView) → AwaitsNone old → Leads old moves new → ends_open moves ≡ false → AwaitsNone new
 leads_awaits [] old new none leads closed = subst AwaitsNone leads none
 leads_awaits (move ∷ moves) old new none leads closed = after_last move moves old new (λ m mote there apart. none m mote there) leads closed
-
--- moves that end with no turn, one after the other
-pub ends_closed : (first second : List Move) → ends_open first ≡ false → ends_open second ≡ false → ends_open (first ++ second) ≡ false
-ends_closed [] second one two = two
-ends_closed (move ∷ []) [] one two = one
-ends_closed (move ∷ []) (next ∷ second) one two = two
-ends_closed (move ∷ next ∷ first) second one two = ends_closed (next ∷ first) second one two
 
 -- a network whose motes have just booted
 pub start_ready : (net : NetworkView) → IsAtStart net → IsReady net

@@ -129,7 +129,7 @@ within [] m x h = absurd (cc)
 within (z ∷ xs) zero x h = omega arith
 within (z ∷ xs) (suc m) x h = let less = within xs m x h in omega (arith, less)
 
-some_within : {X : Type 0} (xs : List X) (m : ℕ) → m < length xs → slice_get xs m ≡ None → ⊥
+pub some_within : {X : Type 0} (xs : List X) (m : ℕ) → m < length xs → slice_get xs m ≡ None → ⊥
 some_within [] m less none = absurd (omega (arith, less))
 some_within (x ∷ xs) zero less none = absurd (cc)
 some_within (x ∷ xs) (suc m) less none = some_within xs m (omega (arith, less)) none

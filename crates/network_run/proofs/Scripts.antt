@@ -1,57 +1,20 @@
 -- A script's lines, one after the other.
-use Rattle.std.proofs.Common.{map, ◌≡◌, ◌+◌, ◌-◌, ◌<◌, ◌==◌, ℕ, zero, suc, Bool, true, false, List, [], ◌∷◌, ◌++◌, length, take, drop, set, refl, ap, sym, subst, ◌∙◌, add-one, if◌then◌else◌, append_assoc, append-nil, arith, Result, Option, None, Some, ◌||◌, nat_lt, slice_index, inl, inr}
+use Rattle.std.proofs.Common.{map, ◌≡◌, ◌+◌, ◌-◌, ◌<◌, ◌==◌, ℕ, Bool, true, false, List, [], ◌∷◌, ◌++◌, length, refl, ap, sym, subst, ◌∙◌, if◌then◌else◌, append_assoc, append-nil, arith, Option, None, Some, ◌||◌, nat_lt, slice_index, inl, inr}
 use Rattle.std.proofs.lemmas.Bool.Decides.{nat_tests}
-use Rattle.std.proofs.lemmas.List.{length-set}
 use Rattle.std.proofs.lemmas.List.Elements.{filter_map-append}
-use Rattle.mote_session.specs.SessionView.{SessionView}
 use Rattle.mote_text.specs.Script.{line_limit}
 use Rattle.mote_text.specs.Script.{script_lines}
 use Rattle.mote_text.specs.declared.script.End.{End}
 use Rattle.mote_types.specs.declared.entry.Input.{Input}
-use Rattle.network_session.specs.Network.{NetworkView}
-use Rattle.network_session.specs.Steps.{Steps}
-use Rattle.network_session.specs.declared.outcome.Outcome.{Outcome}
-use Rattle.network_run.specs.Code.Way.{ComesWith, Ends, Faulted, HasCome, IsTimeFor, IsWithTime, Moment, RunFaulted, Takes, TakesIf, TakesInputIf, Went}
+use Rattle.network_run.specs.Code.Way.{ComesWith, Ends, Faulted, HasCome, IsWithTime, Moment, RunFaulted, Takes, Went}
 use Rattle.network_run.specs.NetworkRunText.{CanEnd, IsSpent}
 use Rattle.network_run.specs.declared.fault.RunFault.{RunFault}
-use Rattle.network_run.specs.Outside.{AreInTurn, IsFor, Outside, given_of, givens}
+use Rattle.network_run.specs.Outside.{AreInTurn, Outside, given_of, givens}
+use Rattle.network_run.proofs.Lengths.{leads_length}
 use Rattle.network_run.proofs.Ways.{all_carried, faulted_after, faulted_before, stopped_after, stopped_before, went_nowhere, went_on}
-use Rattle.network_steps.specs.NetworkRuns.{IsMove, IsResting, Leads, Move, after_move}
+use Rattle.network_steps.specs.NetworkRuns.{IsResting}
 use Rattle.network_steps.specs.NetworkScript.{if_for_some, is_for_some, read_network_input, read_network_line, read_network_lines, with_network_line}
 use Rattle.network_steps.specs.declared.input.NetworkInput.{NetworkInput}
-
--- ---- a network keeps its motes
-
-same_length : (old : List SessionView) (m : ℕ) (after : SessionView) (new : List SessionView) → new ≡ set old m after → length new ≡ length old
-same_length old m after new e = ap length e ∙ length-set old m after
-
-abbrev motes_of : NetworkView → ℕ
-motes_of net = length net.motes
-
-step_length : (x : Outcome) (old new : NetworkView) → Steps x old new → length new.motes ≡ length old.motes
-step_length (Outcome.Started m) old new s = ap motes_of s
-step_length (Outcome.Turn m) old new s = same_length old.motes m s.worked.after new.motes s.worked.others
-step_length (Outcome.Made m) old new s = same_length old.motes m s.worked.after new.motes s.worked.others
-step_length (Outcome.Rested m) old new s = same_length old.motes m s.worked.after new.motes s.worked.others
-step_length (Outcome.Stopped m) old new s = same_length old.motes m s.worked.after new.motes s.worked.others
-step_length (Outcome.Woken m) old new s = same_length old.motes m s.told.after new.motes s.told.others
-step_length (Outcome.Heard m) old new s = same_length old.motes m s.handed.after new.motes s.handed.others
-step_length (Outcome.Missed from to) old new s = ap motes_of s
-step_length Outcome.Passed old new s = ap motes_of s
-step_length Outcome.Rest old new s = ap motes_of s
-step_length Outcome.Exhausted old new s = ap motes_of s
-
-move_length : (move : Move) (old : NetworkView) → IsMove old move → length (after_move move).motes ≡ length old.motes
-move_length (Move.Step outcome new) old is = step_length outcome old new is.steps
-move_length (Move.Submit call new) old is = same_length old.motes is.m is.submitted.after new.motes is.submitted.others
-move_length (Move.Tick ticks new) old is = ap motes_of is.result
-move_length (Move.Tell m new) old is = same_length old.motes m is.told.told.after new.motes is.told.told.others
-move_length (Move.Hand m input new) old is = same_length old.motes m is.fed.handed.after new.motes is.fed.handed.others
-move_length (Move.Miss m input new) old is = ap motes_of is.result
-
-pub leads_length : (moves : List Move) (old new : NetworkView) → Leads old moves new → length new.motes ≡ length old.motes
-leads_length [] old new leads = sym (ap motes_of leads)
-leads_length (move ∷ moves) old new leads = leads_length moves (after_move move) new leads.1 ∙ move_length move old leads.0
 
 abbrev Script : Type 0
 Script = List NetworkInput × End
@@ -110,23 +73,15 @@ given_with_time input outside is =
       | inr told ↦ rw (is.1, told.1) refl
     ]
 
-with_time : (m number : ℕ) (said : NetworkInput) (input : Input) (times : List Outside) → IsTimeFor m times → number ≡ m + 1 →
-    said ≡ NetworkInput.ForMote number input → IsWithTime said (times ++ Outside.Given said ∷ [])
-with_time m number said input times (inl none) e is = (times, refl, inl none)
-with_time m number said input times (inr told) e is =
-    (times, refl, inr (m, told, subst (λ (i : NetworkInput). IsFor m i) (sym is) e))
-
-no_time : (input : NetworkInput) → IsWithTime input (Outside.Given input ∷ [])
+pub no_time : (input : NetworkInput) → IsWithTime input (Outside.Given input ∷ [])
 no_time input = ([], refl, inl refl)
 
--- a tick needs no time before it
-pub tick_taken : (quiet : Bool) (result : Result Bool RunFault) (said : NetworkInput) (ticks : ℕ) (from to : Moment) → said ≡ NetworkInput.Tick ticks →
-    TakesIf result quiet (Outside.Given (NetworkInput.Tick ticks) ∷ []) from to → TakesInputIf result quiet said from to
-tick_taken quiet result said ticks from to is takes = (
-  Outside.Given said ∷ [],
-  no_time said,
-  subst (λ (i : NetworkInput). TakesIf result quiet (Outside.Given i ∷ []) from to) (sym is) takes,
-)
+-- the input of a line, for a mote that there is
+pub said_as : (P : NetworkInput → Type 0) (said : NetworkInput) (number : ℕ) (input : Input) (motes : ℕ) → said ≡ NetworkInput.ForMote number input →
+    is_for_some motes said ≡ true → P (NetworkInput.ForMote (number - 1 + 1) input) → P said
+said_as P said number input motes is some p =
+    let n = number_is motes number input (subst (λ (i : NetworkInput). is_for_some motes i ≡ true) is some) in
+    subst P (ap (λ (k : ℕ). NetworkInput.ForMote k input) n ∙ sym is) p
 
 module _ (quiet : Bool) where
   pub line_is : {script : Script} {from here : Moment} (n : ℕ) (line : List ℕ) (said : Option (Option NetworkInput)) (later : Script) →
@@ -136,24 +91,6 @@ module _ (quiet : Bool) where
       let same : length here.net.motes ≡ length from.net.motes = leads_length come.went.moves from.net here.net come.went.leads in
       subst (λ (o : Option (Option NetworkInput)). HasCome quiet script (with_network_line n o later) from here)
       (sym (is ∙ ap (λ (motes : ℕ). read_network_line motes line) same)) come
-
-  -- an input for mote m, after the time for it, or nothing
-  pub fed_with : (m : ℕ) (input : Input) (result : Result Bool RunFault) (times : List Outside) (from to : Moment) → IsTimeFor m times →
-      TakesIf result quiet (times ++ Outside.Given (NetworkInput.ForMote (m + 1) input) ∷ []) from to →
-      TakesInputIf result quiet (NetworkInput.ForMote (m + 1) input) from to
-  fed_with m input result times from to time takes = (
-    times ++ Outside.Given (NetworkInput.ForMote (m + 1) input) ∷ [],
-    with_time m (m + 1) (NetworkInput.ForMote (m + 1) input) input times time refl refl,
-    takes,
-  )
-
-  -- the input of a line, for a mote that there is
-  pub taken_for : (result : Result Bool RunFault) (said : NetworkInput) (number : ℕ) (input : Input) (motes : ℕ) (from to : Moment) →
-      said ≡ NetworkInput.ForMote number input → is_for_some motes said ≡ true →
-      TakesInputIf result quiet (NetworkInput.ForMote (number - 1 + 1) input) from to → TakesInputIf result quiet said from to
-  taken_for result said number input motes from to is some takes =
-      let n = number_is motes number input (subst (λ (i : NetworkInput). is_for_some motes i ≡ true) is some) in
-      subst (λ (i : NetworkInput). TakesInputIf result quiet i from to) (ap (λ (k : ℕ). NetworkInput.ForMote k input) n ∙ sym is) takes
 
   pub come_nowhere : (script : Script) (here : Moment) → HasCome quiet script script here here
   come_nowhere script here =

@@ -6,7 +6,6 @@ use Rattle.kernel_core.specs.Run.{heard, stimulus_of}
 use Rattle.medium_core.specs.declared.flight.Flight.{Flight}
 use Rattle.mote_session.specs.Answered.{AnswersAs}
 use Rattle.mote_session.specs.SessionView.{SessionView}
-use Rattle.mote_session.specs.declared.session.Next.{Next}
 use Rattle.mote_types.specs.Applications.{Applications}
 use Rattle.mote_types.specs.declared.call.Call.{Call}
 use Rattle.mote_types.specs.declared.entry.Entry.{Entry}
@@ -16,23 +15,13 @@ use Rattle.mote_types.specs.declared.event.Stimulus.{Stimulus}
 use Rattle.network_session.specs.Happenings.{Happening, entry_of}
 use Rattle.network_session.specs.Logs.{happened, heard_by, made, told_by}
 use Rattle.network_session.specs.Network.{NetworkView}
-use Rattle.network_session.specs.Steps.{IsNetworkSubmitted, Steps, Worked}
+use Rattle.network_session.specs.Steps.{Steps}
 use Rattle.network_session.specs.declared.outcome.Outcome.{Outcome}
 use Rattle.network_session.proofs.Working.{there_after}
-use Rattle.network_run.specs.Code.Calls.{Speak, Speaks}
+use Rattle.network_steps.specs.Code.Calls.{Speak, Speaks}
 use Rattle.mote_session.specs.Voices.{IsCall, Voices}
 use Rattle.network_run.specs.Voices.{MakeTheCalls}
 use Rattle.network_steps.specs.NetworkRuns.{IsMove, Leads, Move, after_move, log_of, moved}
-
--- moves after others
-
-pub speak_on : (first second : List Move) (old mid : NetworkView) (before between after : Voices) → Leads old first mid →
-    Speak old first before between → Speak mid second between after → Speak old (first ++ second) before after
-speak_on [] second old mid before between after leads speak later =
-    subst (λ (voices : Voices). Speak old second voices after) speak
-    (subst (λ (net : NetworkView). Speak net second between after) (sym leads) later)
-speak_on (move ∷ first) second old mid before between after leads speak later =
-    (speak.0, speak.1, speak_on first second (after_move move) mid speak.0 between after leads.1 speak.2 later)
 
 -- ---- entries of one mote, one after the other
 
@@ -173,17 +162,3 @@ make_the_calls (move ∷ moves) old new before after leads speak = λ i.
     (sym (filter_map-append (entry_of i) (moved old move) (log_of (after_move move) moves)))
     (answers_move before speak.0 i (entries_of i (log_of (after_move move) moves))
     (make_the_calls moves (after_move move) new speak.0 after leads.1 speak.2 i) move old leads.0 speak.1)
-
--- ---- the mote that worked is there after that
-
-pub there_worked : (m : ℕ) (next : Next) (old new : NetworkView) (worked : Worked m next old new) → slice_get new.motes m ≡ Some worked.worked.after
-there_worked m next old new worked =
-    let w = worked.worked in there_after m old.motes new.motes w.before w.after w.mote w.others
-
-pub there_submitted : (m : ℕ) (call : Call) (old new : NetworkView) → old.active ≡ Some m → (is : IsNetworkSubmitted call old new) →
-    slice_get new.motes m ≡ Some is.submitted.after
-there_submitted m call old new active is =
-    let some_mote : Some is.m ≡ Some m = sym is.was_active ∙ active in
-    let number : is.m ≡ m = cc in
-    subst (λ (n : ℕ). slice_get new.motes n ≡ Some is.submitted.after) number
-    (there_after is.m old.motes new.motes is.submitted.before is.submitted.after is.submitted.mote is.submitted.others)

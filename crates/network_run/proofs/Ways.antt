@@ -1,31 +1,37 @@
 -- Ways of a run, one after the other.
-use Rattle.std.proofs.Common.{inl, inr, ◌≡◌, ℕ, Bool, true, false, List, [], ◌∷◌, ◌++◌, refl, ap, sym, subst, ◌∙◌, append_assoc, append-nil, Result, Ok, Err, IfErr, IsErrAnd, OnOk, MatchResult}
-use Rattle.mote_types.specs.declared.call.Call.{Call}
+use Rattle.std.proofs.Common.{inl, inr, ◌≡◌, ℕ, Bool, true, false, List, [], ◌∷◌, ◌++◌, map, refl, ap, sym, subst, ◌∙◌, append_assoc, append-nil, Result, Ok, Err, IsErrAnd, MatchResult, Option, None, Some}
 use Rattle.network_session.specs.Network.{NetworkView}
-use Rattle.network_session.specs.Steps.{IsNetworkSubmitted}
-use Rattle.network_session.specs.declared.outcome.Outcome.{Outcome}
-use Rattle.network_run.specs.Code.Way.{Faulted, Goes, IsReason, Moment, Stopped, Takes, TakesIf, TakesInputIf, Went, is_write, moment}
+use Rattle.network_run.specs.Code.Way.{Faulted, IsReason, Moment, Stopped, Takes, TakesIf, Went, is_write, moment, outside_waiting}
+use Rattle.std.proofs.lemmas.List.{map-append}
 use Rattle.std.proofs.lemmas.List.Elements.{filter_map-append}
-use Rattle.mote_text.specs.Code.Writing.{WritesIf, WritesOn}
+use Rattle.mote_text.specs.Code.Writing.{WritesOn}
 use Rattle.network_run.specs.declared.fault.RunFault.{RunFault}
-use Rattle.network_run.specs.Code.Calls.{IsActiveCall, Speaks}
+use Rattle.network_steps.specs.Code.Calls.{Speak, Speaks}
+use Rattle.network_steps.specs.Code.Going.{GoesBy, PassesBy}
+use Rattle.network_steps.specs.Code.Turns.{ends_open, is_open, is_turn}
 use Rattle.mote_session.specs.Voices.{Voices}
-use Rattle.network_run.specs.Code.Ready.{IsRefusedOf, IsWithin, StaysWithin, is_turn}
-use Rattle.network_run.proofs.Ready.{ends_closed, leads_awaits, leads_ready, move_within}
-use Rattle.network_run.proofs.Speaking.{speak_on}
+use Rattle.network_run.specs.Code.Ready.{IsRefusedOf, IsWithin, StaysWithin}
+use Rattle.network_run.proofs.Ready.{leads_awaits, leads_ready, move_within}
 use Rattle.mote_text.proofs.Writing.{nothing_more, then_written}
 use Rattle.network_run.specs.Outside.{Outside, all_outside, outside_of}
-use Rattle.network_steps.specs.NetworkRuns.{DoesStep, IsMove, Move, after_move, move_lines}
+use Rattle.network_steps.specs.NetworkRuns.{IsMove, Leads, Move, after_move, inputs_of, move_lines, moves_text, times_of}
+use Rattle.network_steps.specs.Lines.{shown_line, shown_losses}
+use Rattle.network_steps.specs.StepsView.{StepsView}
+use Rattle.network_steps.specs.Works.{came_lines, inputs_waiting}
+use Rattle.network_steps.specs.declared.came.Came.{Came}
+use Rattle.network_steps.specs.declared.came.Sending.{Sending}
+use Rattle.network_steps.specs.declared.came.Waiting.{Waiting}
 use Rattle.network_steps.specs.declared.input.NetworkInput.{NetworkInput}
-use Rattle.network_steps.proofs.Moves.{leads_on, text_on}
+use Rattle.network_run.proofs.OutsideMoves.{outside_is}
+use Rattle.network_steps.proofs.Moves.{ends_closed, leads_on, speak_on, text_on}
 
-only_write : (fault : RunFault) {lost due : List ℕ} → fault ≡ RunFault.Write → is_write fault ≡ false → lost ≡ due
+pub only_write : (fault : RunFault) {lost due : List ℕ} → fault ≡ RunFault.Write → is_write fault ≡ false → lost ≡ due
 only_write fault is not = let yes : is_write fault ≡ true = ap is_write is in absurd (cc)
 
-needs_no_reason : (fault : RunFault) (net : NetworkView) (left : List Outside) → fault ≡ RunFault.Write → IsReason fault net left
+pub needs_no_reason : (fault : RunFault) (net : NetworkView) (left : List Outside) → fault ≡ RunFault.Write → IsReason fault net left
 needs_no_reason fault net left is = subst (λ (one : RunFault). IsReason one net left) (sym is) tt
 
-refuses_nothing : (fault : RunFault) (net : NetworkView) → fault ≡ RunFault.Write → IsRefusedOf fault net
+pub refuses_nothing : (fault : RunFault) (net : NetworkView) → fault ≡ RunFault.Write → IsRefusedOf fault net
 refuses_nothing fault net is = subst (λ (one : RunFault). IsRefusedOf one net) (sym is) tt
 
 -- the reason stays the same if more is to come
@@ -41,22 +47,76 @@ pub fault_on : {T : Type 0} (result : Result T RunFault) (P : T → Type 0) (Q :
 fault_on (Ok x) P Q fault is q = absurd is
 fault_on (Err handed) P Q fault is q = subst Q (sym is) q
 
-pub input_fault_on : (quiet : Bool) (result : Result Bool RunFault) (input : NetworkInput) (from to : Moment) (fault : RunFault) →
-    IsErrAnd result (λ (handed : RunFault). handed ≡ fault) → TakesInputIf (Err fault) quiet input from to → TakesInputIf result quiet input from to
-input_fault_on quiet (Ok x) input from to fault is takes = absurd is
-input_fault_on quiet (Err handed) input from to fault is takes =
-    subst (λ (one : RunFault). TakesInputIf (Err one) quiet input from to) (sym is) takes
+-- ---- the moves of a step
 
--- what holds anyway holds of an answer
-pub on_ok : {T P Q : Type 0} (result : Result T RunFault) → (P → Q) → OnOk result P → OnOk result Q
-on_ok (Ok x) f p = f p
-on_ok (Err fault) f p = tt
+-- nothing waits after the input that waited
+later_none : (first : NetworkInput) (later : List NetworkInput) (waiting : Option Waiting) → first ∷ later ≡ inputs_waiting waiting → later ≡ inputs_waiting None
+later_none first later None e = absurd (cc)
+later_none first later (Some w) e = cc
 
-pub on_any : {T P : Type 0} (result : Result T RunFault) → P → OnOk result P
-on_any (Ok x) p = p
-on_any (Err fault) p = tt
+no_tick : (ticks : ℕ) (later : List NetworkInput) (waiting : Option Waiting) → NetworkInput.Tick ticks ∷ later ≡ inputs_waiting waiting → ⊥
+no_tick ticks later None e = absurd (cc)
+no_tick ticks later (Some w) e = absurd (cc)
+
+-- time may go no further than before
+leads_within : (moves : List Move) (old new : NetworkView) (later : List NetworkInput) (waiting : Option Waiting) →
+    inputs_of moves ++ later ≡ inputs_waiting waiting → Leads old moves new → IsWithin old → IsWithin new
+leads_within [] old new later waiting e leads within = subst IsWithin leads within
+leads_within (Move.Step x mid ∷ moves) old new later waiting e leads within =
+    leads_within moves mid new later waiting e leads.1 (move_within (Move.Step x mid) old leads.0 tt within)
+leads_within (Move.Submit call mid ∷ moves) old new later waiting e leads within =
+    leads_within moves mid new later waiting e leads.1 (move_within (Move.Submit call mid) old leads.0 tt within)
+leads_within (Move.Tick ticks mid ∷ moves) old new later waiting e leads within = absurd (no_tick ticks _ waiting e)
+leads_within (Move.Tell m mid ∷ moves) old new later waiting e leads within =
+    leads_within moves mid new later waiting e leads.1 (move_within (Move.Tell m mid) old leads.0 tt within)
+leads_within (Move.Hand m input mid ∷ moves) old new later waiting e leads within =
+    leads_within moves mid new later None (later_none _ _ waiting e) leads.1 (move_within (Move.Hand m input mid) old leads.0 tt within)
+leads_within (Move.Miss m input mid ∷ moves) old new later waiting e leads within =
+    leads_within moves mid new later None (later_none _ _ waiting e) leads.1 (move_within (Move.Miss m input mid) old leads.0 tt within)
 
 module _ (quiet : Bool) where
+  -- moves in which at most the input came that waited
+  pub went_by : (moves : List Move) (waiting left : Option Waiting) (old new : NetworkView) {given due given_later due_later lost : List ℕ} {voices later : Voices} →
+      Leads old moves new → Speak old moves voices later → times_of moves ≡ [] → inputs_of moves ++ inputs_waiting left ≡ inputs_waiting waiting →
+      ends_open moves ≡ false → WritesOn given due given_later lost (moves_text quiet old moves) →
+      Stopped quiet (outside_waiting waiting) (outside_waiting left) lost (moment given due old voices) (moment given_later due_later new later)
+  went_by moves waiting left old new leads calls untold inputs answered writes = record {
+    carried = all_outside moves;
+    parts = ap (map Outside.Given) (sym inputs)
+        ∙ (map-append Outside.Given (inputs_of moves) (inputs_waiting left)
+        ∙ ap (λ (first : List Outside). first ++ outside_waiting left) (sym (outside_is moves untold)));
+    went = record {
+      moves = moves;
+      leads = leads;
+      calls = calls;
+      carried = refl;
+      answered = answered;
+      within = λ w. leads_within moves old new (inputs_waiting left) waiting inputs leads w;
+      writes = writes;
+    };
+  }
+
+  -- a step that isn't reported
+  pub passed_by : {old new : StepsView} {given due : List ℕ} {voices later : Voices} → PassesBy old new voices later →
+      Stopped quiet (outside_waiting old.waiting) (outside_waiting new.waiting) due (moment given due old.net voices) (moment given due new.net later)
+  passed_by {old} {new} {given} {due} p =
+      went_by p.moves old.waiting new.waiting old.net new.net p.leads p.calls p.untold p.inputs p.answered
+      (subst (λ (text : List ℕ). WritesOn given due given due text) (sym (p.silent quiet)) (nothing_more given due))
+
+  goes_text : {came : Came} {old new : StepsView} {voices later : Voices} → old.sending ≡ None → (g : GoesBy came old new voices later) →
+      moves_text quiet old.net g.goes.moves ≡ came_lines quiet came new.net
+  goes_text {came} {old} {new} none g =
+      ap (λ (o : Option Sending). shown_losses quiet o old.net ++ moves_text quiet old.net g.goes.moves) (sym none)
+      ∙ (g.goes.text quiet ∙ ap (λ (o : Option Sending). shown_line quiet came new.net ++ shown_losses quiet o new.net) g.sending)
+
+  -- one that is reported, whose lines are written, pending or lost
+  pub came_by : {came : Came} {old new : StepsView} {given due given_later due_later lost : List ℕ} {voices later : Voices} → old.sending ≡ None →
+      (g : GoesBy came old new voices later) → is_open came ≡ false → WritesOn given due given_later lost (came_lines quiet came new.net) →
+      Stopped quiet (outside_waiting old.waiting) (outside_waiting new.waiting) lost (moment given due old.net voices) (moment given_later due_later new.net later)
+  came_by {came} {old} {new} {given} {due} {given_later} {lost = lost} none g closed writes =
+      went_by g.goes.moves old.waiting new.waiting old.net new.net g.goes.leads g.calls g.goes.untold g.goes.inputs (g.goes.answered closed)
+      (subst (λ (text : List ℕ). WritesOn given due given_later lost text) (sym (goes_text none g)) writes)
+
   pub went_nowhere : (here : Moment) → Went quiet [] here here
   went_nowhere here = record { moves = []; leads = refl; calls = refl; carried = refl; answered = refl; within = λ w. w; writes = nothing_more here.given here.due }
 
@@ -72,10 +132,6 @@ module _ (quiet : Bool) where
     writes = subst (λ (text : List ℕ). WritesOn from.given from.due to.given to.due text)
         (sym (text_on quiet first.moves second.moves from.net mid.net first.leads)) (then_written first.writes second.writes);
   }
-
-  -- with nothing more from outside
-  pub went_further : {outside : List Outside} {from mid to : Moment} → Went quiet outside from mid → Went quiet [] mid to → Went quiet outside from to
-  went_further {outside} {from} {mid} {to} first second = subst (λ (all : List Outside). Went quiet all from to) (append-nil outside) (went_on first second)
 
   -- one move
   pub went_move : (move : Move) (outside : List Outside) (old new : NetworkView) {given due given_later due_later : List ℕ} {voices later : Voices} →
@@ -103,68 +159,6 @@ module _ (quiet : Bool) where
   pub all_carried : {outside : List Outside} {from to : Moment} (lost : List ℕ) → Went quiet outside from (record to { due = lost }) → Stopped quiet outside [] lost from to
   all_carried {outside} lost went = record { carried = outside; parts = sym (append-nil outside); went = went }
 
-  -- a move whose lines are put
-  pub goes_move : {T : Type 0} (result : Result T RunFault) (move : Move) (outside : List Outside) (old new : NetworkView) (given due given_later due_later : List ℕ)
-      (voices later : Voices) → IsMove old move → after_move move ≡ new → Speaks old move voices later → all_outside (move ∷ []) ≡ outside → is_turn move ≡ false → StaysWithin old move →
-      IfErr result (λ fault. fault ≡ RunFault.Write) → WritesIf result given due given_later due_later (move_lines quiet old move) →
-      Goes result quiet outside (moment given due old voices) (moment given_later due_later new later)
-  goes_move (Ok x) move outside old new given due given_later due_later voices later is after speaks carried no_turn stays write puts =
-      went_move move outside old new is after speaks carried no_turn stays puts
-  goes_move (Err fault) move outside old new given due given_later due_later voices later is after speaks carried no_turn stays write puts = record {
-    left = [];
-    why = needs_no_reason fault new [] write;
-    much = refuses_nothing fault old write;
-    lost = puts.0;
-    kept = only_write fault write;
-    voices = later;
-    stopped = record { carried = outside; parts = sym (append-nil outside); went = went_move move outside old new is after speaks carried no_turn stays puts.1 };
-  }
-
-  -- a turn, and its call
-  went_turn : (m : ℕ) (call : Call) (old mid new : NetworkView) {given due given_later due_later : List ℕ} {voices later : Voices} →
-      DoesStep (Outcome.Turn m) old mid → IsNetworkSubmitted call mid new → IsActiveCall mid new voices later →
-      WritesOn given due given_later due_later (move_lines quiet mid (Move.Submit call new)) →
-      Went quiet [] (moment given due old voices) (moment given_later due_later new later)
-  went_turn m call old mid new {given} {due} {given_later} {due_later} {voices} {later} does submitted spoke writes = record {
-    moves = Move.Step (Outcome.Turn m) mid ∷ Move.Submit call new ∷ [];
-    leads = (does, (submitted, refl));
-    calls = (voices, refl, (later, spoke, refl));
-    carried = refl;
-    answered = refl;
-    within = λ w. move_within (Move.Submit call new) mid submitted tt (move_within (Move.Step (Outcome.Turn m) mid) old does tt w);
-    writes = subst (λ (text : List ℕ). WritesOn given due given_later due_later text) (sym (append-nil (move_lines quiet mid (Move.Submit call new)))) writes;
-  }
-
-  pub goes_turn : {T : Type 0} (result : Result T RunFault) (m : ℕ) (call : Call) (old mid new : NetworkView) (given due given_later due_later : List ℕ)
-      (voices later : Voices) → DoesStep (Outcome.Turn m) old mid → IsNetworkSubmitted call mid new → IsActiveCall mid new voices later →
-      IfErr result (λ fault. fault ≡ RunFault.Write) → WritesIf result given due given_later due_later (move_lines quiet mid (Move.Submit call new)) →
-      Goes result quiet [] (moment given due old voices) (moment given_later due_later new later)
-  goes_turn (Ok x) m call old mid new given due given_later due_later voices later does submitted spoke write puts =
-      went_turn m call old mid new does submitted spoke puts
-  goes_turn (Err fault) m call old mid new given due given_later due_later voices later does submitted spoke write puts = record {
-    left = [];
-    why = needs_no_reason fault new [] write;
-    much = refuses_nothing fault old write;
-    lost = puts.0;
-    kept = only_write fault write;
-    voices = later;
-    stopped = record { carried = []; parts = refl; went = went_turn m call old mid new does submitted spoke puts.1 };
-  }
-
-  -- what comes is refused after that
-  pub faulted_then : {outside : List Outside} {from mid : Moment} (left : List Outside) (fault : RunFault) (new : NetworkView) (later : Voices) →
-      Went quiet outside from mid → new ≡ mid.net → IsReason fault mid.net left → IsRefusedOf fault from.net →
-      Faulted quiet (outside ++ left) fault from (record mid { net = new; voices = later })
-  faulted_then {outside} {from} {mid} left fault new later went same why much = record {
-    left = left;
-    why = rw same why;
-    much = much;
-    lost = mid.due;
-    kept = λ not. refl;
-    voices = mid.voices;
-    stopped = record { carried = outside; parts = refl; went = rw same went };
-  }
-
   -- and before that, others
 
   pub stopped_after : {outside more left : List Outside} {lost : List ℕ} {from mid to : Moment} → Went quiet outside from mid → Stopped quiet more left lost mid to →
@@ -174,6 +168,11 @@ module _ (quiet : Bool) where
     parts = ap (λ (v : List Outside). outside ++ v) second.parts ∙ sym (append_assoc outside second.carried left);
     went = went_on first second.went;
   }
+
+  pub stopped_on : {outside left later : List Outside} {lost : List ℕ} {from mid to : Moment} → Stopped quiet outside left mid.due from mid →
+      Stopped quiet left later lost mid to → Stopped quiet outside later lost from to
+  stopped_on {outside} {left} {later} {lost} {from} {mid} {to} first second =
+      subst (λ (all : List Outside). Stopped quiet all later lost from to) (sym first.parts) (stopped_after first.went second)
 
   refused_after : {outside : List Outside} {from mid : Moment} (fault : RunFault) → Went quiet outside from mid → IsRefusedOf fault mid.net → IsRefusedOf fault from.net
   refused_after RunFault.Write first much = tt
@@ -192,11 +191,6 @@ module _ (quiet : Bool) where
     voices = second.voices;
     stopped = stopped_after first second.stopped;
   }
-
-  pub goes_after : {T : Type 0} (result : Result T RunFault) (outside more : List Outside) (from mid to : Moment) → Went quiet outside from mid →
-      Goes result quiet more mid to → Goes result quiet (outside ++ more) from to
-  goes_after (Ok x) outside more from mid to first goes = went_on first goes
-  goes_after (Err fault) outside more from mid to first goes = faulted_after first goes
 
   -- before further things
 
@@ -220,11 +214,6 @@ module _ (quiet : Bool) where
     stopped = stopped_before more first.stopped;
   }
 
-  -- something comes, and the network rests after it, or not
-  pub takes_all : (result : Result Bool RunFault) (outside : List Outside) (from to : Moment) → Goes result quiet outside from to → TakesIf result quiet outside from to
-  takes_all (Ok rests) outside from to went = record { left = []; all = λ yes. refl; stopped = all_carried to.due went }
-  takes_all (Err fault) outside from to faulted = faulted
-
   -- a network that refuses is as it was, whatever the application said that has no such turn
   pub faulted_same : (outside : List Outside) (fault : RunFault) (given due : List ℕ) (old new : NetworkView) (voices later : Voices) → new ≡ old →
       IsReason fault old outside → IsRefusedOf fault old → Faulted quiet outside fault (moment given due old voices) (moment given due new later)
@@ -238,30 +227,6 @@ module _ (quiet : Bool) where
     stopped = record { carried = []; parts = refl; went = rw same (went_nowhere (moment given due old voices)) };
   }
 
-  -- a move whose lines are lost
-  pub faulted_move : (fault : RunFault) (move : Move) (outside : List Outside) (old new : NetworkView) (given due given_later due_later lost : List ℕ)
-      (voices later : Voices) → IsMove old move → after_move move ≡ new → Speaks old move voices later → all_outside (move ∷ []) ≡ outside → is_turn move ≡ false → StaysWithin old move → fault ≡ RunFault.Write →
-      WritesOn given due given_later lost (move_lines quiet old move) →
-      Faulted quiet outside fault (moment given due old voices) (moment given_later due_later new later)
-  faulted_move fault move outside old new given due given_later due_later lost voices later is after speaks carried no_turn stays write writes = record {
-    left = [];
-    why = needs_no_reason fault new [] write;
-    much = refuses_nothing fault old write;
-    lost = lost;
-    kept = only_write fault write;
-    voices = later;
-    stopped = record { carried = outside; parts = sym (append-nil outside); went = went_move move outside old new is after speaks carried no_turn stays writes };
-  }
-
-  -- the network rests after that
-
-  pub takes_went : {outside : List Outside} {from to : Moment} → Went quiet outside from to → Takes quiet outside true from to
-  takes_went {to = to} went = record { left = []; all = λ yes. refl; stopped = all_carried to.due went }
-
-  pub takes_same : (given due : List ℕ) (old new : NetworkView) (voices : Voices) → new ≡ old →
-      Takes quiet [] true (moment given due old voices) (moment given due new voices)
-  takes_same given due old new voices same = rw same (takes_went (went_nowhere (moment given due old voices)))
-
   pub went_of : {outside : List Outside} {rests : Bool} {from to : Moment} → Takes quiet outside rests from to → rests ≡ true → Went quiet outside from to
   went_of {outside} {from = from} {to = to} takes rests =
       subst (λ (all : List Outside). Went quiet all from to)
@@ -272,7 +237,3 @@ module _ (quiet : Bool) where
       TakesIf result quiet more mid to → TakesIf result quiet (outside ++ more) from to
   takes_after (Ok rests) outside more from mid to first takes = record { left = takes.left; all = takes.all; stopped = stopped_after first takes.stopped }
   takes_after (Err fault) outside more from mid to first faulted = faulted_after first faulted
-
-  pub takes_before : {outside : List Outside} {rests : Bool} {from to : Moment} (more : List Outside) → Takes quiet outside rests from to →
-      Takes quiet (outside ++ more) false from to
-  takes_before more takes = record { left = takes.left ++ more; all = λ yes. absurd (cc); stopped = stopped_before more takes.stopped }

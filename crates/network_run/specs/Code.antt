@@ -1,6 +1,5 @@
 -- The code's own invariants.
-pub mod Calls
 pub mod Lines
 pub mod Ready
-pub mod Steps
+pub mod Reports
 pub mod Way

@@ -1,112 +1,120 @@
 //! Execution of a network's inputs.
 
-ghost use Rattle.std.specs.Prelude.{◌≡◌, ◌<◌, ◌+◌, ◌-◌, ◌^◌, ◌∷◌, [], true, length, IfOk};
-ghost use Rattle.network_run.specs.Code.Ready.{ComesFromOutside, IsFromOutside, IsOnTime, IsReady};
-ghost use Rattle.network_run.specs.Code.Way.{CountsFaults, RestsIf, TakesIf, TakesInputIf, TellsIf, moment};
-ghost use Rattle.network_run.specs.Outside.{Outside};
-ghost use Rattle.network_steps.specs.NetworkRuns.{IsResting};
+ghost use Rattle.std.specs.Prelude.{◌≡◌, ◌<◌, ◌+◌, ◌-◌, ◌^◌, ℕ, Bool, List, true, false, length, IfErr, IfOk};
+ghost use Rattle.mote_session.specs.Voices.{Voices};
+ghost use Rattle.network_run.specs.Code.Ready.{ComesFromOutside, IsFromOutside, IsUnderWay};
+ghost use Rattle.network_run.specs.Code.Way.{CountsFaults, IsAtRest, RestsIf, SubmitsIf, TakesIf, TakesInputIf, is_write, moment, outside_waiting};
+ghost use Rattle.network_session.specs.Network.{NetworkView};
+ghost use Rattle.network_session.specs.Refusals.{pass_refusal};
 ghost use Rattle.network_steps.specs.NetworkScript.{is_for_some};
+ghost use Rattle.network_steps.specs.Refusals.{fault_of};
 ghost use Rattle.network_steps.specs.declared.input.NetworkInput.{NetworkInput};
+ghost use Rattle.mote_session.specs.declared.refusal.SessionRefusal.{SessionRefusal};
 
 use crate::fault::RunFault;
-use crate::settle::run_to_rest;
-use crate::steps::put_own;
+use crate::reports::{put_entry, put_other};
 use mote_session::caller::Caller;
 use mote_text::output_buffer::OutputBuffer;
 use mote_types::device::ByteSink;
 use mote_types::entry::Input;
-use network_session::network::Network;
+use network_session::fault::NetworkFault;
 use network_steps::came::Came;
-use network_steps::giving::{give_input, give_time};
+use network_steps::fault::StepsFault;
 use network_steps::input::NetworkInput;
+use network_steps::steps::NetworkSteps;
 
-/// Lets the clock go on. Returns whether the network rests after that; otherwise the input has used up its rounds.
-fn pass_time<K: ByteSink, H: Caller>(
+/// Works until nothing is left to do, or the input has used up its rounds. Returns whether nothing is left to do.
+// A function of its own, into which all that makes and writes an entry is inlined: its registers are saved once for all entries.
+#[inline(never)]
+pub(crate) fn run_to_rest<K: ByteSink, H: Caller>(
     sink: &mut K,
     text: &mut OutputBuffer,
     caller: &mut H,
-    network: &mut Network,
-    ticks: u32,
+    steps: &mut NetworkSteps,
     quiet: bool,
 ) -> Result<bool, RunFault>
-    requires rests { IsResting network.old }
+    requires under_way { IsUnderWay steps.old }
     requires countable { K.failure_count sink.old < 2 ^ 64 - 1 }
-    ensures takes { K.is_named → TakesIf result quiet (Outside.Given (NetworkInput.Tick ticks) ∷ [])
-        (moment (K.given sink.old) text.old.items network.old (H.voices caller.old))
-        (moment (K.given sink.new) text.new.items network.new (H.voices caller.new)) }
-    ensures rests { IfOk result (λ rests. RestsIf rests network.new) }
+    ensures takes { K.is_named → TakesIf result quiet (outside_waiting steps.old.waiting)
+        (moment (K.given sink.old) text.old.items steps.old.net (H.voices caller.old))
+        (moment (K.given sink.new) text.new.items steps.new.net (H.voices caller.new)) }
+    ensures rests { IfOk result (λ rests. RestsIf rests steps.new) }
     ensures failures { CountsFaults result (K.failure_count sink.old) (K.failure_count sink.new) }
 {
-    match network.pass_time(ticks) {
-        Ok(()) => run_to_rest(sink, text, caller, network, quiet),
-        Err(fault) => Err(RunFault::Refused(fault)),
-    }
-}
-
-/// Gives the time to a mote whose clock is behind, and lets it work.
-fn catch_up<K: ByteSink, H: Caller>(
-    sink: &mut K,
-    text: &mut OutputBuffer,
-    caller: &mut H,
-    network: &mut Network,
-    mote: usize,
-    quiet: bool,
-) -> Result<bool, RunFault>
-    requires rests { IsResting network.old }
-    requires there { mote < length network.old.motes }
-    requires countable { K.failure_count sink.old < 2 ^ 64 - 1 }
-    ensures takes { K.is_named → TellsIf result quiet mote
-        (moment (K.given sink.old) text.old.items network.old (H.voices caller.old))
-        (moment (K.given sink.new) text.new.items network.new (H.voices caller.new)) }
-    ensures on_time { K.is_named → IsReady network.old → IfOk result (λ rests. rests ≡ true → IsOnTime mote network.new) }
-    ensures rests { IfOk result (λ rests. RestsIf rests network.new) }
-    ensures failures { CountsFaults result (K.failure_count sink.old) (K.failure_count sink.new) }
-{
-    match give_time(network, mote) {
-        Ok(is_given) => {
-            if is_given {
-                run_to_rest(sink, text, caller, network, quiet)
-            } else {
-                Ok(true)
+    loop {
+        let came = match steps.step_by(caller) {
+            Ok(came) => came,
+            Err(fault) => return Err(RunFault::Refused(fault)),
+        };
+        match came {
+            None => {}
+            Some(Came::Entry(mote)) => put_entry(sink, text, steps, mote, quiet)?,
+            Some(came) => {
+                if let Some(rests) = put_other(sink, text, steps.network(), came, quiet)? {
+                    return Ok(rests);
+                }
             }
         }
-        Err(fault) => Err(RunFault::Refused(fault)),
     }
 }
 
-/// Gives the time to a mote that is behind, and then an input. A halted mote misses it.
-fn feed<K: ByteSink, H: Caller>(
-    sink: &mut K,
-    text: &mut OutputBuffer,
-    caller: &mut H,
-    network: &mut Network,
-    mote: usize,
-    input: Input,
-    quiet: bool,
-) -> Result<bool, RunFault>
-    requires rests { IsResting network.old }
-    requires there { mote < length network.old.motes }
+/// What the network refused: a mote's refusal of the time.
+fn cause_of(fault: StepsFault) -> NetworkFault
+    ensures { (refusal : SessionRefusal) → fault ≡ StepsFault.Refused refusal → result ≡ NetworkFault.Refused refusal }
+{
+    match fault {
+        StepsFault::Refused(refusal) => NetworkFault::Refused(refusal),
+        _ => NetworkFault::NoMote,
+    }
+}
+
+/// Lets the clock go on.
+fn tick(steps: &mut NetworkSteps, ticks: u32) -> Result<(), RunFault>
+    requires rests { IsAtRest steps.old }
+    ensures takes { (quiet : Bool) (given due : List ℕ) (voices : Voices) → SubmitsIf result quiet (NetworkInput.Tick ticks) steps.new.waiting
+        (moment given due steps.old.net voices) (moment given due steps.new.net voices) }
+    ensures ready { IfOk result (λ _. IsUnderWay steps.new) }
+    ensures fault { IfErr result (λ fault. is_write fault ≡ false) }
+{
+    match steps.tick(ticks) {
+        Ok(()) => Ok(()),
+        // At rest nothing else is refused.
+        Err(_) => Err(RunFault::Refused(NetworkFault::TooLong)),
+    }
+}
+
+/// Submits an input of a mote, which gets the time first.
+fn feed(steps: &mut NetworkSteps, mote: usize, input: Input) -> Result<(), RunFault>
+    requires rests { IsAtRest steps.old }
+    requires there { mote < length steps.old.net.motes }
     requires outside { IsFromOutside input }
-    requires countable { K.failure_count sink.old < 2 ^ 64 - 1 }
-    ensures takes { K.is_named → TakesInputIf result quiet (NetworkInput.ForMote (mote + 1) input)
-        (moment (K.given sink.old) text.old.items network.old (H.voices caller.old))
-        (moment (K.given sink.new) text.new.items network.new (H.voices caller.new)) }
-    ensures rests { IfOk result (λ rests. RestsIf rests network.new) }
-    ensures failures { CountsFaults result (K.failure_count sink.old) (K.failure_count sink.new) }
+    ensures takes { (quiet : Bool) (given due : List ℕ) (voices : Voices) → SubmitsIf result quiet (NetworkInput.ForMote (mote + 1) input) steps.new.waiting
+        (moment given due steps.old.net voices) (moment given due steps.new.net voices) }
+    ensures ready { IfOk result (λ _. IsUnderWay steps.new) }
+    ensures fault { IfErr result (λ fault. is_write fault ≡ false) }
 {
-    if !catch_up(sink, text, caller, network, mote, quiet)? {
-        return Ok(false);
+    match steps.feed(mote, input) {
+        Ok(()) => Ok(()),
+        Err(fault) => Err(RunFault::Refused(cause_of(fault))),
     }
-    match give_input(network, mote, input) {
-        Ok(is_given) => {
-            if is_given {
-                run_to_rest(sink, text, caller, network, quiet)
-            } else {
-                put_own(sink, text, network, Came::Unheard(mote), quiet)?;
-                Ok(true)
-            }
+}
+
+/// Submits an input, if there is the mote that it is for.
+fn submit(steps: &mut NetworkSteps, input: NetworkInput) -> Result<(), RunFault>
+    requires rests { IsAtRest steps.old }
+    requires for_some { is_for_some (length steps.old.net.motes) input ≡ true }
+    requires outside { ComesFromOutside input }
+    ensures takes { (quiet : Bool) (given due : List ℕ) (voices : Voices) → SubmitsIf result quiet input steps.new.waiting
+        (moment given due steps.old.net voices) (moment given due steps.new.net voices) }
+    ensures ready { IfOk result (λ _. IsUnderWay steps.new) }
+    ensures fault { IfErr result (λ fault. is_write fault ≡ false) }
+{
+    match input {
+        NetworkInput::Tick(ticks) => tick(steps, ticks),
+        NetworkInput::ForMote(number, input) => {
+            let mote = number as usize - 1;
+            feed(steps, mote, input)
         }
-        Err(fault) => Err(RunFault::Refused(fault)),
     }
 }
 
@@ -115,25 +123,20 @@ pub(crate) fn take_input<K: ByteSink, H: Caller>(
     sink: &mut K,
     text: &mut OutputBuffer,
     caller: &mut H,
-    network: &mut Network,
+    steps: &mut NetworkSteps,
     input: NetworkInput,
     quiet: bool,
 ) -> Result<bool, RunFault>
-    requires rests { IsResting network.old }
-    requires for_some { is_for_some (length network.old.motes) input ≡ true }
+    requires rests { IsAtRest steps.old }
+    requires for_some { is_for_some (length steps.old.net.motes) input ≡ true }
     requires outside { ComesFromOutside input }
     requires countable { K.failure_count sink.old < 2 ^ 64 - 1 }
     ensures takes { K.is_named → TakesInputIf result quiet input
-        (moment (K.given sink.old) text.old.items network.old (H.voices caller.old))
-        (moment (K.given sink.new) text.new.items network.new (H.voices caller.new)) }
-    ensures rests { IfOk result (λ rests. RestsIf rests network.new) }
+        (moment (K.given sink.old) text.old.items steps.old.net (H.voices caller.old))
+        (moment (K.given sink.new) text.new.items steps.new.net (H.voices caller.new)) }
+    ensures rests { IfOk result (λ rests. RestsIf rests steps.new) }
     ensures failures { CountsFaults result (K.failure_count sink.old) (K.failure_count sink.new) }
 {
-    match input {
-        NetworkInput::Tick(ticks) => pass_time(sink, text, caller, network, ticks, quiet),
-        NetworkInput::ForMote(number, input) => {
-            let mote = number as usize - 1;
-            feed(sink, text, caller, network, mote, input, quiet)
-        }
-    }
+    submit(steps, input)?;
+    run_to_rest(sink, text, caller, steps, quiet)
 }

@@ -3,7 +3,6 @@
 
 pub mod fault;
 mod input;
+mod reports;
 pub mod run;
 mod script;
-mod settle;
-mod steps;

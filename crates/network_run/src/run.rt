@@ -1,19 +1,18 @@
 //! The run of a network.
 
 ghost use Rattle.std.specs.Prelude.{◌≡◌, ◌<◌, ◌+◌, ◌-◌, ◌^◌, ◌↔◌, [], ℕ, Bool, List, None, false, length, if◌then◌else◌, IfOk, IsErrOf};
-ghost use Rattle.network_run.specs.Code.Way.{CountsFaults, Ends, HasCome, LineRuns, Moment, Reading, RunFaulted, RunsIf, is_write, moment};
+ghost use Rattle.network_run.specs.Code.Ready.{IsUnderWay};
+ghost use Rattle.network_run.specs.Code.Way.{CountsFaults, Ends, HasCome, IsAtRest, LineRuns, Moment, Reading, RunFaulted, RunsIf, is_write, moment};
 ghost use Rattle.network_run.specs.NetworkRunText.{Gives, HasRun};
 ghost use Rattle.mote_text.specs.Script.{script_lines};
 ghost use Rattle.mote_session.specs.Voices.{Voices};
 ghost use Rattle.network_session.specs.Network.{NetworkView};
-ghost use Rattle.network_steps.specs.NetworkRuns.{IsResting};
 ghost use Rattle.network_steps.specs.NetworkScript.{read_network_line, read_network_lines, with_network_line};
 
 use crate::fault::RunFault;
-use crate::input::take_input;
+use crate::input::{run_to_rest, take_input};
+use crate::reports::put_end;
 use crate::script::{Line, read_line};
-use crate::settle::run_to_rest;
-use crate::steps::put_end;
 pub use mote_session::caller::Caller;
 use mote_text::output_buffer::OutputBuffer;
 use mote_text::script::End;
@@ -21,32 +20,33 @@ use mote_text::script_lines::first_line;
 use mote_types::device::ByteSink;
 use network_session::network::Network;
 use network_steps::laws::texts_go_on;
+use network_steps::steps::NetworkSteps;
 
 /// Carries out a line, which has this number. Returns how the run ends, if it ends here.
 fn take_line<K: ByteSink, H: Caller>(
     sink: &mut K,
     text: &mut OutputBuffer,
     caller: &mut H,
-    network: &mut Network,
+    steps: &mut NetworkSteps,
     line: &[u8],
     number: u32,
     quiet: bool,
 ) -> Result<Option<End>, RunFault>
-    requires rests { IsResting network.old }
+    requires rests { IsAtRest steps.old }
     requires countable { K.failure_count sink.old < 2 ^ 64 - 1 }
     ensures runs { K.is_named → (script later : Reading) (from : Moment) →
         HasCome quiet script (with_network_line number (read_network_line (length from.net.motes) line.now) later) from
-        (moment (K.given sink.old) text.old.items network.old (H.voices caller.old)) →
+        (moment (K.given sink.old) text.old.items steps.old.net (H.voices caller.old)) →
         LineRuns result quiet script later from
-        (moment (K.given sink.new) text.new.items network.new (H.voices caller.new)) }
-    ensures rests { IfOk result (λ ending. ending ≡ None → IsResting network.new) }
+        (moment (K.given sink.new) text.new.items steps.new.net (H.voices caller.new)) }
+    ensures rests { IfOk result (λ ending. ending ≡ None → IsAtRest steps.new) }
     ensures failures { CountsFaults result (K.failure_count sink.old) (K.failure_count sink.new) }
 {
-    match read_line(network, line) {
+    match read_line(steps.network(), line) {
         Line::Malformed => Ok(Some(End::BadLine(number))),
         Line::Nothing => Ok(None),
         Line::Input(input) => {
-            if take_input(sink, text, caller, network, input, quiet)? {
+            if take_input(sink, text, caller, steps, input, quiet)? {
                 Ok(None)
             } else {
                 Ok(Some(End::Halted))
@@ -60,23 +60,23 @@ fn take_lines<K: ByteSink, H: Caller>(
     sink: &mut K,
     text: &mut OutputBuffer,
     caller: &mut H,
-    network: &mut Network,
+    steps: &mut NetworkSteps,
     script: &[u8],
     first: u32,
     quiet: bool,
 ) -> Result<End, RunFault>
-    requires rests { IsResting network.old }
+    requires rests { IsAtRest steps.old }
     requires numbers { first + length script.now < 2 ^ 32 }
     requires countable { K.failure_count sink.old < 2 ^ 64 - 1 }
-    ensures runs { K.is_named → RunsIf result quiet (read_network_lines (length network.old.motes) first (script_lines script.now))
-        (moment (K.given sink.old) text.old.items network.old (H.voices caller.old))
-        (moment (K.given sink.new) text.new.items network.new (H.voices caller.new)) }
+    ensures runs { K.is_named → RunsIf result quiet (read_network_lines (length steps.old.net.motes) first (script_lines script.now))
+        (moment (K.given sink.old) text.old.items steps.old.net (H.voices caller.old))
+        (moment (K.given sink.new) text.new.items steps.new.net (H.voices caller.new)) }
     ensures failures { CountsFaults result (K.failure_count sink.old) (K.failure_count sink.new) }
 {
     let mut rest = script;
     let mut number = first;
     while let Some((line, after)) = first_line(rest) {
-        let ending = take_line(sink, text, caller, network, line, number, quiet)?;
+        let ending = take_line(sink, text, caller, steps, line, number, quiet)?;
         if let Some(end) = ending {
             return Ok(end);
         }
@@ -91,20 +91,22 @@ fn carry_out<K: ByteSink, H: Caller>(
     sink: &mut K,
     text: &mut OutputBuffer,
     caller: &mut H,
-    network: &mut Network,
+    steps: &mut NetworkSteps,
     script: &[u8],
     first: u32,
     quiet: bool,
 ) -> Result<End, RunFault>
+    requires under_way { IsUnderWay steps.old }
+    requires none { steps.old.waiting ≡ None }
     requires numbers { first + length script.now < 2 ^ 32 }
     requires countable { K.failure_count sink.old < 2 ^ 64 - 1 }
-    ensures runs { K.is_named → RunsIf result quiet (read_network_lines (length network.old.motes) first (script_lines script.now))
-        (moment (K.given sink.old) text.old.items network.old (H.voices caller.old))
-        (moment (K.given sink.new) text.new.items network.new (H.voices caller.new)) }
+    ensures runs { K.is_named → RunsIf result quiet (read_network_lines (length steps.old.net.motes) first (script_lines script.now))
+        (moment (K.given sink.old) text.old.items steps.old.net (H.voices caller.old))
+        (moment (K.given sink.new) text.new.items steps.new.net (H.voices caller.new)) }
     ensures failures { CountsFaults result (K.failure_count sink.old) (K.failure_count sink.new) }
 {
-    if run_to_rest(sink, text, caller, network, quiet)? {
-        take_lines(sink, text, caller, network, script, first, quiet)
+    if run_to_rest(sink, text, caller, steps, quiet)? {
+        take_lines(sink, text, caller, steps, script, first, quiet)
     } else {
         Ok(End::Halted)
     }
@@ -185,9 +187,9 @@ pub fn run_network<K: ByteSink, H: Caller>(
         (read_network_lines (length network.motes) first (script_lines script.now)) written result) }
     ensures write_fault { IsErrOf result RunFault.Write ↔ (K.failure_count sink.old < K.failure_count sink.new) }
 {
-    let mut network = network;
+    let mut steps = NetworkSteps::over(network);
     let mut text = OutputBuffer::new();
-    match carry_out(sink, &mut text, caller, &mut network, script, first, quiet) {
+    match carry_out(sink, &mut text, caller, &mut steps, script, first, quiet) {
         Ok(end) => close(sink, &mut text, end),
         Err(fault) => fail(sink, &mut text, fault),
     }

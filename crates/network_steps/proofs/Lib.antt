@@ -7,3 +7,4 @@ pub mod Silent
 pub mod StepText
 pub mod GivenInputs
 pub mod Reports
+pub mod Going

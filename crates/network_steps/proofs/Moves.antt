@@ -1,5 +1,5 @@
 -- The log of a network and its text go on with each move.
-use Rattle.std.proofs.Common.{◌≡◌, ℕ, Bool, true, false, ◌||◌, List, [], ◌∷◌, ◌++◌, refl, ap, sym, subst, ◌∙◌, append-nil, Option, None, Some}
+use Rattle.std.proofs.Common.{◌≡◌, ℕ, Bool, true, false, ◌||◌, List, [], ◌∷◌, ◌++◌, refl, ap, sym, subst, ◌∙◌, append-nil, slice_get, Option, None, Some}
 use Rattle.std.proofs.lemmas.List.{append_assoc}
 use Rattle.std.proofs.lemmas.List.Elements.{filter_map-append}
 use Rattle.arrayvec.specs.ArrayVec.{ArrayVec}
@@ -19,7 +19,10 @@ use Rattle.network_session.specs.Promise.{IsLogOf}
 use Rattle.network_session.specs.Steps.{IsNetworkSubmitted, IsNetworkFed, Steps, aired_if}
 use Rattle.network_session.specs.declared.outcome.Outcome.{Outcome}
 use Rattle.network_session.proofs.Working.{there_after}
-use Rattle.network_steps.specs.NetworkRuns.{IsMove, Leads, Move, after_move, input_of, inputs_of, log_of, move_lines, moved, moves_text}
+use Rattle.network_steps.specs.NetworkRuns.{IsMove, Leads, Move, after_move, input_of, inputs_of, log_of, move_lines, moved, moves_text, time_of, times_of}
+use Rattle.network_steps.specs.Code.Calls.{Speak}
+use Rattle.network_steps.specs.Code.Turns.{ends_open}
+use Rattle.mote_session.specs.Voices.{Voices}
 use Rattle.network_steps.specs.NetworkText.{happening_lines, log_text}
 
 -- what happens to the medium
@@ -97,6 +100,33 @@ text_on quiet (move ∷ moves) later old mid first =
 
 pub inputs_on : (moves later : List Move) → inputs_of (moves ++ later) ≡ inputs_of moves ++ inputs_of later
 inputs_on moves later = filter_map-append input_of moves later
+
+pub times_on : (moves later : List Move) → times_of (moves ++ later) ≡ times_of moves ++ times_of later
+times_on moves later = filter_map-append time_of moves later
+
+pub speak_on : (first second : List Move) (old mid : NetworkView) (before between after : Voices) → Leads old first mid →
+    Speak old first before between → Speak mid second between after → Speak old (first ++ second) before after
+speak_on [] second old mid before between after leads speak later =
+    subst (λ (voices : Voices). Speak old second voices after) speak
+    (subst (λ (net : NetworkView). Speak net second between after) (sym leads) later)
+speak_on (move ∷ first) second old mid before between after leads speak later =
+    (speak.0, speak.1, speak_on first second (after_move move) mid speak.0 between after leads.1 speak.2 later)
+
+-- moves that end with no turn
+pub ends_closed : (first second : List Move) → ends_open first ≡ false → ends_open second ≡ false → ends_open (first ++ second) ≡ false
+ends_closed [] second one two = two
+ends_closed (move ∷ []) [] one two = one
+ends_closed (move ∷ []) (next ∷ second) one two = two
+ends_closed (move ∷ next ∷ first) second one two = ends_closed (next ∷ first) second one two
+
+-- the mote whose call was submitted is there after that
+pub there_submitted : (m : ℕ) (call : Call) (old new : NetworkView) → old.active ≡ Some m → (is : IsNetworkSubmitted call old new) →
+    slice_get new.motes m ≡ Some is.submitted.after
+there_submitted m call old new active is =
+    let some_mote : Some is.m ≡ Some m = sym is.was_active ∙ active in
+    let number : is.m ≡ m = cc in
+    subst (λ (n : ℕ). slice_get new.motes n ≡ Some is.submitted.after) number
+    (there_after is.m old.motes new.motes is.submitted.before is.submitted.after is.submitted.mote is.submitted.others)
 
 -- the log
 

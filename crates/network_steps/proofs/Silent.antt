@@ -1,57 +1,131 @@
--- The steps that aren't reported take something of what is left to do.
-use Rattle.std.proofs.Common.{◌≡◌, ℕ, ◌+◌, ◌<◌, false, refl, ap, arith, Option, None, Some, is_some}
+-- Each step takes something of what is left to do.
+use Rattle.std.proofs.Common.{◌≡◌, ℕ, ◌<◌, ◌≤◌, length, true, false, refl, ap, sym, ◌∙◌, arith, Option, None, Some, is_some}
+use Rattle.std.proofs.lemmas.List.{length-set}
 use Rattle.mote_session.specs.declared.session.Next.{Next}
-use Rattle.network_session.specs.Code.Measures.{to_do}
+use Rattle.network_session.specs.Code.Measures.{IsNearerRest, is_last, left_at_work, most_left_at_work, to_do}
+use Rattle.network_session.specs.Code.Working.{TakesTurn}
 use Rattle.network_session.specs.Network.{NetworkView}
-use Rattle.network_session.specs.Steps.{Worked}
+use Rattle.network_session.specs.Steps.{IsNetworkFed, Steps, Worked}
+use Rattle.network_session.specs.Time.{is_work}
 use Rattle.network_session.specs.declared.outcome.Outcome.{Outcome}
-use Rattle.network_session.proofs.Nearer.{fewer_to_do, nearer_worked}
+use Rattle.network_session.proofs.Nearer.{fewer_to_do, nearer_made, nearer_turn, nearer_worked}
+use Rattle.network_steps.specs.Code.Going.{left_to_do, rounds_of}
+use Rattle.network_steps.specs.Code.Turns.{is_end, is_turn_step}
 use Rattle.network_steps.specs.NetworkRuns.{DoesStep}
-use Rattle.network_steps.specs.Works.{is_reported}
-
--- how much is left to do
-
-busy : Option ℕ → ℕ
-busy None = 0
-busy (Some m) = 1
-
-pub left : NetworkView → ℕ
-left net = to_do net + to_do net + busy net.active
+use Rattle.network_steps.specs.StepsView.{StepsView}
+use Rattle.network_steps.specs.Works.{came_of, is_reported}
+use Rattle.network_steps.specs.declared.came.Waiting.{Waiting}
 
 pub idle_if : (o : Option ℕ) → false ≡ is_some o → o ≡ None
 idle_if None e = refl
 idle_if (Some m) e = absurd (cc)
 
-busy_most : (o : Option ℕ) → busy o < 2
-unfolding busy
-busy_most None = omega arith
-busy_most (Some m) = omega arith
+-- the bound stays
 
--- a start or a round was taken
-less_idle : (old new : NetworkView) → to_do new < to_do old → left new < left old
-unfolding left
-less_idle old new fewer = omega (arith, fewer, busy_most new.active)
+step_bound : (x : Outcome) (old new : NetworkView) → Steps x old new → new.bound ≡ old.bound
+step_bound (Outcome.Started m) old new s = ap (λ (v : NetworkView). v.bound) s
+step_bound (Outcome.Turn m) old new s = ap (λ (v : NetworkView). v.bound) s.result
+step_bound (Outcome.Made m) old new s = ap (λ (v : NetworkView). v.bound) s.result
+step_bound (Outcome.Rested m) old new s = ap (λ (v : NetworkView). v.bound) s.result
+step_bound (Outcome.Stopped m) old new s = ap (λ (v : NetworkView). v.bound) s.result
+step_bound (Outcome.Woken m) old new s = ap (λ (v : NetworkView). v.bound) s.result
+step_bound (Outcome.Heard m) old new s = ap (λ (v : NetworkView). v.bound) s.result
+step_bound (Outcome.Missed from to) old new s = ap (λ (v : NetworkView). v.bound) s
+step_bound Outcome.Passed old new s = ap (λ (v : NetworkView). v.bound) s
+step_bound Outcome.Rest old new s = ap (λ (v : NetworkView). v.bound) s
+step_bound Outcome.Exhausted old new s = ap (λ (v : NetworkView). v.bound) s
 
-less_rested : (m : ℕ) (next : Next) (old new : NetworkView) → Worked m next old new → to_do new ≡ to_do old → new.active ≡ None → left new < left old
-unfolding left busy
-less_rested m next old new w same idle =
-    let before : busy old.active ≡ 1 = ap busy w.was_active in
-    let after : busy new.active ≡ 0 = ap busy idle in
-    omega (arith, same, before, after)
+-- the mote at work has fewer entries left, or a round or a start was taken
+less_at_work : (old new : StepsView) → IsNearerRest old.net new.net → new.net.bound ≡ old.net.bound → new.waiting ≡ old.waiting → left_to_do new < left_to_do old
+less_at_work old new nearer bound waiting =
+    let rounds : rounds_of new.waiting new.net.bound ≡ rounds_of old.waiting old.net.bound = rw (bound, waiting) refl in
+    omega (arith, nearer.nearer, nearer.same, rounds)
 
-pub less : (x : Outcome) (old new : NetworkView) → DoesStep x old new → is_reported x ≡ false → left new < left old
-less (Outcome.Started m) old new s r = less_idle old new (fewer_to_do (Outcome.Started m) old new s.steps (s.due (idle_if old.active s.work)) refl refl)
-less (Outcome.Woken m) old new s r = less_idle old new (fewer_to_do (Outcome.Woken m) old new s.steps (s.due (idle_if old.active s.work)) refl refl)
-less (Outcome.Heard m) old new s r = less_idle old new (fewer_to_do (Outcome.Heard m) old new s.steps (s.due (idle_if old.active s.work)) refl refl)
-less (Outcome.Rested m) old new s r =
-    less_rested m Next.Rest old new s.steps (nearer_worked (Outcome.Rested m) old new s.steps refl (λ n e. cc)).same
-    (ap (λ (v : NetworkView). v.active) s.steps.result)
-less (Outcome.Stopped m) old new s r =
-    less_rested m Next.Halted old new s.steps (nearer_worked (Outcome.Stopped m) old new s.steps refl (λ n e. cc)).same
-    (ap (λ (v : NetworkView). v.active) s.steps.result)
-less (Outcome.Turn m) old new s r = absurd (cc)
-less (Outcome.Made m) old new s r = absurd (cc)
-less (Outcome.Missed from to) old new s r = absurd (cc)
-less Outcome.Passed old new s r = absurd (cc)
-less Outcome.Rest old new s r = absurd (cc)
-less Outcome.Exhausted old new s r = absurd (cc)
+less_of_rounds : (old new : StepsView) → to_do new.net < to_do old.net → left_at_work new.net ≤ most_left_at_work → new.net.bound ≡ old.net.bound →
+    new.waiting ≡ old.waiting → left_to_do new < left_to_do old
+less_of_rounds old new fewer few bound waiting =
+    let rounds : rounds_of new.waiting new.net.bound ≡ rounds_of old.waiting old.net.bound = rw (bound, waiting) refl in
+    omega (arith, fewer, few, rounds)
+
+module _ (old new : StepsView) (few : left_at_work new.net ≤ most_left_at_work) (waiting : new.waiting ≡ old.waiting) where
+  less_worked : (x : Outcome) → DoesStep x old.net new.net → is_work x ≡ true → is_turn_step x ≡ false → left_to_do new < left_to_do old
+  less_worked x does work no_turn =
+      less_at_work old new (nearer_worked x old.net new.net does.steps work (λ m is. let e : is_turn_step x ≡ true = ap is_turn_step is in absurd (cc)))
+      (step_bound x old.net new.net does.steps) waiting
+
+  less_due : (x : Outcome) → DoesStep x old.net new.net → is_work x ≡ false → is_last x ≡ false → left_to_do new < left_to_do old
+  less_due x does idle on =
+      less_of_rounds old new (fewer_to_do x old.net new.net does.steps (does.due (idle_if old.net.active (sym idle ∙ does.work))) idle on) few
+      (step_bound x old.net new.net does.steps) waiting
+
+  pub less : (x : Outcome) → DoesStep x old.net new.net → is_turn_step x ≡ false → is_last x ≡ false → left_to_do new < left_to_do old
+  less (Outcome.Turn m) does no_turn on = absurd (cc)
+  less (Outcome.Made m) does no_turn on = less_worked (Outcome.Made m) does refl refl
+  less (Outcome.Rested m) does no_turn on = less_worked (Outcome.Rested m) does refl refl
+  less (Outcome.Stopped m) does no_turn on = less_worked (Outcome.Stopped m) does refl refl
+  less (Outcome.Started m) does no_turn on = less_due (Outcome.Started m) does refl refl
+  less (Outcome.Woken m) does no_turn on = less_due (Outcome.Woken m) does refl refl
+  less (Outcome.Heard m) does no_turn on = less_due (Outcome.Heard m) does refl refl
+  less (Outcome.Missed from to) does no_turn on = less_due (Outcome.Missed from to) does refl refl
+  less Outcome.Passed does no_turn on = less_due Outcome.Passed does refl refl
+  less Outcome.Rest does no_turn on = absurd (cc)
+  less Outcome.Exhausted does no_turn on = absurd (cc)
+
+-- a turn, and its call
+pub less_by_turn : (m : ℕ) (old new : StepsView) → TakesTurn m old.net new.net → new.waiting ≡ old.waiting → left_to_do new < left_to_do old
+less_by_turn m old new turn waiting =
+    less_at_work old new (nearer_turn m turn.call old.net turn.mid new.net turn.opens turn.submitted)
+    (ap (λ (v : NetworkView). v.bound) turn.submitted.result ∙ ap (λ (v : NetworkView). v.bound) turn.opens.result) waiting
+
+-- another entry, which is noted
+pub less_made : (m : ℕ) (old new : StepsView) (net : NetworkView) → Worked m Next.Entry old.net net → new.net ≡ net → new.waiting ≡ old.waiting →
+    left_to_do new < left_to_do old
+less_made m old new net worked is waiting =
+    let made : Worked m Next.Entry old.net new.net = rw is worked in
+    less_at_work old new (nearer_made m old.net new.net made) (ap (λ (v : NetworkView). v.bound) made.result) waiting
+
+-- the last step is one that ends the work
+pub last_is_end : (x : Outcome) → is_end (came_of x) ≡ false → is_reported x ≡ true → is_last x ≡ false
+last_is_end Outcome.Rest on r = absurd (cc)
+last_is_end Outcome.Exhausted on r = absurd (cc)
+last_is_end Outcome.Passed on r = refl
+last_is_end (Outcome.Missed from to) on r = refl
+last_is_end (Outcome.Started m) on r = refl
+last_is_end (Outcome.Turn m) on r = refl
+last_is_end (Outcome.Made m) on r = refl
+last_is_end (Outcome.Rested m) on r = refl
+last_is_end (Outcome.Stopped m) on r = refl
+last_is_end (Outcome.Woken m) on r = refl
+last_is_end (Outcome.Heard m) on r = refl
+
+pub unreported_goes_on : (x : Outcome) → is_reported x ≡ false → is_last x ≡ false
+unreported_goes_on Outcome.Rest r = absurd (cc)
+unreported_goes_on Outcome.Exhausted r = absurd (cc)
+unreported_goes_on Outcome.Passed r = absurd (cc)
+unreported_goes_on (Outcome.Missed from to) r = absurd (cc)
+unreported_goes_on (Outcome.Turn m) r = absurd (cc)
+unreported_goes_on (Outcome.Made m) r = absurd (cc)
+unreported_goes_on (Outcome.Started m) r = refl
+unreported_goes_on (Outcome.Rested m) r = refl
+unreported_goes_on (Outcome.Stopped m) r = refl
+unreported_goes_on (Outcome.Woken m) r = refl
+unreported_goes_on (Outcome.Heard m) r = refl
+
+-- an input that waits is handed over, or missed
+
+pub less_handed : (w : Waiting) (old new : StepsView) → IsNetworkFed w.mote w.input old.net new.net → left_at_work new.net ≤ most_left_at_work →
+    new.waiting ≡ None → left_to_do new < left_to_do (record old { waiting = Some w })
+less_handed w old new fed few none =
+    let h = fed.handed in
+    let started : new.net.started ≡ old.net.started = ap (λ (v : NetworkView). v.started) fed.result in
+    let rounds : new.net.rounds ≡ old.net.bound = ap (λ (v : NetworkView). v.rounds) fed.result in
+    let motes : length new.net.motes ≡ length old.net.motes = ap length h.others ∙ length-set old.net.motes w.mote h.after in
+    let taken : rounds_of new.waiting new.net.bound ≡ 0 = ap (λ (o : Option Waiting). rounds_of o new.net.bound) none in
+    omega (arith, started, rounds, motes, taken, few)
+
+pub less_missed : (w : Waiting) (old new : StepsView) → new.net ≡ old.net → new.waiting ≡ None → left_to_do new < left_to_do (record old { waiting = Some w })
+less_missed w old new same none =
+    let taken : rounds_of new.waiting new.net.bound ≡ 0 = ap (λ (o : Option Waiting). rounds_of o new.net.bound) none in
+    let to_do_same : to_do new.net ≡ to_do old.net = ap to_do same in
+    let left_same : left_at_work new.net ≡ left_at_work old.net = ap left_at_work same in
+    omega (arith, taken, to_do_same, left_same)

@@ -21,10 +21,9 @@ use Rattle.network_steps.specs.Code.StepLines.{last_entry_line}
 use Rattle.network_steps.specs.NetworkRuns.{DoesStep}
 use Rattle.network_steps.specs.NetworkText.{frame_line, if_shown, log_text, missed_line, sent_lines}
 use Rattle.network_steps.proofs.Moves.{air_step, one_deed}
-use Rattle.network_steps.specs.Lines.{losses_left, shown_entry, shown_losses}
+use Rattle.network_steps.specs.Lines.{shown_entry, shown_losses}
 use Rattle.network_steps.specs.Works.{came_lines, came_of}
 use Rattle.network_steps.specs.declared.came.Came.{Came}
-use Rattle.network_steps.specs.declared.came.Sending.{Sending}
 use Rattle.network_steps.proofs.Silent.{idle_if}
 
 module _ (quiet : Bool) where

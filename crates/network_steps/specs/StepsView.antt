@@ -42,3 +42,8 @@ opened_net motes room bound =
 abbrev pub opened_steps : List SessionView → ℕ → ℕ → ℕ → StepsView
 opened_steps motes room links bound =
     record { net = opened_net motes room bound; last = Came.Rest; sending = None; waiting = None; phase = Phase.Fresh; free_links = links }
+
+-- over a network that was made, to which no links can be added
+abbrev pub steps_over : NetworkView → StepsView
+steps_over net =
+    record { net = net; last = Came.Rest; sending = None; waiting = None; phase = Phase.Working; free_links = 0 }

@@ -10,7 +10,8 @@ use Rattle.network_session.specs.Refusals.{catch_up_refusal, feed_refusal, step_
 use Rattle.network_session.specs.Schedule.{due_step}
 use Rattle.network_session.specs.declared.fault.NetworkFault.{NetworkFault}
 use Rattle.network_session.specs.declared.outcome.Outcome.{Outcome}
-use Rattle.network_steps.specs.NetworkRuns.{DoesStep, IsResting, Leads, Move, PassesTime, TellsTime, inputs_of, moves_text}
+use Rattle.network_steps.specs.NetworkRuns.{IsResting, Leads, Move, PassesTime, TellsTime, inputs_of, moves_text, times_of}
+use Rattle.network_steps.specs.Code.Turns.{ends_open, is_open}
 use Rattle.network_steps.specs.declared.input.NetworkInput.{NetworkInput}
 use Rattle.network_steps.specs.Lines.{shown_line, shown_losses}
 use Rattle.network_steps.specs.Refusals.{awaited_turn, fault_of}
@@ -34,20 +35,6 @@ is_reported (Outcome.Rested m) = false
 is_reported (Outcome.Stopped m) = false
 is_reported (Outcome.Woken m) = false
 is_reported (Outcome.Heard m) = false
-
--- some moves lead from old to new; they have no lines, and execute no inputs
-pub record GoesOn (old new : NetworkView) : Type 0 where
-  pub moves : List Move
-  pub leads : Leads old moves new
-  pub silent : (quiet : Bool) → moves_text quiet old moves ≡ []
-  pub own : inputs_of moves ≡ []
-
--- and then a step that is reported
-pub record WorksTo (outcome : Outcome) (old new : NetworkView) : Type 0 where
-  pub before : NetworkView
-  pub goes : GoesOn old before
-  pub step : DoesStep outcome before new
-  pub reported : is_reported outcome ≡ true
 
 -- of a network that rests
 abbrev pub RestsIf : Phase → NetworkView → Type 0
@@ -153,6 +140,9 @@ pub record GoesNext (came : Came) (old new : StepsView) : Type 0 where
   pub phase : new.phase ≡ phase_after came
   pub is_came : IsCame came new
   pub links : new.free_links ≡ old.free_links
+  -- no mote gets the time before an input in them, and only a turn that is reported is left without its call
+  pub untold : times_of moves ≡ []
+  pub answered : is_open came ≡ false → ends_open moves ≡ false
 
 -- a network that rests refuses the input that waits
 abbrev pub RefusesInput : Option Waiting → NetworkView → NetworkFault → Type 0

@@ -1,10 +1,6 @@
 //! What happened in a network.
 
-ghost use Rattle.std.specs.Prelude.{◌≡◌};
-ghost use Rattle.network_steps.specs.Works.{came_of, last_after, phase_after};
-
 use mote_types::entry::Input;
-use network_session::outcome::Outcome;
 
 /// What `NetworkSteps::next` reported. Motes have numbers from 0 on.
 #[derive(Clone, Copy, Debug, PartialEq, Eq, Drop)]
@@ -54,53 +50,4 @@ pub struct Sending {
 pub struct Waiting {
     pub mote: usize,
     pub input: Input,
-}
-
-/// What a step comes to that is reported.
-pub fn came_of(outcome: Outcome) -> Came
-    ensures { result ≡ came_of outcome }
-{
-    match outcome {
-        Outcome::Turn(mote) => Came::Turn(mote),
-        Outcome::Made(mote) => Came::Entry(mote),
-        Outcome::Missed(from, to) => Came::Missed(from, to),
-        Outcome::Passed => Came::Clock,
-        Outcome::Exhausted => Came::Halt,
-        Outcome::Rest => Came::Rest,
-        // These aren't reported.
-        Outcome::Started(_)
-        | Outcome::Rested(_)
-        | Outcome::Stopped(_)
-        | Outcome::Woken(_)
-        | Outcome::Heard(_) => Came::Rest,
-    }
-}
-
-impl Came {
-    /// What happened last that has a line, after this: rest has none.
-    pub(crate) fn or_if_rest(self, before: Came) -> Came
-        ensures { result ≡ last_after self before }
-    {
-        match self {
-            Came::Rest => before,
-            came => came,
-        }
-    }
-
-    /// How far a network is after this.
-    pub(crate) fn phase(self) -> Phase
-        ensures { result ≡ phase_after self }
-    {
-        match self {
-            Came::Rest => Phase::Resting,
-            Came::Halt => Phase::Spent,
-            Came::Turn(_)
-            | Came::Entry(_)
-            | Came::Clock
-            | Came::Lost(_, _)
-            | Came::Full(_, _)
-            | Came::Missed(_, _)
-            | Came::Unheard(_) => Phase::Working,
-        }
-    }
 }

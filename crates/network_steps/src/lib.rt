@@ -11,4 +11,3 @@ pub mod input;
 pub mod laws;
 pub mod lines;
 pub mod steps;
-mod working;

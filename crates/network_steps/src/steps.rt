@@ -1,35 +1,39 @@
 //! A network that reports what happens, a line at a time.
 
-ghost use Rattle.std.specs.Prelude.{◌≡◌, ◌≢◌, ◌+◌, ◌++◌, ◌↔◌, [], map, true, false, slice_get, None, Some, IfErr, IfOk, IfSome, IfNone, IsErrOf};
+ghost use Rattle.std.specs.Prelude.{◌≡◌, ◌≢◌, ◌<◌, ◌+◌, ◌++◌, ◌↔◌, [], map, true, false, is_some, slice_get, None, Some, IfErr, IfOk, IfSome, IfNone, IsErrOf};
 ghost use Rattle.medium_core.specs.Air.{still_air, with_link};
 ghost use Rattle.medium_core.specs.Code.Airs.{link_lists};
 ghost use Rattle.medium_core.specs.declared.link.Link.{Link as OneLink};
 ghost use Rattle.mote_session.specs.SessionView.{SessionView};
+ghost use Rattle.mote_session.specs.Voices.{Voices};
 ghost use Rattle.network_session.specs.Steps.{IsNetworkSubmitted};
 ghost use Rattle.timer_core.specs.Deadlines.{next_deadline};
 ghost use Rattle.network_steps.specs.Lines.{came_line, is_loss, loss_line, losses_left};
 ghost use Rattle.network_steps.specs.Refusals.{awaited_turn, due_refusal, feed_refusal, is_from_outside, link_refusal, submit_refusal, tick_refusal, told_refusal, unrest};
-ghost use Rattle.network_steps.specs.StepsView.{opened_steps, unlinked};
+ghost use Rattle.network_steps.specs.StepsView.{opened_steps, steps_over, unlinked};
 ghost use Rattle.network_steps.specs.NetworkRuns.{IsResting};
-ghost use Rattle.network_steps.specs.Works.{GoesNext, GoesOn, IsRefused, TakesFeed, TakesLink, TakesTicks, ToldIfBehind, WorksTo, came_of, is_reported, noted, sending_of};
+ghost use Rattle.network_steps.specs.Code.Going.{GoesBy, StepsBy, StepsIf, StopsBy, came_in, is_end_in, is_open_in, left_to_do, links_left};
+ghost use Rattle.network_steps.specs.Code.Turns.{is_end_if, is_open, is_open_if};
+ghost use Rattle.network_steps.specs.Works.{GoesNext, IsRefused, TakesFeed, TakesLink, TakesTicks, ToldIfBehind, is_reported, noted, sending_of};
+ghost use Rattle.network_steps.specs.declared.came.Came.TheVariants.{Entry};
 ghost use Rattle.network_steps.specs.declared.came.Phase.TheVariants.{Resting as Rests, Working as Works};
 ghost use Rattle.network_steps.specs.declared.fault.StepsFault.{StepsFault};
 ghost use Rattle.mote_session.specs.declared.refusal.SessionRefusal.{SessionRefusal};
 ghost use Rattle.network_session.specs.declared.outcome.Outcome.TheVariants.{Rest as Rested};
 
-use crate::came::{Came, Phase, Sending, Waiting, came_of};
+use crate::came::{Came, Phase, Sending, Waiting};
 use crate::came_lines::push_came;
 use crate::fates::next_fate;
 use crate::fault::{StepsFault, fault_of};
 use crate::giving::{give_input, give_time};
-use crate::working::work;
 use medium_core::link::Link;
+use mote_session::caller::Caller;
 use mote_session::refusal::SessionRefusal;
-use mote_session::session::{OpenTurn, Session};
+use mote_session::session::{Next, OpenTurn, Session};
 use mote_text::output_buffer::OutputBuffer;
 use mote_types::call::Call;
 use mote_types::entry::Input;
-use network_session::fault::NetworkBootFault;
+use network_session::fault::{NetworkBootFault, NetworkFault};
 use network_session::network::Network;
 use network_session::outcome::Outcome;
 use std::alloc::Global;
@@ -122,6 +126,27 @@ impl NetworkSteps {
         }
     }
 
+    /// The same over a network that was made. No links can be added.
+    pub fn over(network: Network) -> NetworkSteps
+        ensures { result ≡ steps_over network }
+    {
+        NetworkSteps {
+            network,
+            last: Came::Rest,
+            sending: None,
+            waiting: None,
+            phase: Phase::Working,
+            free_links: 0,
+        }
+    }
+
+    /// The network.
+    pub fn network(&self) -> &Network
+        ensures { result.now ≡ self.now.net }
+    {
+        &self.network
+    }
+
     /// Adds a link of mote `from`, after its other ones. It takes memory.
     ///
     /// # Errors
@@ -169,34 +194,137 @@ impl NetworkSteps {
         if self.turn().is_some() {
             return Err(StepsFault::Refused(SessionRefusal::AwaitsCall));
         }
-        if let Some(came) = self.report_fate() {
+        if let Some(came) = self.next_loss() {
             return Ok(came);
         }
-        self.go_on()
+        match self.go_on() {
+            Ok(came) => Ok(came),
+            Err(fault) => Err(fault_of(fault)),
+        }
     }
 
     /// Works to the next step that is reported, where nothing is left to be reported.
-    fn go_on(&mut self) -> Result<Came, StepsFault>
+    fn go_on(&mut self) -> Result<Came, NetworkFault>
         requires reported { self.old.sending ≡ None }
-        ensures went { IfOk result (λ came. GoesNext came self.old self.new) }
-        ensures failed { IfErr result (λ fault. IsRefused fault self.old.net self.old.waiting self.new.net) }
+        ensures went { IfOk result (λ came. (voices : Voices) → GoesBy came self.old self.new voices voices) }
+        ensures failed { IfErr result (λ cause. (voices : Voices) → StopsBy cause self.old self.new.net voices voices) }
     {
         self.phase = Phase::Working;
-        let outcome = match work(&mut self.network) {
-            Ok(outcome) => outcome,
-            Err(fault) => return Err(fault_of(fault)),
-        };
-        match outcome {
-            Outcome::Rest => self.rest(),
-            _ => Ok(self.come_to(outcome)),
+        while !self.step_on()? {}
+        Ok(self.came())
+    }
+
+    /// Does the next step, and has `caller` make the call of an application that must take a turn, and submits it: the turn is an entry.
+    /// Returns what is reported of the step, if anything is. Nothing may be left to be reported (`next_loss`), and neither rest nor a halt
+    /// was reported since the last input.
+    ///
+    /// # Errors
+    ///
+    /// What the network refuses: its next step, or at rest the input that waits.
+    // Part of the loop of a network's run: see docs/performance.md.
+    #[inline(always)]
+    pub fn step_by<H: Caller>(&mut self, caller: &mut H) -> Result<Option<Came>, NetworkFault>
+        requires works { self.old.phase ≡ Works }
+        requires reported { self.old.sending ≡ None }
+        ensures steps { IfOk result (λ came. StepsBy came self.old self.new (H.voices caller.old) (H.voices caller.new)) }
+        ensures called { IfOk result (λ came. is_open_if came ≡ false) }
+        ensures nearer { IfOk result (λ came. is_end_if came ≡ false → left_to_do self.new < left_to_do self.old) }
+        ensures failed { IfErr result (λ cause. StopsBy cause self.old self.new.net (H.voices caller.old) (H.voices caller.old)) }
+    {
+        match self.network.active() {
+            Some(mote) => self.work_by(mote, caller),
+            None => {
+                if self.step_on()? {
+                    Ok(Some(self.came()))
+                } else {
+                    Ok(None)
+                }
+            }
         }
     }
 
+    /// Lets the mote that is at work make an entry, with the call of a turn, or come to rest.
+    #[inline(always)]
+    fn work_by<H: Caller>(
+        &mut self,
+        mote: usize,
+        caller: &mut H,
+    ) -> Result<Option<Came>, NetworkFault>
+        requires active { self.old.net.active ≡ Some mote }
+        requires works { self.old.phase ≡ Works }
+        requires reported { self.old.sending ≡ None }
+        ensures steps { IfOk result (λ came. StepsBy came self.old self.new (H.voices caller.old) (H.voices caller.new)) }
+        ensures called { IfOk result (λ came. is_open_if came ≡ false) }
+        ensures nearer { IfOk result (λ came. left_to_do self.new < left_to_do self.old) }
+        ensures failed { IfErr result (λ cause. StopsBy cause self.old self.new.net (H.voices caller.old) (H.voices caller.old)) }
+    {
+        match self.network.work_by(mote, caller)? {
+            Next::Turn => {
+                // No turn sends a frame: that is a note of its own.
+                self.last = Came::Entry(mote);
+                Ok(Some(Came::Entry(mote)))
+            }
+            Next::Entry => {
+                self.last = Came::Entry(mote);
+                self.note_sent(mote);
+                Ok(Some(Came::Entry(mote)))
+            }
+            Next::Rest => Ok(None),
+            Next::Halted => Ok(None),
+        }
+    }
+
+    /// Does the next step. Returns whether it is reported.
+    // Out of the way of entries.
+    #[inline(never)]
+    fn step_on(&mut self) -> Result<bool, NetworkFault>
+        requires works { self.old.phase ≡ Works }
+        requires reported { self.old.sending ≡ None }
+        ensures steps { IfOk result (λ reported. (voices : Voices) → StepsIf reported self.old self.new voices voices) }
+        ensures called { self.old.net.active ≡ None → IfOk result (λ reported. reported ≡ true → is_open (came_in self.new) ≡ false) }
+        ensures nearer { IfOk result (λ reported. is_open_in reported self.new ≡ false → is_end_in reported self.new ≡ false →
+            left_to_do self.new < left_to_do self.old) }
+        ensures failed { IfErr result (λ cause. (voices : Voices) → StopsBy cause self.old self.new.net voices voices) }
+    {
+        let outcome = self.network.step()?;
+        self.network.entries_are_few();
+        match outcome {
+            Outcome::Rest => self.rest(),
+            _ => Ok(self.come_if(outcome)),
+        }
+    }
+
+    /// What was reported last.
+    #[inline(always)]
+    fn came(&self) -> Came
+        ensures { result ≡ came_in self.now }
+    {
+        match self.phase {
+            Phase::Resting => Came::Rest,
+            Phase::Fresh | Phase::Working | Phase::Spent => self.last,
+        }
+    }
+
+    /// Whether a frame was just sent, and its losses may still have to be reported.
+    pub fn has_sent(&self) -> bool
+        ensures { result ≡ is_some self.now.sending }
+    {
+        self.sending.is_some()
+    }
+
+    /// Forgets what became of the frame that was just sent.
+    pub fn skip_losses(&mut self)
+        ensures { self.new ≡ record self.old { sending = None } }
+    {
+        self.sending = None;
+    }
+
     /// Reports the next link that didn't carry the frame which was just sent, if there is one.
-    fn report_fate(&mut self) -> Option<Came>
+    pub fn next_loss(&mut self) -> Option<Came>
         ensures some { IfSome result (λ came. (self.new ≡ record self.old { last = came; sending = self.new.sending; phase = Works })
             × (losses_left self.old.sending self.old.net ≡ loss_line came ++ losses_left self.new.sending self.old.net)) }
         ensures loss { IfSome result (λ came. is_loss came ≡ true) }
+        ensures fewer { IfSome result (λ came. links_left self.new.sending self.old.net < links_left self.old.sending self.old.net) }
         ensures none { IfNone result ((self.new ≡ record self.old { sending = None }) × (losses_left self.old.sending self.old.net ≡ [])) }
     {
         let sending = self.sending?;
@@ -218,81 +346,92 @@ impl NetworkSteps {
         }
     }
 
-    /// At rest hands over the input that waits for it; without one, rests.
-    fn rest(&mut self) -> Result<Came, StepsFault>
+    /// At rest hands over the input that waits for it; without one, rests. Returns whether something is reported.
+    fn rest(&mut self) -> Result<bool, NetworkFault>
         requires rests { IsResting self.old.net }
+        requires works { self.old.phase ≡ Works }
         requires reported { self.old.sending ≡ None }
-        ensures went { IfOk result (λ came. GoesNext came self.old self.new) }
-        ensures failed { IfErr result (λ fault. IsRefused fault self.old.net self.old.waiting self.new.net) }
+        ensures steps { IfOk result (λ reported. (voices : Voices) → StepsIf reported self.old self.new voices voices) }
+        ensures called { IfOk result (λ reported. reported ≡ true → is_open (came_in self.new) ≡ false) }
+        ensures nearer { IfOk result (λ reported. is_end_in reported self.new ≡ false → left_to_do self.new < left_to_do self.old) }
+        ensures failed { IfErr result (λ cause. (voices : Voices) → StopsBy cause self.old self.new.net voices voices) }
     {
         match self.waiting.take() {
             Some(waiting) => self.hand_over(waiting),
-            None => Ok(self.come_to(Outcome::Rest)),
-        }
-    }
-
-    /// Hands an input from outside to its mote, and works on. One that was halted hears nothing.
-    fn hand_over(&mut self, waiting: Waiting) -> Result<Came, StepsFault>
-        requires rests { IsResting self.old.net }
-        requires reported { self.old.sending ≡ None }
-        requires taken { self.old.waiting ≡ None }
-        ensures went { IfOk result (λ came. GoesNext came (record self.old { waiting = Some waiting }) self.new) }
-        ensures failed { IfErr result (λ fault. IsRefused fault self.old.net (Some waiting) self.new.net) }
-    {
-        self.phase = Phase::Working;
-        let Waiting { mote, input } = waiting;
-        match give_input(&mut self.network, mote, input) {
-            Ok(is_given) => {
-                if is_given {
-                    self.work_on()
-                } else {
-                    self.last = Came::Unheard(mote);
-                    Ok(self.last)
-                }
+            None => {
+                self.phase = Phase::Resting;
+                Ok(true)
             }
-            Err(fault) => Err(fault_of(fault)),
         }
     }
 
-    /// Works on after an input.
-    fn work_on(&mut self) -> Result<Came, StepsFault>
+    /// Hands an input from outside to its mote. Returns whether something is reported: one that was halted hears nothing.
+    fn hand_over(&mut self, waiting: Waiting) -> Result<bool, NetworkFault>
+        requires rests { IsResting self.old.net }
+        requires works { self.old.phase ≡ Works }
         requires reported { self.old.sending ≡ None }
         requires taken { self.old.waiting ≡ None }
-        ensures went { IfOk result (λ came. GoesNext came self.old self.new) }
-        ensures failed { IfErr result (λ fault. IsRefused fault self.old.net None self.new.net) }
+        ensures steps { IfOk result (λ reported. (voices : Voices) →
+            StepsIf reported (record self.old { waiting = Some waiting }) self.new voices voices) }
+        ensures called { IfOk result (λ reported. reported ≡ true → is_open (came_in self.new) ≡ false) }
+        ensures nearer { IfOk result (λ _. left_to_do self.new < left_to_do (record self.old { waiting = Some waiting })) }
+        ensures failed { IfErr result (λ cause. (voices : Voices) →
+            StopsBy cause (record self.old { waiting = Some waiting }) self.new.net voices voices) }
     {
-        self.phase = Phase::Working;
-        match work(&mut self.network) {
-            Ok(outcome) => Ok(self.come_to(outcome)),
-            Err(fault) => Err(fault_of(fault)),
+        let Waiting { mote, input } = waiting;
+        if give_input(&mut self.network, mote, input)? {
+            self.network.entries_are_few();
+            return Ok(false);
+        }
+        self.last = Came::Unheard(mote);
+        Ok(true)
+    }
+
+    /// Notes that a mote's last entry sent a frame, if it did.
+    #[inline(always)]
+    fn note_sent(&mut self, mote: usize)
+        requires reported { self.old.sending ≡ None }
+        ensures { self.new ≡ record self.old { sending = sending_of (Entry mote) self.old.net } }
+    {
+        if let Some(session) = self.network.mote(mote)
+            && session.sent().is_some()
+        {
+            self.sending = Some(Sending {
+                from: mote,
+                place: 0,
+            });
         }
     }
 
-    /// The frame that was sent in what came, if one was.
-    fn sending_of(&self, came: Came) -> Option<Sending>
-        ensures { result ≡ sending_of came self.now.net }
+    /// Notes what a step came to, if that is reported. Returns whether it is.
+    fn come_if(&mut self, outcome: Outcome) -> bool
+        requires apart { outcome ≢ Rested }
+        requires works { self.old.phase ≡ Works }
+        requires reported { self.old.sending ≡ None }
+        ensures reported { result ≡ is_reported outcome }
+        ensures noted { result ≡ true → self.new ≡ noted outcome self.old }
+        ensures same { result ≡ false → self.new ≡ self.old }
     {
-        let Came::Entry(from) = came else {
-            return None;
-        };
-        match self.network.mote(from) {
-            Some(session) if session.sent().is_some() => Some(Sending { from, place: 0 }),
-            _ => None,
+        match outcome {
+            Outcome::Turn(mote) => self.last = Came::Turn(mote),
+            Outcome::Made(mote) => {
+                self.last = Came::Entry(mote);
+                self.note_sent(mote);
+            }
+            Outcome::Missed(from, to) => self.last = Came::Missed(from, to),
+            Outcome::Passed => self.last = Came::Clock,
+            Outcome::Exhausted => {
+                self.last = Came::Halt;
+                self.phase = Phase::Spent;
+            }
+            Outcome::Rest
+            | Outcome::Started(_)
+            | Outcome::Rested(_)
+            | Outcome::Stopped(_)
+            | Outcome::Woken(_)
+            | Outcome::Heard(_) => return false,
         }
-    }
-
-    /// Notes what a step came to that is reported.
-    fn come_to(&mut self, outcome: Outcome) -> Came
-        requires rests { outcome ≡ Rested → IsResting self.old.net }
-        requires reported { is_reported outcome ≡ true }
-        ensures came { result ≡ came_of outcome }
-        ensures noted { self.new ≡ noted outcome self.old }
-    {
-        let came = came_of(outcome);
-        self.sending = self.sending_of(came);
-        self.last = came.or_if_rest(self.last);
-        self.phase = came.phase();
-        came
+        true
     }
 
     /// Submits the call of the application whose turn it is.

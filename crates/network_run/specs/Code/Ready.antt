@@ -1,5 +1,5 @@
 -- What a network keeps true between the steps of a run.
-use Rattle.std.specs.Prelude.{◌≡◌, ⊤, ℕ, ◌+◌, ◌<◌, ◌≤◌, ◌^◌, Bool, true, false, List, [], ◌∷◌, nat_lt, slice_get, Option, None, Some}
+use Rattle.std.specs.Prelude.{◌≡◌, ◌⊎◌, ⊤, ℕ, ◌+◌, ◌<◌, ◌≤◌, ◌^◌, true, false, length, nat_lt, slice_get, Option, None, Some}
 use Rattle.kernel_core.specs.Run.{is_still}
 use Rattle.mote_session.specs.SessionView.{SessionView}
 use Rattle.network_session.specs.Network.{NetworkView}
@@ -7,8 +7,10 @@ use Rattle.mote_session.specs.Refusals.{is_input}
 use Rattle.mote_types.specs.declared.entry.Input.{Input}
 use Rattle.network_session.specs.Refusals.{is_tick}
 use Rattle.network_session.specs.Time.{KeepsTime}
-use Rattle.network_session.specs.declared.outcome.Outcome.{Outcome}
-use Rattle.network_steps.specs.NetworkRuns.{Move}
+use Rattle.network_steps.specs.NetworkRuns.{IsResting, Move}
+use Rattle.network_steps.specs.StepsView.{StepsView}
+use Rattle.network_steps.specs.declared.came.Phase.{Phase}
+use Rattle.network_steps.specs.declared.came.Waiting.{Waiting}
 use Rattle.network_steps.specs.declared.input.NetworkInput.{NetworkInput}
 use Rattle.network_run.specs.NetworkRunText.{AwaitsNone, IsTooMuch}
 use Rattle.network_run.specs.declared.fault.RunFault.{RunFault}
@@ -64,30 +66,21 @@ abbrev pub ComesFromOutside : NetworkInput → Type 0
 ComesFromOutside (NetworkInput.Tick ticks) = ⊤
 ComesFromOutside (NetworkInput.ForMote number input) = IsFromOutside input
 
-abbrev pub is_turn_step : Outcome → Bool
-is_turn_step (Outcome.Turn m) = true
-is_turn_step (Outcome.Started m) = false
-is_turn_step (Outcome.Made m) = false
-is_turn_step (Outcome.Rested m) = false
-is_turn_step (Outcome.Stopped m) = false
-is_turn_step (Outcome.Woken m) = false
-is_turn_step (Outcome.Heard m) = false
-is_turn_step (Outcome.Missed from to) = false
-is_turn_step Outcome.Passed = false
-is_turn_step Outcome.Rest = false
-is_turn_step Outcome.Exhausted = false
+-- an input waits for a mote that has got the time, or got it before the network rested
+abbrev pub IsCaughtAtRest : ℕ → NetworkView → Type 0
+IsCaughtAtRest m net = IsCaught m net ⊎ (IsResting net × IsOnTime m net)
 
--- a turn, whose call is awaited
-abbrev pub is_turn : Move → Bool
-is_turn (Move.Step outcome new) = is_turn_step outcome
-is_turn (Move.Submit call new) = false
-is_turn (Move.Tick ticks new) = false
-is_turn (Move.Tell m new) = false
-is_turn (Move.Hand m input new) = false
-is_turn (Move.Miss m input new) = false
+pub record IsFit (w : Waiting) (net : NetworkView) : Type 0 where
+  pub there : w.mote < length net.motes
+  pub outside : IsFromOutside w.input
+  pub caught : IsCaughtAtRest w.mote net
 
--- whether these end with a turn, so that its call wasn't made
-abbrev pub ends_open : List Move → Bool
-ends_open [] = false
-ends_open (move ∷ []) = is_turn move
-ends_open (move ∷ next ∷ moves) = ends_open (next ∷ moves)
+abbrev pub IsFitIf : Option Waiting → NetworkView → Type 0
+IsFitIf None net = ⊤
+IsFitIf (Some waiting) net = IsFit waiting net
+
+-- nothing is left to be reported, and work may go on
+pub record IsUnderWay (s : StepsView) : Type 0 where
+  pub works : s.phase ≡ Phase.Working
+  pub reported : s.sending ≡ None
+  pub fit : IsReady s.net → IsFitIf s.waiting s.net

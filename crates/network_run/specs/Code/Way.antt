@@ -1,15 +1,20 @@
 -- The way of a run from one state to another.
-use Rattle.std.specs.Prelude.{◌≡◌, ⊤, ◌+◌, ◌⊎◌, ℕ, Bool, true, false, List, [], ◌∷◌, ◌++◌, Option, None, Some, Result, MatchResult, if◌then◌else◌}
+use Rattle.std.specs.Prelude.{◌≡◌, ⊤, ◌+◌, ◌⊎◌, ℕ, Bool, true, false, List, [], ◌∷◌, ◌++◌, map, Option, None, Some, Result, MatchResult, if◌then◌else◌}
 use Rattle.mote_text.specs.declared.script.End.{End}
 use Rattle.network_session.specs.Network.{NetworkView}
 use Rattle.network_run.specs.NetworkRunText.{CanEnd, IsSpent, Refuses}
 use Rattle.mote_session.specs.Voices.{Voices}
-use Rattle.network_run.specs.Code.Calls.{Speak}
-use Rattle.network_run.specs.Code.Ready.{IsRefusedOf, IsWithin, ends_open}
+use Rattle.network_steps.specs.Code.Calls.{Speak}
+use Rattle.network_steps.specs.Code.Turns.{ends_open}
+use Rattle.network_run.specs.Code.Ready.{IsRefusedOf, IsWithin}
 use Rattle.mote_text.specs.Code.Writing.{WritesOn}
 use Rattle.network_run.specs.Outside.{AreInTurn, IsFor, Outside, all_outside, givens}
 use Rattle.network_run.specs.declared.fault.RunFault.{RunFault}
 use Rattle.network_steps.specs.NetworkRuns.{IsResting, Leads, Move, moves_text}
+use Rattle.network_steps.specs.StepsView.{StepsView}
+use Rattle.network_steps.specs.Works.{inputs_waiting}
+use Rattle.network_steps.specs.declared.came.Phase.{Phase}
+use Rattle.network_steps.specs.declared.came.Waiting.{Waiting}
 use Rattle.network_steps.specs.declared.input.NetworkInput.{NetworkInput}
 
 -- the state of a run: what was written, pending output, the network, and what the applications say from now on
@@ -57,14 +62,21 @@ pub record Faulted (quiet : Bool) (outside : List Outside) (fault : RunFault) (f
   pub voices : Voices
   pub stopped : Stopped quiet outside left lost from (record to { voices = voices })
 
--- this came, unless there was a fault
-abbrev pub Goes : {T : Type 0} → Result T RunFault → Bool → List Outside → Moment → Moment → Type 0
-Goes result quiet outside from to = MatchResult result (λ _. Went quiet outside from to) (λ fault. Faulted quiet outside fault from to)
+-- nothing is left to do or to be reported, and no input waits
+pub record IsAtRest (s : StepsView) : Type 0 where
+  pub rests : IsResting s.net
+  pub phase : s.phase ≡ Phase.Resting
+  pub sending : s.sending ≡ None
+  pub waiting : s.waiting ≡ None
 
 -- the network rests; or it has used up its rounds
-abbrev pub RestsIf : Bool → NetworkView → Type 0
-RestsIf true net = IsResting net
-RestsIf false net = IsSpent net
+abbrev pub RestsIf : Bool → StepsView → Type 0
+RestsIf true s = IsAtRest s
+RestsIf false s = IsSpent s.net
+
+-- the input that waits comes later
+abbrev pub outside_waiting : Option Waiting → List Outside
+outside_waiting waiting = map Outside.Given (inputs_waiting waiting)
 
 -- this came, if the network rests; some may be left if it has used up its rounds
 pub record Takes (quiet : Bool) (outside : List Outside) (rests : Bool) (from to : Moment) : Type 0 where
@@ -76,14 +88,6 @@ abbrev pub TakesIf : Result Bool RunFault → Bool → List Outside → Moment �
 TakesIf result quiet outside from to =
     MatchResult result (λ rests. Takes quiet outside rests from to) (λ fault. Faulted quiet outside fault from to)
 
--- the time for mote m, or nothing
-abbrev pub IsTimeFor : ℕ → List Outside → Type 0
-IsTimeFor m times = (times ≡ []) ⊎ (times ≡ Outside.Time m ∷ [])
-
--- mote m gets the time, where it is behind
-abbrev pub TellsIf : Result Bool RunFault → Bool → ℕ → Moment → Moment → Type 0
-TellsIf result quiet m from to = (times : List Outside) × IsTimeFor m times × TakesIf result quiet times from to
-
 -- an input, and before it the time for its mote, or nothing
 abbrev pub IsWithTime : NetworkInput → List Outside → Type 0
 IsWithTime input outside = (times : List Outside) × (outside ≡ times ++ Outside.Given input ∷ [])
@@ -91,6 +95,11 @@ IsWithTime input outside = (times : List Outside) × (outside ≡ times ++ Outsi
 
 abbrev pub TakesInputIf : Result Bool RunFault → Bool → NetworkInput → Moment → Moment → Type 0
 TakesInputIf result quiet input from to = (outside : List Outside) × IsWithTime input outside × TakesIf result quiet outside from to
+
+-- an input was submitted, and waits, or the network refuses it
+abbrev pub SubmitsIf : {T : Type 0} → Result T RunFault → Bool → NetworkInput → Option Waiting → Moment → Moment → Type 0
+SubmitsIf result quiet input waiting from to = (outside : List Outside) × IsWithTime input outside
+    × MatchResult result (λ _. Stopped quiet outside (outside_waiting waiting) to.due from to) (λ fault. Faulted quiet outside fault from to)
 
 -- the sink's failure count before and after
 abbrev pub CountsFaults : {T : Type 0} → Result T RunFault → ℕ → ℕ → Type 0

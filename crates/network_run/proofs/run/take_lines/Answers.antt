@@ -7,4 +7,4 @@ loop-line-init g c = record { came = λ named. come_nowhere c.args.quiet _ _; sa
 
 pub returns-clause-runs : goal.returns-clause-runs
 returns-clause-runs g c = λ named.
-    ends_finished c.args.quiet _ c.loop-line.number c.loop-line.rest.now c.in_default.ensures.none (c.loop-line.invariant.came named) c.loop-line.invariant.rests
+    ends_finished c.args.quiet _ c.loop-line.number c.loop-line.rest.now c.in_default.ensures.none (c.loop-line.invariant.came named) c.loop-line.invariant.rests.rests

@@ -1,0 +1,7 @@
+use Rattle.network_steps.proofs.steps.NetworkSteps.step_by.Goals as goal
+
+pub returns-then-branch-clause-steps : goal.returns-then-branch-clause-steps
+returns-then-branch-clause-steps g c = rw c.came.ensures ((rw c.if-branch.true at c.in_ok-step_on-in-None.ensures.steps) _)
+
+pub returns-else-branch-clause-steps : goal.returns-else-branch-clause-steps
+returns-else-branch-clause-steps g c = (rw c.if-branch.false at c.in_ok-step_on-in-None.ensures.steps) _
