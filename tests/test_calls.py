@@ -97,7 +97,7 @@ def of_lists() -> Table:
 
 def of_line_forms() -> Table:
     """The words of calls in a transcript that is read, by the definition."""
-    text = source("crates/picture_facts/specs/Transcript/Turns.antt").partition("after the name of a call")[2].partition("---- a turn")[0]
+    text = source("crates/pictures/specs/Transcript/Turns.antt").partition("after the name of a call")[2].partition("---- a turn")[0]
     found: Table = {}
     for names, told in re.findall(r'if ((?:is_one_of|bytes_eq)[^=]*?)\s+then Some (.*)', text):
         forms = {"[]": "", "number": "n", "numbers": "nn"}.get(told)
@@ -109,7 +109,7 @@ def of_line_forms() -> Table:
 
 
 def of_lines() -> Table:
-    text = source("crates/picture_facts/src/transcript/turn.rt").partition("fn is_plain_call")[2].partition("fn is_call")[0]
+    text = source("crates/pictures/src/transcript/turn.rt").partition("fn is_plain_call")[2].partition("fn is_call")[0]
     found: Table = {}
     for names, told in re.findall(r'^        ("[^=]*?) =>\s*\{?\s*have_forms\(\s*rest,\s*&\[(.*?)\],?\s*\)', text, re.M | re.S):
         several = re.fullmatch(r"Form::Number; (\d)", told)
@@ -142,8 +142,8 @@ TABLES: dict[str, tuple[Callable[[], Table], Table]] = {
     "mote_text/src/calls.rt": (of_entry_words, LETTERS),
     "call_lists/specs/Code/Readings.antt": (of_list_readings, LETTERS),
     "call_lists/src/calls.rt": (of_lists, LETTERS),
-    "picture_facts/specs/Transcript/Turns.antt": (of_line_forms, NUMBERS),
-    "picture_facts/src/transcript/turn.rt": (of_lines, NUMBERS),
+    "pictures/specs/Transcript/Turns.antt": (of_line_forms, NUMBERS),
+    "pictures/src/transcript/turn.rt": (of_lines, NUMBERS),
     "library_core/specs/Calls.antt": (of_plain_calls, LETTERS),
     "tests/c/steps.h": (of_steps, LETTERS),
 }

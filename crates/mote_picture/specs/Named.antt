@@ -5,7 +5,7 @@ use Rattle.command_line.specs.CommandLine.{names_of, sizes_of}
 use Rattle.command_line.specs.declared.failure.Failure.{Failure}
 use Rattle.node_memory.specs.Sizes.{are_sizes}
 use Rattle.node_memory.specs.declared.sizes.Sizes.{Sizes as MemorySizes}
-use Rattle.picture_facts.specs.declared.memory.Sizes.{Sizes}
+use Rattle.pictures.specs.declared.memory.Sizes.{Sizes}
 use Rattle.mote_picture.specs.declared.named.Named.{Named}
 use Rattle.mote_picture.specs.declared.undrawn.Undrawn.{Undrawn}
 

@@ -1,9 +1,9 @@
 -- The lines of a transcript that comes as bytes.
 use Rattle.std.specs.Prelude.{◌≡◌, ℕ, ◌-◌, ◌<◌, true, List, [], length, take, slice_index, All, if◌then◌else◌, ◌==◌}
 use Rattle.std.specs.List.{slice_split}
-use Rattle.picture_facts.specs.Transcript.Forms.{is_line}
-use Rattle.picture_facts.specs.Transcript.Lines.{line_text}
-use Rattle.picture_facts.specs.declared.transcript.line.Line.{Line}
+use Rattle.pictures.specs.Transcript.Forms.{is_line}
+use Rattle.pictures.specs.Transcript.Lines.{line_text}
+use Rattle.pictures.specs.declared.transcript.line.Line.{Line}
 use Rattle.mote_picture.specs.Statuses.{out_of_memory}
 use Rattle.mote_picture.specs.declared.undrawn.Undrawn.{Undrawn}
 

@@ -20,8 +20,8 @@ use command_line::{Failure, exit_code, finish, texts_of, words_of};
 use named::{Form, Named, read_words, title_of};
 use options::PROGRAM;
 use page::page_of;
-use picture_facts::transcript::is_quiet;
-use picture_svg::{Settings, draw};
+use pictures::svg::{Settings, draw};
+use pictures::transcript::is_quiet;
 use reading::lines_of;
 use std::alloc::{AllocError, Global};
 use std::env::Env;
@@ -61,13 +61,13 @@ fn dumped(alloc: Global, lines: &[&str], named: &Named<'_>) -> Result<Vec<u8>, U
     if is_quiet(lines) {
         return Err(Undrawn::Quiet);
     }
-    let settings = picture_facts::dump::Settings {
+    let settings = pictures::dump::Settings {
         names: named.names.as_slice(),
         from: named.from,
         to: named.to,
         sizes: named.sizes,
     };
-    Ok(picture_facts::dump::wave_of(alloc, lines, &settings)?)
+    Ok(pictures::dump::wave_of(alloc, lines, &settings)?)
 }
 
 /// What is asked for of a transcript.

@@ -12,7 +12,7 @@ use crate::options::parse;
 use crate::undrawn::Undrawn;
 use clap::ArgMatches;
 use command_line::{Failure, MOST_APPLICATIONS, sizes_in};
-use picture_svg::Sizes;
+use pictures::memory::Sizes;
 use std::alloc::{AllocError, Global};
 
 /// What is written of a run.

@@ -1,7 +1,7 @@
 //! Draws the run of a network: a script and a transcript come from standard input, one SVG or capture goes to standard output.
 //!
 //! The contracts here promise that the program is safe and that it ends, and that a picture is a well-formed document. What a line says,
-//! and each byte of a capture, is promised by `picture_facts`. How a script's links are read, what frames are called, and where a picture
+//! and each byte of a capture, is promised by `pictures`. How a script's links are read, what frames are called, and where a picture
 //! has what, is only tested.
 
 mod chart;
@@ -25,8 +25,8 @@ use crate::streams::{read_all, write_all};
 use chart::chart_of;
 use command_line::{Failure, exit_code, finish, texts_of, words_of};
 use options::{PROGRAM, Wish, wish_of};
-use picture_facts::network::{NetworkLine, capture_of};
-use picture_facts::transcript::is_quiet;
+use pictures::network::{NetworkLine, capture_of};
+use pictures::transcript::is_quiet;
 use reading::{Run, read_run};
 use std::alloc::{AllocError, Global};
 use std::env::Env;

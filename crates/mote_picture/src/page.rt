@@ -14,7 +14,7 @@ mod words;
 use crate::named::Named;
 use data::Data;
 use members::rest_of;
-use picture_facts::rows::shown_of;
+use pictures::rows::shown_of;
 use std::alloc::{AllocError, Global};
 use template::markup::{BODY, END, FOOT, HEAD};
 use template::script::SCRIPT;

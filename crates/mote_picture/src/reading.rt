@@ -2,12 +2,12 @@
 
 ghost use Rattle.std.specs.Prelude.{◌≡◌, ◌==◌, All, IfOk, IfErr, IfSome};
 ghost use Rattle.std.specs.List.{slice_split};
-ghost use Rattle.picture_facts.specs.Rows.{bytes_of};
+ghost use Rattle.pictures.specs.Rows.{bytes_of};
 ghost use Rattle.mote_picture.specs.Reading as spec;
 ghost use Rattle.mote_picture.specs.Reading.{IsLine, IsUnread};
 
 use crate::undrawn::Undrawn;
-use picture_facts::transcript::read_line;
+use pictures::transcript::read_line;
 use std::alloc::{AllocError, Global};
 use std::str;
 

@@ -12,8 +12,8 @@ use crate::{network, rule};
 use call_lists::number_of;
 use mote_types::event::MOST_APPLICATIONS;
 use node_memory::Sizes;
-use picture_facts::network::read_network_line;
-use picture_facts::transcript::line::read_line;
+use pictures::network::read_network_line;
+use pictures::transcript::line::read_line;
 use std::alloc::{AllocError, Global};
 
 /// How often a line may be repeated.

@@ -1,7 +1,7 @@
 //! The chart of a run: a lane for each mote, time downwards, and an arrow from each frame that was sent to each mote that heard it.
 
 ghost use Rattle.std.specs.Prelude.{◌≡◌, IfOk};
-ghost use Rattle.picture_svg.specs.Markup.{IsDocument};
+ghost use Rattle.pictures.specs.Svg.Markup.{IsDocument};
 
 use crate::network::flying::{draw_flights, draw_outside};
 use crate::network::frames::Frames;
@@ -12,10 +12,10 @@ use crate::network::reading::Run;
 use crate::network::rows::{MOST_ROWS, Row, Rows};
 use crate::network::style::STYLE;
 use crate::network::words::{Words, clipped, lane_of, length_of, words_of};
-use picture_facts::network::{Fate, Flights, Link, NetworkLine, flights_of};
-use picture_facts::transcript::{Line, Note};
-use picture_svg::markup::{Attribute, Content, Element, Tag};
-use picture_svg::page::pen::{Area, Pen, Point};
+use pictures::network::{Fate, Flights, Link, NetworkLine, flights_of};
+use pictures::svg::markup::{Attribute, Content, Element, Tag};
+use pictures::svg::page::pen::{Area, Pen, Point};
+use pictures::transcript::{Line, Note};
 use std::alloc::{AllocError, Global};
 
 /// The left of the head.

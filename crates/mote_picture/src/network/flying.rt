@@ -3,8 +3,8 @@
 use crate::network::frames::Frames;
 use crate::network::layout::{Layout, ROW};
 use crate::network::rows::Rows;
-use picture_facts::network::{Fate, Flight, NetworkLine};
-use picture_svg::page::pen::Pen;
+use pictures::network::{Fate, Flight, NetworkLine};
+use pictures::svg::page::pen::Pen;
 use std::alloc::AllocError;
 
 /// What a flight is called.

@@ -3,9 +3,9 @@
 use crate::network::lowpan::data_name;
 use crate::network::packet::Message;
 use crate::network::radio_header::{Address, read_header};
-use picture_facts::network::NetworkLine;
-use picture_facts::transcript::{Line, Note};
-use picture_facts::words::bytes_in;
+use pictures::network::NetworkLine;
+use pictures::transcript::{Line, Note};
+use pictures::words::bytes_in;
 use std::alloc::{AllocError, Global};
 
 /// A fragment of a packet.

@@ -2,7 +2,7 @@
 
 use crate::network::undrawn::Undrawn;
 use mote_text::script::read_number;
-use picture_facts::network::Link;
+use pictures::network::Link;
 use std::alloc::{AllocError, Global};
 use std::str;
 

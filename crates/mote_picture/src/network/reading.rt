@@ -4,7 +4,7 @@ use crate::network::links::{is_of_script, read_links};
 use crate::network::names::{Name, read_names};
 use crate::network::undrawn::Undrawn;
 use crate::reading::parts_of;
-use picture_facts::network::{Link, NetworkLine, read_network_line};
+use pictures::network::{Link, NetworkLine, read_network_line};
 use std::alloc::Global;
 use std::str;
 

@@ -3,8 +3,8 @@
 use crate::network::layout::MOST_LANES;
 use crate::network::options::Wish;
 use crate::network::words::lane_of;
-use picture_facts::network::NetworkLine;
-use picture_facts::transcript::{Input, Line, Origin, Turn};
+use pictures::network::NetworkLine;
+use pictures::transcript::{Input, Line, Origin, Turn};
 use std::alloc::{AllocError, Global};
 
 /// The most rows that a chart has. Of a longer run the first half and the last half of these are shown.

@@ -1,7 +1,7 @@
 //! Why the program writes nothing.
 
 use command_line::Failure;
-use picture_facts::network::CaptureFault;
+use pictures::network::CaptureFault;
 use std::alloc::{AllocError, AllocFailed};
 use std::fmt;
 

@@ -1,9 +1,9 @@
 //! The short words of a row.
 
 use crate::network::frames::Frames;
-use picture_facts::network::NetworkLine;
-use picture_facts::transcript::{Ending, Input, Line, Note, Origin, Turn};
-use picture_facts::words::{push_call, push_ending, push_input, push_note, push_stimulus};
+use pictures::network::NetworkLine;
+use pictures::transcript::{Ending, Input, Line, Note, Origin, Turn};
+use pictures::words::{push_call, push_ending, push_input, push_note, push_stimulus};
 use std::alloc::{AllocError, Global};
 
 /// The words of a row, and the mote beside whose lane they are; no mote for the end of the run.

@@ -4,11 +4,11 @@
 use crate::named::Named;
 use crate::page::data::Data;
 use crate::page::words::{answer_in, push_line};
-use picture_facts::facts::{Facts, facts_of};
-use picture_facts::marks::Marks;
-use picture_facts::memory::Stay;
-use picture_facts::rows::Shown;
-use picture_facts::transcript::is_quiet;
+use pictures::facts::{Facts, facts_of};
+use pictures::marks::Marks;
+use pictures::memory::Stay;
+use pictures::rows::Shown;
+use pictures::transcript::is_quiet;
 use std::alloc::{AllocError, Global};
 
 /// Appends the name of a member.

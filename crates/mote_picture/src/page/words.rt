@@ -1,9 +1,7 @@
 //! What a line says, in the words that a picture has for it.
 
-use picture_facts::transcript::{Line, Origin, Turn, read_line};
-use picture_facts::words::{
-    push_answer, push_call, push_ending, push_input, push_note, push_stimulus,
-};
+use pictures::transcript::{Line, Origin, Turn, read_line};
+use pictures::words::{push_answer, push_call, push_ending, push_input, push_note, push_stimulus};
 use std::alloc::{AllocError, Global};
 
 /// Appends what a process received, its call, and the reply to it, with a tab between each two.

@@ -1,5 +1,5 @@
 use Rattle.std.proofs.Common.{◌≡◌, ◌∙◌, All, IfOk, ap, subst}
-use Rattle.picture_facts.specs.Rows.{bytes_of}
+use Rattle.pictures.specs.Rows.{bytes_of}
 use Rattle.mote_picture.specs.Reading.{IsLine, parts_of}
 use Rattle.mote_picture.proofs.reading.lines_of.Goals as goal
 

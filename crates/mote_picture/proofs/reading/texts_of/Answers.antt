@@ -2,7 +2,7 @@ use Rattle.std.proofs.Common.{◌≡◌, ◌∙◌, ◌<◌, ◌+◌, ◌-◌, �
 use Rattle.std.proofs.lemmas.List.{length-map, map-append, take_all, take_more}
 use Rattle.std.proofs.lemmas.List.Elements.{All-more}
 use Rattle.std.specs.Borrow.{Bor}
-use Rattle.picture_facts.specs.Rows.{bytes_of}
+use Rattle.pictures.specs.Rows.{bytes_of}
 use Rattle.mote_picture.specs.Reading.{IsLine}
 use Rattle.mote_picture.proofs.reading.texts_of.Goals as goal
 

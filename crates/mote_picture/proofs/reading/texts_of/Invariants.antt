@@ -1,5 +1,5 @@
 use Rattle.std.proofs.Common.{◌≡◌, All, take}
-use Rattle.picture_facts.specs.Rows.{bytes_of}
+use Rattle.pictures.specs.Rows.{bytes_of}
 use Rattle.mote_picture.specs.Reading.{IsLine}
 use Rattle.mote_picture.proofs.reading.texts_of.Given as goal
 

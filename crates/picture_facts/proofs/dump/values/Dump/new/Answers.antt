@@ -1,5 +1,0 @@
-use Rattle.picture_facts.specs.Dump.AreChanges.{begun}
-use Rattle.picture_facts.proofs.dump.values.Dump.new.Goals as goal
-
-pub invariant_of-result : goal.invariant_of-result
-invariant_of-result c = rw (c.in_ok-push_time.ensures, c.new-bytes.ensures.items) (begun c.args.time)

@@ -1,5 +1,0 @@
-use Rattle.picture_svg.specs.Markup.HaveText.{none}
-use Rattle.picture_svg.proofs.markup.Element.new.Goals as goal
-
-pub invariant_of-result : goal.invariant_of-result
-invariant_of-result c = rw (c.new.ensures.items, c.new-2.ensures.items) none

@@ -1,8 +1,0 @@
-use Rattle.std.proofs.Common.{rules}
-use Rattle.picture_svg.specs.Markup.HaveText.{one_more}
-use Rattle.picture_svg.proofs.markup.Element.with.Goals as goal
-
-pub invariant_of-result : goal.invariant_of-result
-invariant_of-result c =
-    rw (c.in_ok-push_attribute.ensures, c.in_ok-push.ensures.items)
-    (one_more c.self.invariant c.args.attribute c.as_bytes.result.now (search rules))

@@ -1,6 +1,0 @@
-use Rattle.std.proofs.Common.{◌≡◌, take}
-use Rattle.picture_svg.specs.Columns.{furthest}
-use Rattle.picture_svg.proofs.page.memory_columns.furthest.Given as goal
-
-abbrev pub invariant-loop-stay : goal.invariant-loop-stay
-invariant-loop-stay l = l.reach ≡ furthest (take l.stay-index l.stays)

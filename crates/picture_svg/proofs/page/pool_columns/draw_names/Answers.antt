@@ -1,8 +1,0 @@
-use Rattle.std.proofs.Common.{◌<◌, append_assoc, refl}
-use Rattle.picture_svg.proofs.Numbers.{texts_more}
-use Rattle.picture_svg.proofs.page.pool_columns.draw_names.Goals as goal
-
-pub loop-pool-preserved : goal.loop-pool-preserved
-loop-pool-preserved c =
-    let there : c.loop-pool.pool < 4 = c.loop-pool-test.true in
-    rw (c.in_ok-draw_column.ensures, c.loop-pool.invariant, texts_more, append_assoc) refl

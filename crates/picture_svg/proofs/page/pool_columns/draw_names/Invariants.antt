@@ -1,6 +1,0 @@
-use Rattle.std.proofs.Common.{◌≡◌, ◌++◌, take, flat_map}
-use Rattle.picture_svg.specs.Pools.{numbers, column_text}
-use Rattle.picture_svg.proofs.page.pool_columns.draw_names.Given as goal
-
-abbrev pub invariant-loop-pool : goal.invariant-loop-pool
-invariant-loop-pool l = l.pen.content ≡ l.initial.pen.content ++ flat_map (column_text l.page l.pools) (take l.pool numbers)

@@ -1,6 +1,0 @@
-use Rattle.std.proofs.Common.{◌≡◌, take}
-use Rattle.picture_svg.specs.Pools.{is_used}
-use Rattle.picture_svg.proofs.page.pool_columns.is_used.Given as goal
-
-abbrev pub invariant-loop-stay : goal.invariant-loop-stay
-invariant-loop-stay l = l.is_found ≡ is_used (take l.stay-index l.used) l.pool

@@ -1,0 +1,6 @@
+use Rattle.std.proofs.Common.{append_assoc}
+use Rattle.std.proofs.lemmas.Result.{IfOk-weaker}
+use Rattle.pictures.proofs.svg.page.memory_columns.heap_position.Goals as goal
+
+pub returns : goal.returns
+returns c = IfOk-weaker c.format.result _ _ (λ title is. simp append_assoc is) c.format.ensures.ok

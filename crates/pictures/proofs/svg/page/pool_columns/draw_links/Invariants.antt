@@ -1,0 +1,6 @@
+use Rattle.std.proofs.Common.{◌≡◌, ◌++◌, take, flat_map}
+use Rattle.pictures.specs.Svg.Pools.{linked_mark}
+use Rattle.pictures.proofs.svg.page.pool_columns.draw_links.Given as goal
+
+abbrev pub invariant-loop-stay : goal.invariant-loop-stay
+invariant-loop-stay l = l.pen.content ≡ l.initial.pen.content ++ flat_map (linked_mark l.page l.pools) (take l.stay-index l.linked)

@@ -1,0 +1,15 @@
+pub mod Ascending
+pub mod Chains
+pub mod Clocks
+pub mod Code
+pub mod Dump
+pub mod Levels
+pub mod Lists
+pub mod Network
+pub mod Posts
+pub mod Room
+pub mod Rows
+pub mod Spans
+pub mod Svg
+pub mod Transcript
+pub mod Words

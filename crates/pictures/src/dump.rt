@@ -1,0 +1,211 @@
+//! All that holds at the lines of a run as a value change dump (IEEE 1364, clause 18), for the viewers of logic analysers.
+
+ghost use Rattle.std.specs.Prelude.{◌≡◌, ℕ, ◌++◌, codes, string_bytes, IfOk};
+ghost use Rattle.pictures.specs.Dump.{AreChanges, IsDump};
+
+mod changes;
+mod declarations;
+mod levels;
+mod signal;
+pub mod values;
+
+use crate::facts::{Facts, facts_of};
+use crate::memory::Sizes;
+use crate::rows::{Shown, shown_of};
+use changes::{Change, changes_of};
+use declarations::{Scale, declarations};
+use levels::Levels;
+use signal::{COMMON, FIRST, SIGNALS, Signal};
+use std::alloc::{AllocError, Global};
+use values::{Dump, Value};
+
+/// What a dump shows of a run besides its transcript.
+#[derive(Clone, Copy)]
+pub struct Settings<'a> {
+    /// The names of processes 4, 5, ..; those after them have none.
+    pub names: &'a [&'a str],
+    /// The clock at the first line in the dump, in ticks.
+    pub from: u64,
+    /// The clock at the last line in the dump.
+    pub to: u64,
+    /// The sizes of the mote's memory.
+    pub sizes: Sizes,
+}
+
+/// The clocks of the lines in the dump.
+fn clocks_of(facts: &Facts, shown: Shown) -> &[u64] {
+    let clocks = facts.marks.clocks.as_slice();
+    let end = shown.end.min(clocks.len());
+    let first = shown.first.min(end);
+    &clocks[first..end]
+}
+
+/// The largest number of lines at one clock.
+fn most_at_once(clocks: &[u64]) -> u64 {
+    let mut most: u64 = 0;
+    let mut count: u64 = 0;
+    let mut before = None;
+    for clock in clocks {
+        count = if before == Some(*clock) {
+            count.saturating_add(1)
+        } else {
+            1
+        };
+        most = most.max(count);
+        before = Some(*clock);
+    }
+    most
+}
+
+/// A walk over the lines.
+#[derive(Drop)]
+struct Walk {
+    levels: Levels,
+    dump: Dump,
+    /// The values in the dump.
+    written: [Option<Value>; SIGNALS],
+    applications: usize,
+    scale: Scale,
+    clock: u64,
+    /// The number of lines at this clock so far.
+    lines_at_clock: u64,
+}
+
+impl Walk {
+    /// Writes the value of the signal at a position among all, where it has changed.
+    fn write(&mut self, index: usize) -> Result<(), AllocError> {
+        let value = self.levels.value(Signal::at(index));
+        let Some(written) = self.written.get_mut(index) else {
+            return Ok(());
+        };
+        if *written == Some(value) {
+            return Ok(());
+        }
+        *written = Some(value);
+        let time = self.clock.saturating_mul(self.scale.units);
+        self.dump.go_to(time.saturating_add(self.lines_at_clock))?;
+        self.dump.set(index as u8, value)
+    }
+
+    /// Writes the values that have changed at the present time.
+    fn write_all(&mut self) -> Result<(), AllocError> {
+        for index in 0..self.applications.saturating_add(COMMON) {
+            self.write(index)?;
+        }
+        Ok(())
+    }
+
+    /// No line is left at this clock.
+    fn rest(&mut self) -> Result<(), AllocError> {
+        self.levels.rest();
+        self.write_all()
+    }
+
+    /// A line at a clock, after these changes.
+    fn take_line(&mut self, line: &str, clock: u64) -> Result<(), AllocError> {
+        if clock != self.clock {
+            self.rest()?;
+            self.clock = clock;
+            self.lines_at_clock = 0;
+        }
+        self.levels.take_line(line);
+        self.write_all()?;
+        self.lines_at_clock = self.lines_at_clock.saturating_add(1);
+        Ok(())
+    }
+
+    /// The last clock passes.
+    fn finish(&mut self) -> Result<(), AllocError> {
+        self.rest()?;
+        let end = self.clock.saturating_add(1);
+        self.dump.go_to(end.saturating_mul(self.scale.units))
+    }
+}
+
+/// The changes at a line or before it, and the others.
+fn parted(changes: &[Change], line: usize) -> (&[Change], &[Change]) {
+    let mut count: usize = 0;
+    for change in changes {
+        if change.line > line {
+            break;
+        }
+        count = count.saturating_add(1);
+    }
+    changes.split_at(count.min(changes.len()))
+}
+
+/// Walks over the lines in the dump, by the changes from line to line.
+fn walk_over(
+    walk: &mut Walk,
+    lines: &[&str],
+    shown: Shown,
+    clocks: &[u64],
+    changes: &[Change],
+) -> Result<(), AllocError> {
+    let mut left = changes;
+    for index in 0..lines.len().min(clocks.len()) {
+        let (due, later) = parted(left, index.saturating_add(shown.first));
+        walk.levels.apply_all(due);
+        left = later;
+        walk.take_line(lines[index], clocks[index])?;
+    }
+    walk.finish()
+}
+
+/// The declarations and the values as one text.
+fn whole(declarations: String, dump: &Dump) -> Result<Vec<u8>, AllocError>
+    ensures { IfOk result (λ bytes. bytes.items ≡ string_bytes declarations ++ codes "$enddefinitions $end\n" ++ dump.now) }
+{
+    let mut bytes = declarations.into_bytes();
+    bytes.extend_from_slice(b"$enddefinitions $end\n")?;
+    bytes.extend_from_slice(dump.bytes())?;
+    Ok(bytes)
+}
+
+/// The dump of a run with these facts.
+fn dump_of(
+    alloc: Global,
+    lines: &[&str],
+    settings: &Settings<'_>,
+    facts: &Facts,
+) -> Result<Vec<u8>, AllocError>
+    ensures { IfOk result (λ bytes. IsDump bytes.items) }
+{
+    let shown = shown_of(lines, settings.from, settings.to);
+    let clocks = clocks_of(facts, shown);
+    let clock = clocks.first().copied().unwrap_or(0);
+    let scale = Scale::of(most_at_once(clocks));
+    let applications = facts.marks.processes.saturating_sub(FIRST);
+    let applications = applications.max(settings.names.len()).min(16);
+    let changes = changes_of(alloc, facts)?;
+    let mut walk = Walk {
+        levels: Levels::new(settings.sizes),
+        dump: Dump::new(alloc, clock.saturating_mul(scale.units))?,
+        written: [None; SIGNALS],
+        applications,
+        scale,
+        clock,
+        lines_at_clock: 0,
+    };
+    let lines = &lines[shown.first..shown.end];
+    walk_over(&mut walk, lines, shown, clocks, changes.as_slice())?;
+    walk.dump.goes_on();
+    let head = declarations(alloc, scale, settings.names, applications)?;
+    whole(head, &walk.dump)
+}
+
+/// The dump of a run, from the lines of its transcript: declarations, and values at times that never go back.
+///
+/// # Errors
+///
+/// `AllocError` where memory was refused.
+pub fn wave_of(
+    alloc: Global,
+    lines: &[&str],
+    settings: &Settings<'_>,
+) -> Result<Vec<u8>, AllocError>
+    ensures { IfOk result (λ bytes. IsDump bytes.items) }
+{
+    let facts = facts_of(alloc, lines, settings.sizes)?;
+    dump_of(alloc, lines, settings, &facts)
+}
