@@ -52,8 +52,8 @@ module _ (rows : ℕ) (marks : Marks) (are : AreMarks rows marks) where
   no_linked one = let later : 3 < 3 = rw one at are.stays.linked 0 ended (omega arith) in absurd (omega arith)
 
   -- each row has its reply and its lateness
-  for_each_row : marks.answers.items ≡ [] → rows ≡ 0
-  for_each_row none = sym are.answers ∙ ap length none
+  for_each_row : marks.replies.items ≡ [] → rows ≡ 0
+  for_each_row none = sym are.replies ∙ ap length none
 
   late_in_each_row : marks.lateness.items ≡ [] → rows ≡ 0
   late_in_each_row none = sym are.lateness ∙ ap length none

@@ -3,7 +3,7 @@ use Rattle.std.proofs.Common.{◌≡◌, ◌++◌, [], ◌∷◌, codes, refl}
 use Rattle.std.specs.Fmt.{digits}
 use Rattle.pictures.specs.declared.transcript.line.Note.{Note}
 use Rattle.pictures.specs.declared.transcript.turn.Origin.{Origin}
-use Rattle.pictures.specs.Words.{answer_words, closing, cross, dots, last_words, line_end, note_words, opening, reason, space, shown_bytes, stimulus_by, event_stimulus}
+use Rattle.pictures.specs.Words.{reply_words, closing, cross, dots, last_words, line_end, note_words, opening, reason, space, shown_bytes, stimulus_by, event_stimulus}
 
 queue_full : reason (codes "1") ≡ codes "queue full"
 queue_full = refl
@@ -39,19 +39,19 @@ a_timer = refl
 a_number : event_stimulus (codes "140 7") ≡ codes "event 140 7"
 a_number = refl
 
-an_answer : stimulus_by Origin.Answer (codes "done") ≡ []
-an_answer = refl
+a_reply : stimulus_by Origin.Answer (codes "done") ≡ []
+a_reply = refl
 
 a_callback : stimulus_by Origin.Callback (codes "2") ≡ codes "callback 2"
 a_callback = refl
 
-refused : answer_words (codes "refused 12") ≡ space ++ space ++ cross ++ codes " no room (12)"
+refused : reply_words (codes "refused 12") ≡ space ++ space ++ cross ++ codes " no room (12)"
 refused = refl
 
-done : answer_words (codes "done") ≡ []
+done : reply_words (codes "done") ≡ []
 done = refl
 
-a_value : answer_words (codes "num 44") ≡ space ++ space ++ codes "=" ++ space ++ codes "44"
+a_value : reply_words (codes "num 44") ≡ space ++ space ++ codes "=" ++ space ++ codes "44"
 a_value = refl
 
 its_last : last_words (codes "timer-set") (codes "10") ≡ codes " 10"

@@ -23,10 +23,10 @@ changed (ListChange.Remove block) blocks = without block blocks
 
 -- what a call changes, by its word, its first number after the list's and its last one, and the number in its reply
 abbrev pub change_by : List ℕ → ℕ → ℕ → ℕ → Option ListChange
-change_by word first last answer =
+change_by word first last reply =
     if bytes_eq word (codes "list-add") then Some (ListChange.Append last)
     else if bytes_eq word (codes "list-push") then Some (ListChange.Prepend last)
     else if bytes_eq word (codes "list-insert") then Some (ListChange.InsertAfter first last)
     else if bytes_eq word (codes "list-remove") then Some (ListChange.Remove last)
-    else if bytes_eq word (codes "list-pop") || bytes_eq word (codes "list-chop") then Some (ListChange.Remove answer)
+    else if bytes_eq word (codes "list-pop") || bytes_eq word (codes "list-chop") then Some (ListChange.Remove reply)
     else None

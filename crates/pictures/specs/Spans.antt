@@ -30,7 +30,7 @@ pub record AllEndLater (stays : Stays) : Type 0 where
 
 -- for each row a reply, if there is one, and a lateness; what leads on from a row ends in a later one
 pub record AreMarks (rows : ℕ) (marks : Marks) : Type 0 where
-  pub answers : length marks.answers.items ≡ rows
+  pub replies : length marks.replies.items ≡ rows
   pub lateness : length marks.lateness.items ≡ rows
   pub curves : All IsReceivedLater marks.curves.items
   pub armings : All ArmingEndsLater marks.armings.items

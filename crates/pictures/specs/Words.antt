@@ -156,16 +156,16 @@ reason number =
 abbrev pub value_words : List ℕ → List ℕ → List ℕ
 value_words kind value = space ++ space ++ codes "=" ++ space ++ (if bytes_eq kind (codes "bytes") then bytes_words value else value)
 
-abbrev pub answer_by : List ℕ → Option (List ℕ) → List ℕ
-answer_by answer (Some number) = space ++ space ++ cross ++ codes " " ++ reason number ++ codes " (" ++ number ++ codes ")"
-answer_by answer None =
-    if nat_lt (position_or_len is_space answer) (length answer)
-    then value_words (before_first is_space answer) (after_first is_space answer)
+abbrev pub reply_by : List ℕ → Option (List ℕ) → List ℕ
+reply_by reply (Some number) = space ++ space ++ cross ++ codes " " ++ reason number ++ codes " (" ++ number ++ codes ")"
+reply_by reply None =
+    if nat_lt (position_or_len is_space reply) (length reply)
+    then value_words (before_first is_space reply) (after_first is_space reply)
     else []
 
 -- after its call: a refusal by its reason, a value, and nothing where the call was done
-abbrev pub answer_words : List ℕ → List ℕ
-answer_words answer = answer_by answer (after_prefix (codes "refused ") answer)
+abbrev pub reply_words : List ℕ → List ℕ
+reply_words reply = reply_by reply (after_prefix (codes "refused ") reply)
 
 -- ---- calls
 

@@ -78,8 +78,8 @@ fn take_line<'a>(
         Some(Line::Input(_)) => queue.take_input(number),
         Some(Line::Turn(turn)) => {
             queue.take_turn(&turn, number)?;
-            let answer = marks.answers.as_slice().get(number).copied();
-            if let Some(call) = accepted_call(lines, &turn, answer.unwrap_or(None)) {
+            let reply = marks.replies.as_slice().get(number).copied();
+            if let Some(call) = accepted_call(lines, &turn, reply.unwrap_or(None)) {
                 queue.carry_out(&call, number)?;
                 lists.carry_out(&call, number)?;
             }

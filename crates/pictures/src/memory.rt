@@ -30,10 +30,10 @@ pub struct Sizes {
 
 /// A process's call, its reply, and where the call is: its row, and the number of its line, from 0 on.
 #[derive(Clone, Copy)]
-pub(crate) struct Answered<'a> {
+pub(crate) struct RepliedCall<'a> {
     pub(crate) pid: usize,
     pub(crate) call: &'a str,
-    pub(crate) answer: &'a str,
+    pub(crate) reply: &'a str,
     pub(crate) row: usize,
     pub(crate) line: usize,
 }
@@ -86,7 +86,7 @@ impl Memory {
     }
 
     /// A call was accepted. Calls that are on no memory change nothing.
-    pub(crate) fn carry_out(&mut self, called: &Answered<'_>, asked: &Asked<'_>) {
+    pub(crate) fn carry_out(&mut self, called: &RepliedCall<'_>, asked: &Asked<'_>) {
         self.managed.carry_out(called, asked);
         if let Some(heap) = &mut self.heap {
             heap.carry_out(called, asked);
@@ -96,7 +96,7 @@ impl Memory {
     }
 
     /// A call was refused, which changes nothing.
-    pub(crate) fn refuse(&mut self, called: &Answered<'_>) {
+    pub(crate) fn refuse(&mut self, called: &RepliedCall<'_>) {
         let asked = asked_by(called.call);
         self.managed.refuse(called, &asked);
         if let Some(heap) = &mut self.heap {

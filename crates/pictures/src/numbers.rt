@@ -38,8 +38,8 @@ pub(crate) fn asked_by(call: &str) -> Asked<'_> {
 }
 
 /// The number that a reply is, or 0.
-pub(crate) fn number_in_reply(answer: &str) -> u64 {
-    number_of(answer.strip_prefix("num "))
+pub(crate) fn number_in_reply(reply: &str) -> u64 {
+    number_of(reply.strip_prefix("num "))
 }
 
 /// The bit of a process.

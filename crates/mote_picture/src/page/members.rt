@@ -3,7 +3,7 @@
 
 use crate::named::Named;
 use crate::page::data::Data;
-use crate::page::words::{answer_in, push_line};
+use crate::page::words::{push_line, reply_in};
 use pictures::facts::{Facts, facts_of};
 use pictures::marks::Marks;
 use pictures::memory::Stay;
@@ -83,11 +83,11 @@ impl Lists<'_> {
         push_list(out, "clocks", numbers.as_slice())
     }
 
-    /// For each line the line with the answer to its call.
-    fn push_answers(&self, out: &mut Data) -> Result<(), AllocError> {
-        let answers = self.marks().answers.as_slice();
-        let answers = answers.get(self.shown.first..self.shown.end);
-        push_list(out, "answers", answers.unwrap_or(&[]))
+    /// For each line the line with the reply to its call.
+    fn push_replies(&self, out: &mut Data) -> Result<(), AllocError> {
+        let replies = self.marks().replies.as_slice();
+        let replies = replies.get(self.shown.first..self.shown.end);
+        push_list(out, "answers", replies.unwrap_or(&[]))
     }
 
     /// Process, first and last line of each activation.
@@ -215,7 +215,7 @@ impl Lists<'_> {
         push_run(out, lines, self.shown, self.facts, title, named)?;
         push_words(self.alloc, out, lines, self.shown, self.marks())?;
         self.push_clocks(out)?;
-        self.push_answers(out)?;
+        self.push_replies(out)?;
         self.push_activations(out)?;
         self.push_lives(out)?;
         self.push_gifts(out)?;
@@ -275,10 +275,10 @@ fn push_run(
     push_list(out, "run", &numbers)
 }
 
-/// The answer to the call of a line, or nothing.
-fn answer_to<'a>(lines: &[&'a str], marks: &Marks, number: usize) -> &'a str {
-    match marks.answers.as_slice().get(number) {
-        Some(Some(answer)) => answer_in(lines.get(*answer)),
+/// The reply to the call of a line, or nothing.
+fn reply_to<'a>(lines: &[&'a str], marks: &Marks, number: usize) -> &'a str {
+    match marks.replies.as_slice().get(number) {
+        Some(Some(reply)) => reply_in(lines.get(*reply)),
         _ => "",
     }
 }
@@ -293,8 +293,8 @@ fn push_words(
 ) -> Result<(), AllocError> {
     let mut words = String::new(alloc);
     for number in shown.first..shown.end.min(lines.len()) {
-        let answer = answer_to(lines, marks, number);
-        push_line(alloc, &mut words, lines[number], answer)?;
+        let reply = reply_to(lines, marks, number);
+        push_line(alloc, &mut words, lines[number], reply)?;
         words.push_str("\n")?;
     }
     push_name(out, "words")?;

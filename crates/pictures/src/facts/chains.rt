@@ -45,15 +45,15 @@ pub(crate) struct Lists {
 }
 
 /// What a call changes, by its word, its first number after the list's and its last one, and the number in its reply.
-fn change_by(word: &str, first: u64, last: u64, answer: u64) -> Option<ListChange>
-    ensures { result ≡ spec.change_by word.now first last answer }
+fn change_by(word: &str, first: u64, last: u64, reply: u64) -> Option<ListChange>
+    ensures { result ≡ spec.change_by word.now first last reply }
 {
     match word {
         "list-add" => Some(ListChange::Append(last)),
         "list-push" => Some(ListChange::Prepend(last)),
         "list-insert" => Some(ListChange::InsertAfter(first, last)),
         "list-remove" => Some(ListChange::Remove(last)),
-        "list-pop" | "list-chop" => Some(ListChange::Remove(answer)),
+        "list-pop" | "list-chop" => Some(ListChange::Remove(reply)),
         _ => None,
     }
 }
@@ -111,10 +111,10 @@ fn carry_out(blocks: &mut Vec<u64>, change: ListChange) -> Result<(), AllocError
 fn read_change(call: &Accepted<'_>) -> Option<(usize, ListChange)> {
     let asked = asked_by(call.call);
     let list = asked.first.min(LISTS as u64) as usize;
-    let answer = number_in_reply(call.answer);
+    let reply = number_in_reply(call.reply);
     Some((
         list,
-        change_by(asked.name, asked.second, asked.last, answer)?,
+        change_by(asked.name, asked.second, asked.last, reply)?,
     ))
 }
 

@@ -4,7 +4,7 @@ ghost use Rattle.std.specs.Prelude.{◌≡◌, IfSome};
 ghost use Rattle.mote_types.specs.Code.Conditions.{IsName};
 ghost use Rattle.heap_core.specs.Code.Conditions.{IsHeaderLength};
 
-use crate::memory::Answered;
+use crate::memory::RepliedCall;
 use crate::memory::heap::LiveHeap;
 use crate::memory::stay::{Record, Sought, Stay};
 use crate::numbers::Asked;
@@ -71,9 +71,9 @@ impl HeapMap {
     }
 
     /// A call was accepted.
-    pub(crate) fn carry_out(&mut self, called: &Answered<'_>, asked: &Asked<'_>) {
+    pub(crate) fn carry_out(&mut self, called: &RepliedCall<'_>, asked: &Asked<'_>) {
         if asked.name == "heap-stats" {
-            match self.has_stats(called.answer) {
+            match self.has_stats(called.reply) {
                 Ok(is_so) => self.compare(is_so, called.line),
                 Err(_) => self.is_whole = false,
             }
@@ -101,11 +101,11 @@ impl HeapMap {
     }
 
     /// A call was refused. Where that was for lack of room, this heap has none either.
-    pub(crate) fn refuse(&mut self, called: &Answered<'_>, asked: &Asked<'_>) {
+    pub(crate) fn refuse(&mut self, called: &RepliedCall<'_>, asked: &Asked<'_>) {
         let Some(key) = key_of(called.pid, asked.first) else {
             return;
         };
-        if called.answer != "refused 12" {
+        if called.reply != "refused 12" {
             return;
         }
         let size = size_of(asked);
@@ -119,13 +119,13 @@ impl HeapMap {
     }
 
     /// Whether these are the statistics of the heap.
-    fn has_stats(&self, answer: &str) -> Result<bool, AllocError> {
+    fn has_stats(&self, reply: &str) -> Result<bool, AllocError> {
         let stats = self.heap.stats();
-        let reply = format!(in self.alloc;
+        let own = format!(in self.alloc;
             "stats {} {} {} {} {}",
             stats.allocated, stats.overhead, stats.available, stats.footprint, stats.chunks
         )?;
-        Ok(reply.as_str() == answer)
+        Ok(own.as_str() == reply)
     }
 
     /// A block's stay ends in a row; where it is still live, another one begins.

@@ -1,7 +1,7 @@
 //! Managed memory: lengths one after the other. No call shows where the blocks are in the region, so those after a freed one are
 //! shown as closing up at once.
 
-use crate::memory::Answered;
+use crate::memory::RepliedCall;
 use crate::memory::stay::{Record, Sought, Stay};
 use crate::numbers::{Asked, number_in_reply, number_of};
 use std::alloc::Global;
@@ -76,8 +76,8 @@ impl Managed {
     }
 
     /// A call was accepted.
-    pub(crate) fn carry_out(&mut self, called: &Answered<'_>, asked: &Asked<'_>) {
-        let Answered { pid, row, line, .. } = *called;
+    pub(crate) fn carry_out(&mut self, called: &RepliedCall<'_>, asked: &Asked<'_>) {
+        let RepliedCall { pid, row, line, .. } = *called;
         match asked.name {
             "mmem-alloc" => {
                 self.compare(self.has_room(pid, asked.second), line);
@@ -85,7 +85,7 @@ impl Managed {
             }
             "mmem-free" => self.free(Sought::Named(pid, asked.first), row),
             "mmem-avail" => {
-                let free = number_in_reply(called.answer);
+                let free = number_in_reply(called.reply);
                 self.compare(free == self.free_for(pid), line);
             }
             // The front frame is released.
@@ -95,9 +95,9 @@ impl Managed {
     }
 
     /// A call was refused.
-    pub(crate) fn refuse(&mut self, called: &Answered<'_>, asked: &Asked<'_>) {
+    pub(crate) fn refuse(&mut self, called: &RepliedCall<'_>, asked: &Asked<'_>) {
         if asked.name == "mmem-alloc" {
-            let number = number_of(called.answer.strip_prefix("refused "));
+            let number = number_of(called.reply.strip_prefix("refused "));
             let is_so = self.may_refuse(called.pid, asked.second, number);
             self.compare(is_so, called.line);
         }

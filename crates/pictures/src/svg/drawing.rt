@@ -8,7 +8,7 @@ use crate::svg::page::pen::{Area, Pen, Point, text_element, with_span};
 use crate::svg::page::{CLOCK, Page, ROW};
 use crate::transcript::{Line, Origin, Turn, read_line, read_turn};
 use crate::words::{
-    push_answer, push_call, push_ending, push_input, push_note, push_stimulus, refusal_in,
+    push_call, push_ending, push_input, push_note, push_reply, push_stimulus, refusal_in,
 };
 use itoa::Buffer;
 use std::alloc::{AllocError, Global};
@@ -119,14 +119,14 @@ pub(crate) fn draw_curves(pen: &mut Pen, page: &Page, curves: &[Curve]) -> Resul
 struct Beside<'a> {
     /// The process of the row above, where that is one turn's.
     above: Option<usize>,
-    /// The answer to the row's call, or nothing.
-    answer: &'a str,
+    /// The reply to the row's call, or nothing.
+    reply: &'a str,
     /// How late the timers in it are: the most ticks.
     late: u64,
     clocks: Clocks,
 }
 
-/// The words of a turn, and of the answer to its call.
+/// The words of a turn, and of the reply to its call.
 fn draw_turn(
     pen: &mut Pen,
     page: &Page,
@@ -145,8 +145,8 @@ fn draw_turn(
     push_call(alloc, &mut words, turn.call)?;
     let element = with_span(alloc, element, class_of_call(turn.call), words.as_str())?;
     words.clear();
-    push_answer(alloc, &mut words, beside.answer)?;
-    let class = if refusal_in(beside.answer).is_some() {
+    push_reply(alloc, &mut words, beside.reply)?;
+    let class = if refusal_in(beside.reply).is_some() {
         "r"
     } else {
         "m"
@@ -166,7 +166,7 @@ fn class_of_call(call: &str) -> &'static str {
     }
 }
 
-/// Adds an arrow in the colour of a process that goes on, whose call in a row above has its answer there; and its number, where
+/// Adds an arrow in the colour of a process that goes on, whose call in a row above has its reply there; and its number, where
 /// the row above is not its own.
 fn draw_going_on(
     alloc: Global,
@@ -266,8 +266,8 @@ fn draw_line(
     pen.text(class, page.words_of(index, 0), words.as_str())
 }
 
-/// The answer in a line, or nothing.
-fn answer_in<'a>(lines: &[&'a str], number: Option<usize>) -> &'a str {
+/// The reply in a line, or nothing.
+fn reply_in<'a>(lines: &[&'a str], number: Option<usize>) -> &'a str {
     let Some(number) = number else {
         return "";
     };
@@ -359,7 +359,7 @@ fn beside_of<'a>(
     let clock = marks.clocks.get(index).copied().unwrap_or(before);
     Beside {
         above,
-        answer: answer_in(lines, marks.answers.get(index).copied().flatten()),
+        reply: reply_in(lines, marks.replies.get(index).copied().flatten()),
         late: marks.lateness.get(index).copied().unwrap_or(0),
         clocks: Clocks {
             are_known: !marks.is_quiet,

@@ -90,7 +90,7 @@ fn summary_of<'a>(lines: &[&str], shown: Shown, marks: &Marks) -> Summary<'a> {
     }
 }
 
-/// Draws the head, and answers where the overview may begin.
+/// Draws the head, and returns where the overview may begin.
 fn draw_title(
     pen: &mut Pen,
     settings: &Settings<'_>,

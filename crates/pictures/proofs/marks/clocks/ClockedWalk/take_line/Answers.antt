@@ -1,6 +1,6 @@
 use Rattle.std.proofs.Common.{◌∙◌, unwrap_or, refl, ap, arith}
 use Rattle.pictures.proofs.Clocks.{clock_more}
-use Rattle.pictures.proofs.marks.ClockedWalk.take_line.Goals as goal
+use Rattle.pictures.proofs.marks.clocks.ClockedWalk.take_line.Goals as goal
 
 pub returns-clause-clock : goal.returns-clause-clock
 returns-clause-clock c = λ so_far.

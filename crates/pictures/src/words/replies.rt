@@ -35,15 +35,15 @@ fn reason(number: &str) -> &'static str
 }
 
 /// The number of its refusal, where a reply is one.
-pub fn refusal_in(answer: &str) -> Option<&str>
-    ensures { option_map (λ number. number.now) result ≡ after_prefix (codes "refused ") answer.now }
+pub fn refusal_in(reply: &str) -> Option<&str>
+    ensures { option_map (λ number. number.now) result ≡ after_prefix (codes "refused ") reply.now }
 {
-    answer.strip_prefix("refused ")
+    reply.strip_prefix("refused ")
 }
 
 /// Appends why a call was refused.
 fn push_refusal(out: &mut String, number: &str) -> Result<(), AllocError>
-    ensures { IfOk result (λ _. string_bytes out.new ≡ string_bytes out.old ++ spec.answer_by [] (Some number.now)) }
+    ensures { IfOk result (λ _. string_bytes out.new ≡ string_bytes out.old ++ spec.reply_by [] (Some number.now)) }
 {
     out.push_str("\u{a0}\u{a0}✗ ")?;
     out.push_str(reason(number))?;
@@ -53,13 +53,13 @@ fn push_refusal(out: &mut String, number: &str) -> Result<(), AllocError>
 }
 
 /// Appends a reply after its call.
-pub fn push_answer(alloc: Global, out: &mut String, answer: &str) -> Result<(), AllocError>
-    ensures { IfOk result (λ _. string_bytes out.new ≡ string_bytes out.old ++ spec.answer_words answer.now) }
+pub fn push_reply(alloc: Global, out: &mut String, reply: &str) -> Result<(), AllocError>
+    ensures { IfOk result (λ _. string_bytes out.new ≡ string_bytes out.old ++ spec.reply_words reply.now) }
 {
-    if let Some(number) = refusal_in(answer) {
+    if let Some(number) = refusal_in(reply) {
         return push_refusal(out, number);
     }
-    let Some((kind, value)) = answer.split_once(' ') else {
+    let Some((kind, value)) = reply.split_once(' ') else {
         return Ok(());
     };
     out.push_str("\u{a0}\u{a0}=\u{a0}")?;

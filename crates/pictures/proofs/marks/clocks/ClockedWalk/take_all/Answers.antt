@@ -2,7 +2,7 @@ use Rattle.std.proofs.Common.{◌∙◌, length, take, ap}
 use Rattle.pictures.specs.Clocks.{clock_after}
 use Rattle.pictures.specs.Rows.{bytes_of}
 use Rattle.pictures.proofs.RowClocks.{clocks_at}
-use Rattle.pictures.proofs.marks.ClockedWalk.take_all.Goals as goal
+use Rattle.pictures.proofs.marks.clocks.ClockedWalk.take_all.Goals as goal
 
 pub returns-clause-clocks : goal.returns-clause-clocks
 returns-clause-clocks c =
