@@ -550,6 +550,24 @@ def test_help_and_version(network_picture: Path) -> None:
     assert (ran.returncode, ran.stdout, ran.stderr) == (64, b"", b"network_picture: a word is not text\n")
 
 
+@pytest.mark.parametrize("name", ["network_picture", "network-picture", "my-network-picture"])
+def test_names_for_networks(network_picture: Path, tmp_path: Path, name: str) -> None:
+    """A link by the name of the program or of the command draws a network."""
+    link = tmp_path / name
+    link.symlink_to(network_picture.resolve())
+    transcript = THREE.with_suffix(".transcript")
+    assert succeed(link, stdin=transcript).stdout == succeed(network_picture, stdin=transcript).stdout
+
+
+@pytest.mark.parametrize("name", ["picture", "networkpicture", "network_picture.old"])
+def test_other_names(network_picture: Path, tmp_path: Path, name: str) -> None:
+    """By another name the program draws a mote's run, and a line of a network's transcript is none of that."""
+    link = tmp_path / name
+    link.symlink_to(network_picture.resolve())
+    ran = run(link, stdin=THREE.with_suffix(".transcript"))
+    assert (ran.returncode, ran.stdout) == (2, b"") and ran.stderr.startswith(b"mote_picture: line 1 ")
+
+
 @pytest.fixture
 def both(tmp_path: Path) -> Path:
     """A script with its transcript, as a file."""

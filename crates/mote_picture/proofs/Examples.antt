@@ -5,7 +5,7 @@ use Rattle.command_line.specs.CommandLine.{names_of}
 use Rattle.command_line.specs.declared.failure.Failure.{Failure}
 use Rattle.mote_picture.specs.declared.undrawn.Undrawn.{Undrawn}
 use Rattle.mote_picture.specs.Data.{has_no_opening, json_string}
-use Rattle.mote_picture.specs.Named.{MayReport, title_of}
+use Rattle.mote_picture.specs.Named.{MayReport, is_for_networks, title_of}
 use Rattle.mote_picture.specs.Reading.{parts_of}
 use Rattle.mote_picture.specs.Statuses.{status_of, text_of}
 
@@ -53,6 +53,11 @@ no_lines = (refl, refl)
 
 title : title_of (codes "mote_picture" ∷ codes "--page" ∷ codes "relay" ∷ []) ≡ codes "mote relay"
 title = refl
+
+-- the end of the path counts
+by_name : (is_for_networks (codes "/usr/bin/network-picture") ≡ true) × (is_for_networks (codes "network_picture") ≡ true)
+    × (is_for_networks (codes "mote_picture") ≡ false) × (is_for_networks (codes "network_picture.old") ≡ false) × (is_for_networks [] ≡ false)
+by_name = (refl, refl, refl, refl, refl)
 
 -- facts on the words, reported only if they hold
 module _ (rows : List Row) where

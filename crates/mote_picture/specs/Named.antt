@@ -1,5 +1,6 @@
--- What the words of the command line name.
-use Rattle.std.specs.Prelude.{◌≡◌, ◌<◌, ◌≤◌, ⊤, ℕ, true, false, List, [], ◌∷◌, ◌++◌, length, flat_map, codes, bytes_eq, if◌then◌else◌}
+-- What the words of the command line name, and the name by which the program is started.
+use Rattle.std.specs.Prelude.{◌≡◌, ◌<◌, ◌≤◌, ◌==◌, ◌||◌, ⊤, ℕ, Bool, true, false, List, [], ◌∷◌, ◌++◌, length, flat_map, codes, bytes_eq, if◌then◌else◌}
+use Rattle.std.specs.List.{ends_with}
 use Rattle.clap.specs.Walk.{Row, Text, texts}
 use Rattle.command_line.specs.CommandLine.{names_of, sizes_of}
 use Rattle.command_line.specs.declared.failure.Failure.{Failure}
@@ -60,3 +61,13 @@ title_word word = if bytes_eq word (codes "--page") then [] else codes " " ++ wo
 abbrev pub title_of : List Text → Text
 title_of [] = codes "mote"
 title_of (program ∷ words) = codes "mote" ++ flat_map title_word words
+
+-- ---- the name of the program
+
+-- the path ends in this name
+abbrev pub is_called : Text → Text → Bool
+is_called name path = ends_with (λ a b. a == b) path name
+
+-- it draws networks by its other name, and by that of the command
+abbrev pub is_for_networks : Text → Bool
+is_for_networks path = is_called (codes "network_picture") path || is_called (codes "network-picture") path

@@ -1,11 +1,12 @@
 //! Draws the picture of a run: reads a transcript from standard input, writes one SVG, HTML file or value change dump to standard output.
 //!
-//! Started by the name `network_picture` it draws the run of a network (`network.rt`): one program with two names, since both are made of
-//! nearly the same libraries.
+//! Started by the name `network_picture` or `network-picture` it draws the run of a network (`network.rt`): one program with two names,
+//! since both are made of nearly the same libraries.
 #![tactic(auto)]
 
 ghost use Rattle.std.specs.Prelude.{◌≡◌, IfErr};
 ghost use Rattle.command_line.specs.declared.failure.Failure.{Failure as Refused};
+ghost use Rattle.mote_picture.specs.Named.{is_for_networks};
 ghost use Rattle.mote_picture.specs.Statuses.{IsReportedWith};
 
 mod named;
@@ -166,11 +167,18 @@ fn work<R: AllocGlobal + io::Input + Print + Eprint>(
     Ok(draw_or_report(rt, texts.as_slice()))
 }
 
+/// Whether a path ends with the name for networks: that of the program, or that of the command.
+fn is_for_networks(path: &[u8]) -> bool
+    ensures { result ≡ is_for_networks path.now }
+{
+    path.ends_with(b"network_picture") || path.ends_with(b"network-picture")
+}
+
 /// Whether the program was started by the name for networks.
 fn draws_networks<R: Env>(rt: &R) -> bool {
     let mut path = [0u8; LONGEST_PATH];
     match rt.arg(0, &mut path) {
-        Ok(length) => path[..length.min(LONGEST_PATH)].ends_with(b"network_picture"),
+        Ok(length) => is_for_networks(&path[..length.min(LONGEST_PATH)]),
         Err(_) => false,
     }
 }
