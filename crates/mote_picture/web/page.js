@@ -80,7 +80,7 @@ function refusalIn(line) {
   return found ? Number(found[1] ?? found[2]) : null;
 }
 
-// What a line is: its kind, its process and where that was told something from, and the number of the refusal of its call.
+// What a line is: its kind, its process and where that received something from, and the number of the refusal of its call.
 function readLine(run, place) {
   const line = run.lines[place];
   const turn = TURN.exec(line);
@@ -212,7 +212,7 @@ function element(name, look, text, parent) {
   return made;
 }
 
-// The words of a line: what was told, the call, and the answer.
+// The words of a line: what was received, the call, and the reply.
 function fillWords(parent, place) {
   const line = told[place];
   const [first, call, answer] = (run.words[place] ?? run.lines[place]).split("\t");
@@ -493,7 +493,7 @@ function drawPanel() {
   element("h2", "", `line ${line + 1}${run.quiet ? "" : `, clock ${clock}`}`, panel);
   element("code", "", run.lines[chosen], panel);
   const answer = run.lines[run.answers[chosen] - run.first];
-  if (run.answers[chosen] !== null && answer) element("div", "none", `its answer is in line ${run.answers[chosen] + 1}`, panel);
+  if (run.answers[chosen] !== null && answer) element("div", "none", `its reply is in line ${run.answers[chosen] + 1}`, panel);
   if (run.quiet) return;
   if (state.active.length > 0) element("div", "", `in activations: ${state.active.join(", ")}`, panel);
   drawEvents(panel, state.events);
@@ -763,7 +763,7 @@ function faults() {
     found.push(`From line ${run.exceeds + 1} on the run holds more managed memory than the ${run.sizes.managed} bytes that were told.`);
   }
   if (run.differs !== null) {
-    found.push(`From line ${run.differs + 1} on the heap isn't the run's: a heap of the size that was told answers otherwise.`);
+    found.push(`From line ${run.differs + 1} on the heap isn't the run's: a heap of the given size replies otherwise.`);
   }
   return found.join(" ");
 }

@@ -48,7 +48,7 @@ next or last input, <kbd>n</kbd> <kbd>N</kbd> the next or last refusal, <kbd>Hom
 </header>
 <main>
 <section id="view">
-<div id="heads"><span class="number">line</span><span class="clock">clock</span><span id="lane-heads"></span><span class="words">told &rarr; call = answer</span></div>
+<div id="heads"><span class="number">line</span><span class="clock">clock</span><span id="lane-heads"></span><span class="words">received &rarr; call = reply</span></div>
 <div id="rows" tabindex="0" role="listbox" aria-label="lines of the transcript"><div id="space"><svg id="lanes" aria-hidden="true"></svg></div></div>
 </section>
 <aside id="panel" aria-live="polite"></aside>
