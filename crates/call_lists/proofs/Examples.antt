@@ -192,20 +192,20 @@ a_name (inr none) = none.1 refl
 other_faults : (word : List ℕ) → IsNoNumber word 0 255 CallFault.TooManyCalls ⊎ TellsNoName word CallFault.TooManyCalls → ⊥
 other_faults word is = grind arith
 
-module _ (told : Bor (List ℕ)) where
-  too_large : told.now ≡ codes "256" → IsNoNumber (codes "256") 0 255 (CallFault.NoNumber told 0 255)
+module _ (reported : Bor (List ℕ)) where
+  too_large : reported.now ≡ codes "256" → IsNoNumber (codes "256") 0 255 (CallFault.NoNumber reported 0 255)
   too_large is = grind arith
 
-  no_digits : told.now ≡ codes "-" → IsNoNumber (codes "-") 0 255 (CallFault.NoNumber told 0 255)
+  no_digits : reported.now ≡ codes "-" → IsNoNumber (codes "-") 0 255 (CallFault.NoNumber reported 0 255)
   no_digits is = (is, refl, refl, tt)
 
   -- not reported: a valid number, the least or the greatest one too, another bound, another word or name, an existing name
-  not_told : IsNoNumber (codes "255") 0 255 (CallFault.NoNumber told 0 255) ⊎ IsNoNumber (codes "-") 0 255 (CallFault.NoNumber told 1 255)
-      ⊎ IsNoNumber (codes "255") 255 300 (CallFault.NoNumber told 255 300) ⊎ IsNoNumber (codes "-") 0 255 (CallFault.NoNumber told 0 254)
-      ⊎ ((told.now ≡ codes "7") × IsNoNumber (codes "-") 0 255 (CallFault.NoNumber told 0 255))
-      ⊎ ((told.now ≡ codes "nobody") × TellsNoName (codes "somebody") (CallFault.NoApplication told))
-      ⊎ TellsNoName (codes "hello") (CallFault.NoApplication told) → ⊥
-  not_told is = grind (arith, read_255)
+  not_reported : IsNoNumber (codes "255") 0 255 (CallFault.NoNumber reported 0 255) ⊎ IsNoNumber (codes "-") 0 255 (CallFault.NoNumber reported 1 255)
+      ⊎ IsNoNumber (codes "255") 255 300 (CallFault.NoNumber reported 255 300) ⊎ IsNoNumber (codes "-") 0 255 (CallFault.NoNumber reported 0 254)
+      ⊎ ((reported.now ≡ codes "7") × IsNoNumber (codes "-") 0 255 (CallFault.NoNumber reported 0 255))
+      ⊎ ((reported.now ≡ codes "nobody") × TellsNoName (codes "somebody") (CallFault.NoApplication reported))
+      ⊎ TellsNoName (codes "hello") (CallFault.NoApplication reported) → ⊥
+  not_reported is = grind (arith, read_255)
 
 module _ (text : List ℕ) (calls : List Call) (list : IsListOf text calls) where
   -- no parts: an empty text, and only waits

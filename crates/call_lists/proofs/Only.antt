@@ -137,7 +137,7 @@ module _ (text : List ℕ) where
 
       pub misnumbered : (fault : CallFault) → has_digit text ≡ true → count ≡ first_word text → IsNoNumber count 1 128 fault
           → AreMade text made → ⊥
-      misnumbered (CallFault.NoNumber told lowest highest) digit first is are =
+      misnumbered (CallFault.NoNumber reported lowest highest) digit first is are =
           let counted = counted_only digit are in
           outside counted.1 (subst (LiesOutside 1 128) (ap read_number first ∙ counted.2.reads) is.3)
         where

@@ -45,7 +45,7 @@ fillings = (refl, refl, refl, refl)
 
 -- a call with all words written
 abbrev fixed : Call → Step
-fixed call = record { call = call; is_told = false }
+fixed call = record { call = call; uses_received = false }
 
 abbrev prints : List ℕ → Call
 prints text = Call.Print (record { items = text })
@@ -55,7 +55,7 @@ row trigger steps = record { trigger = trigger; steps = steps; place = 0; repeat
 
 -- what rows say when they receive these
 abbrev they_say : List Rule → List (List Stimulus) → List Call
-they_say rules told = map (reaction_says (record { rules = rules; current = None; told = Payload.Empty })) told
+they_say rules stimuli = map (reaction_says (record { rules = rules; current = None; received = Payload.Empty })) stimuli
 
 abbrev blinker : List Rule
 blinker =
@@ -75,7 +75,7 @@ blinking = refl
 
 -- a refusal turns to its row, where further refusals are plain replies; the interrupted row begins again
 relaying : (frame : Stimulus) → frame ≡ Stimulus.Event (number_event PACKET 7) → they_say (
-    row (Trigger.Event PACKET None) (record { call = Call.MmemAlloc 0 0; is_told = true } ∷ fixed (Call.PacketSend 0) ∷ [])
+    row (Trigger.Event PACKET None) (record { call = Call.MmemAlloc 0 0; uses_received = true } ∷ fixed (Call.PacketSend 0) ∷ [])
     ∷ row (Trigger.Refused None) (fixed (Call.MmemFree 0) ∷ fixed Call.PacketDone ∷ []) ∷ []) (
     (frame ∷ []) ∷ (frame ∷ done ∷ []) ∷ (frame ∷ refused Refusal.NoRoom ∷ [])
     ∷ (frame ∷ refused Refusal.NoRoom ∷ refused Refusal.NotLive ∷ [])

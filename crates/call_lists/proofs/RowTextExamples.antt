@@ -7,7 +7,7 @@ use Rattle.mote_types.specs.EventNumbers.{PACKET, SERIAL_LINE, TIMER}
 use Rattle.mote_types.specs.declared.call.Call.{Call}
 use Rattle.call_lists.proofs.Cuts.{differ}
 use Rattle.call_lists.specs.Rows.{Rule}
-use Rattle.call_lists.specs.RowTexts.{AreCalls, AreMade, AreOfParts, IsBehindColon, IsCallTold, IsRow, IsStimulus}
+use Rattle.call_lists.specs.RowTexts.{AreCalls, AreMade, AreOfParts, IsBehindColon, IsCallWithReceived, IsRow, IsStimulus}
 use Rattle.call_lists.specs.declared.rows.row.Step.{Step}
 use Rattle.call_lists.specs.declared.rows.trigger.Trigger.{Trigger}
 
@@ -40,15 +40,15 @@ no_line (inl numbered) = differ numbered refl
 no_line (inr (none, inl line)) = differ line.0 refl
 no_line (inr (none, inr frame)) = let codes_differ : ◌≡◌ {A = ℕ} 138 139 = frame.1 in absurd (omega arith)
 
-kills : IsCallTold (codes "kill told") true (Call.Kill 0)
+kills : IsCallWithReceived (codes "kill told") true (Call.Kill 0)
 unfolding digits spaced
 kills = (codes "kill", refl, grind arith)
 
-prints : IsCallTold (codes "print told") true (Call.Print (record { items = [] }))
+prints : IsCallWithReceived (codes "print told") true (Call.Print (record { items = [] }))
 unfolding spaced
 prints = (codes "print", refl, grind arith)
 
-waits : IsCallTold (codes "wait") false Call.Wait
+waits : IsCallWithReceived (codes "wait") false Call.Wait
 unfolding spaced
 waits = ([], refl, refl)
 
@@ -58,24 +58,24 @@ no_told [] same = differ same refl
 no_told (a ∷ []) same = differ (ap (drop 1) same) refl
 no_told (a ∷ b ∷ front) same = let sizes = ap length same in absurd (grind (arith, common_steps, sizes))
 
-written : IsCallTold (codes "kill 0") true (Call.Kill 0) → ⊥
+written : IsCallWithReceived (codes "kill 0") true (Call.Kill 0) → ⊥
 written is = no_told is.0 is.1
 
 -- the words before `told` are those of the call
-no_kill : (is : IsCallTold (codes "exit told") true (Call.Kill 0)) → is.0 ≡ codes "exit" → ⊥
+no_kill : (is : IsCallWithReceived (codes "exit told") true (Call.Kill 0)) → is.0 ≡ codes "exit" → ⊥
 no_kill (front, same, inl dash) is = differ (sym (ap (λ (words : List ℕ). words ++ codes " -") is) ∙ dash.1) refl
 no_kill (front, same, inr number) is = differ (sym (ap (λ (words : List ℕ). words ++ codes " 0") is) ∙ number.1) refl
 
-another_call : IsCallTold (codes "exit") false Call.Wait → ⊥
+another_call : IsCallWithReceived (codes "exit") false Call.Wait → ⊥
 another_call is = grind arith
 
-abbrev told : Call → Step
-told call = record { call = call; is_told = true }
+abbrev with_received : Call → Step
+with_received call = record { call = call; uses_received = true }
 
 abbrev fixed : Call → Step
-fixed call = record { call = call; is_told = false }
+fixed call = record { call = call; uses_received = false }
 
-twice : AreMade (codes "2 kill told") (told (Call.Kill 0) ∷ told (Call.Kill 0) ∷ [])
+twice : AreMade (codes "2 kill told") (with_received (Call.Kill 0) ∷ with_received (Call.Kill 0) ∷ [])
 unfolding digits
 twice = grind (arith, codes, kills)
 
@@ -93,7 +93,7 @@ no_two_calls (inr numbered) =
     let rest : codes "wait" ≡ numbered.0 = ap (drop 2) numbered.2 in differ (rest ∙ numbered.3.1.0.1) refl
 
 row : IsRow (codes "any: wait, kill told, repeat")
-    (record { trigger = Trigger.Any; steps = fixed Call.Wait ∷ told (Call.Kill 0) ∷ []; place = 0; repeats = true })
+    (record { trigger = Trigger.Any; steps = fixed Call.Wait ∷ with_received (Call.Kill 0) ∷ []; place = 0; repeats = true })
 row = (
   codes "any",
   codes " wait, kill told, repeat",
@@ -108,10 +108,10 @@ row = (
       refl,
       (
         fixed Call.Wait ∷ [],
-        told (Call.Kill 0) ∷ [],
+        with_received (Call.Kill 0) ∷ [],
         refl,
         inl (refl, (waits, tt)),
-        (told (Call.Kill 0) ∷ [], [], refl, inl (refl, (kills, tt)), refl),
+        (with_received (Call.Kill 0) ∷ [], [], refl, inl (refl, (kills, tt)), refl),
       ),
     ),
   ),

@@ -13,7 +13,7 @@ IsNoName name = (named name ≡ None) × (name ≢ codes "clock-watcher")
 
 -- so it is, and the name is reported
 abbrev pub TellsNoName : List ℕ → CallFault → Type 0
-TellsNoName name (CallFault.NoApplication told) = (told.now ≡ name) × IsNoName name
+TellsNoName name (CallFault.NoApplication reported) = (reported.now ≡ name) × IsNoName name
 TellsNoName name fault = ⊥
 
 -- no possible call has these words
@@ -30,6 +30,6 @@ LiesOutside least most (Some number) = (number < least) ⊎ (most < number)
 
 -- the word is no number from the least to the most, and these are reported
 abbrev pub IsNoNumber : List ℕ → ℕ → ℕ → CallFault → Type 0
-IsNoNumber word least most (CallFault.NoNumber told lowest highest) =
-    (told.now ≡ word) × (lowest ≡ least) × (highest ≡ most) × LiesOutside least most (read_number word)
+IsNoNumber word least most (CallFault.NoNumber reported lowest highest) =
+    (reported.now ≡ word) × (lowest ≡ least) × (highest ≡ most) × LiesOutside least most (read_number word)
 IsNoNumber word least most fault = ⊥

@@ -36,13 +36,13 @@ IsStimulus text (Trigger.Refused number) = (text ≡ codes "refused" ++ behind_s
 -- ---- what follows it
 
 -- the text is these words; or these with `told` instead of the last one, which then is no bytes or 0
-abbrev pub IsCallTold : List ℕ → Bool → Call → Type 0
-IsCallTold text false call = IsCall text call
-IsCallTold text true call =
+abbrev pub IsCallWithReceived : List ℕ → Bool → Call → Type 0
+IsCallWithReceived text false call = IsCall text call
+IsCallWithReceived text true call =
     (front : List ℕ) × (text ≡ front ++ codes " told") × (IsCall (front ++ codes " -") call ⊎ IsCall (front ++ codes " 0") call)
 
 abbrev pub IsStep : List ℕ → Step → Type 0
-IsStep text step = IsCallTold text step.is_told step.call
+IsStep text step = IsCallWithReceived text step.uses_received step.call
 
 -- so it is of each of these
 abbrev pub AreSteps : List ℕ → List Step → Type 0

@@ -22,15 +22,15 @@ pub record Rule : Type 0 where
 pub record Reaction : Type 0 where
   pub rules : List Rule
   pub current : Option ℕ
-  pub told : Payload
+  pub received : Payload
 
 -- What was received last: what an event carries, the number of a callback timer, the number or the bytes of a reply
-abbrev pub told_after : Payload → Stimulus → Payload
-told_after told (Stimulus.Event event) = event.payload
-told_after told (Stimulus.Callback timer) = Payload.Num timer
-told_after told (Stimulus.Answer (Reply.Num n)) = Payload.Num n
-told_after told (Stimulus.Answer (Reply.Bytes bytes)) = Payload.Line (record { items = bytes.items })
-told_after told (Stimulus.Answer reply) = told
+abbrev pub received_after : Payload → Stimulus → Payload
+received_after received (Stimulus.Event event) = event.payload
+received_after received (Stimulus.Callback timer) = Payload.Num timer
+received_after received (Stimulus.Answer (Reply.Num n)) = Payload.Num n
+received_after received (Stimulus.Answer (Reply.Bytes bytes)) = Payload.Line (record { items = bytes.items })
+received_after received (Stimulus.Answer reply) = received
 
 -- the first row for a stimulus
 abbrev pub row_for : List Rule → Stimulus → Option ℕ
@@ -70,17 +70,17 @@ chosen reaction (Stimulus.Answer (Reply.Refused refusal)) =
     after_refusal reaction (row_for reaction.rules (Stimulus.Answer (Reply.Refused refusal)))
 chosen reaction (Stimulus.Answer reply) = reaction
 
-abbrev pub hearing : Reaction → Stimulus → Reaction
-hearing reaction stimulus = chosen (record reaction { told = told_after reaction.told stimulus }) stimulus
+abbrev pub receiving : Reaction → Stimulus → Reaction
+receiving reaction stimulus = chosen (record reaction { received = received_after reaction.received stimulus }) stimulus
 
 abbrev pub call_of_step : Payload → Option Step → Call
-call_of_step told None = Call.Wait
-call_of_step told (Some step) = filled step.is_told told step.call
+call_of_step received None = Call.Wait
+call_of_step received (Some step) = filled step.uses_received received step.call
 
 -- a row goes on where it stopped, and waits after its last call
 abbrev pub next_call : Payload → Option Rule → Call
-next_call told None = Call.Wait
-next_call told (Some rule) = call_of_step told (slice_get rule.steps rule.place)
+next_call received None = Call.Wait
+next_call received (Some rule) = call_of_step received (slice_get rule.steps rule.place)
 
 -- that wait is where it begins anew, if it does
 abbrev pub one_further : Rule → Rule
@@ -89,17 +89,17 @@ one_further rule =
     else if rule.repeats then begun_anew rule
     else rule
 
-abbrev pub answer_of : Reaction → Call
-answer_of reaction = next_call reaction.told (row_at reaction.rules reaction.current)
+abbrev pub made_call : Reaction → Call
+made_call reaction = next_call reaction.received (row_at reaction.rules reaction.current)
 
 abbrev pub gone_on : Reaction → Reaction
 gone_on reaction = record reaction { rules = changed one_further reaction.rules reaction.current }
 
-abbrev pub reaction_answer : Reaction → Stimulus → Call
-reaction_answer reaction stimulus = answer_of (hearing reaction stimulus)
+abbrev pub reaction_call : Reaction → Stimulus → Call
+reaction_call reaction stimulus = made_call (receiving reaction stimulus)
 
 abbrev pub reaction_next : Reaction → Stimulus → Reaction
-reaction_next reaction stimulus = gone_on (hearing reaction stimulus)
+reaction_next reaction stimulus = gone_on (receiving reaction stimulus)
 
 abbrev pub reaction_says : Reaction → Says
-reaction_says = fold_says reaction_answer reaction_next
+reaction_says = fold_says reaction_call reaction_next

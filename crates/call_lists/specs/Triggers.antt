@@ -31,14 +31,14 @@ is_for_callback (Trigger.Callback asked) timer = is_asked asked timer
 is_for_callback (Trigger.Refused number) timer = false
 
 -- a reply that is no refusal has no row
-abbrev pub is_for_answer : Trigger → Reply → Bool
-is_for_answer (Trigger.Refused number) (Reply.Refused refusal) = is_asked number (refusal_number refusal)
-is_for_answer trigger reply = false
+abbrev pub is_for_reply : Trigger → Reply → Bool
+is_for_reply (Trigger.Refused number) (Reply.Refused refusal) = is_asked number (refusal_number refusal)
+is_for_reply trigger reply = false
 
 abbrev pub is_for : Trigger → Stimulus → Bool
 is_for trigger (Stimulus.Event event) = is_for_event trigger event
 is_for trigger (Stimulus.Callback timer) = is_for_callback trigger timer
-is_for trigger (Stimulus.Answer reply) = is_for_answer trigger reply
+is_for trigger (Stimulus.Answer reply) = is_for_reply trigger reply
 
 abbrev pub is_refusal : Trigger → Bool
 is_refusal (Trigger.Refused number) = true

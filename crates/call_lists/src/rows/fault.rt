@@ -16,7 +16,7 @@ pub enum RowFault<'a> {
     NoStimulus(&'a str),
     /// A received value can't be the last word of this call.
     #[error("told can't be the last word of {0}")]
-    NotTold(&'a str),
+    TakesNoValue(&'a str),
     /// A call or a number is malformed.
     #[error(transparent)]
     Call(#[from] CallFault<'a>),

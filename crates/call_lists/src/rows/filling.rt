@@ -1,7 +1,7 @@
 //! Copies of calls, in which a received value may replace the last word.
 
 ghost use Rattle.std.specs.Prelude.{◌≡◌, ◌≤◌, take, length};
-ghost use Rattle.call_lists.specs.RowFilling.{bytes_told, filled, last_chunk, last_number, last_payload, last_small, number_told};
+ghost use Rattle.call_lists.specs.RowFilling.{bytes_received, filled, last_chunk, last_number, last_payload, last_small, number_received};
 
 use mote_types::call::Call;
 use mote_types::event::Payload;
@@ -13,8 +13,8 @@ const CHUNK: usize = 64;
 /// The last word of a copy: that of the call, or the received value.
 #[derive(Clone, Copy, Drop)]
 struct LastWord<'a> {
-    is_told: bool,
-    told: &'a Payload,
+    uses_received: bool,
+    received: &'a Payload,
 }
 
 fn chunk_of(bytes: &[u8]) -> Chunk
@@ -27,10 +27,10 @@ fn chunk_of(bytes: &[u8]) -> Chunk
 }
 
 /// The number that was received.
-fn number_told(told: &Payload) -> u32
-    ensures { result ≡ number_told told.now }
+fn number_received(received: &Payload) -> u32
+    ensures { result ≡ number_received received.now }
 {
-    match told {
+    match received {
         Payload::Num(number) => *number,
         _ => 0,
     }
@@ -46,10 +46,10 @@ fn front_of(line: &[u8]) -> Chunk
 }
 
 /// The bytes that were received.
-fn bytes_told(told: &Payload) -> Chunk
-    ensures { result ≡ record { items = bytes_told told.now } }
+fn bytes_received(received: &Payload) -> Chunk
+    ensures { result ≡ record { items = bytes_received received.now } }
 {
-    match told {
+    match received {
         Payload::Line(line) => front_of(line.as_slice()),
         _ => Chunk::new(),
     }
@@ -57,40 +57,40 @@ fn bytes_told(told: &Payload) -> Chunk
 
 impl LastWord<'_> {
     fn number(self, word: u32) -> u32
-        ensures { result ≡ last_number self.entry.is_told self.entry.told.now word }
+        ensures { result ≡ last_number self.entry.uses_received self.entry.received.now word }
     {
-        if self.is_told {
-            number_told(self.told)
+        if self.uses_received {
+            number_received(self.received)
         } else {
             word
         }
     }
 
     fn small(self, word: u8) -> u8
-        ensures { result ≡ last_small self.entry.is_told self.entry.told.now word }
+        ensures { result ≡ last_small self.entry.uses_received self.entry.received.now word }
     {
-        if self.is_told {
-            number_told(self.told).min(255) as u8
+        if self.uses_received {
+            number_received(self.received).min(255) as u8
         } else {
             word
         }
     }
 
     fn payload(self, word: &Payload) -> Payload
-        ensures { result ≡ last_payload self.entry.is_told self.entry.told.now word.now }
+        ensures { result ≡ last_payload self.entry.uses_received self.entry.received.now word.now }
     {
-        if self.is_told {
-            self.told.copied()
+        if self.uses_received {
+            self.received.copied()
         } else {
             word.copied()
         }
     }
 
     fn chunk(self, word: &Chunk) -> Chunk
-        ensures { result ≡ last_chunk self.entry.is_told self.entry.told.now word.now }
+        ensures { result ≡ last_chunk self.entry.uses_received self.entry.received.now word.now }
     {
-        if self.is_told {
-            bytes_told(self.told)
+        if self.uses_received {
+            bytes_received(self.received)
         } else {
             chunk_of(word.as_slice())
         }
@@ -98,10 +98,13 @@ impl LastWord<'_> {
 }
 
 /// The same call once more; where that is asked for, with the received value as its last word.
-pub(crate) fn filled(call: &Call, is_told: bool, told: &Payload) -> Call
-    ensures { result ≡ filled is_told told.now call.now }
+pub(crate) fn filled(call: &Call, uses_received: bool, received: &Payload) -> Call
+    ensures { result ≡ filled uses_received received.now call.now }
 {
-    let word = LastWord { is_told, told };
+    let word = LastWord {
+        uses_received,
+        received,
+    };
     match call {
         Call::Post(q, code, payload) => Call::Post(*q, *code, word.payload(payload)),
         Call::Broadcast(code, payload) => Call::Broadcast(*code, word.payload(payload)),

@@ -1,7 +1,7 @@
 //! An application that has rows.
 
 ghost use Rattle.std.specs.Prelude.{◌≡◌};
-ghost use Rattle.call_lists.specs.Rows.{Reaction, answer_of, changed, begun_anew, chosen, gone_on, is_refusal_row, reaction_says, row_at, row_for, told_after};
+ghost use Rattle.call_lists.specs.Rows.{Reaction, made_call, changed, begun_anew, chosen, gone_on, is_refusal_row, reaction_says, row_at, row_for, received_after};
 
 use crate::rows::row::Row;
 use arrayvec::ArrayVec;
@@ -18,13 +18,13 @@ pub struct Reactions {
     rows: Vec<Row>,
     /// The active row.
     current: Option<usize>,
-    told: Payload,
+    received: Payload,
 }
 
 impl Model for Reactions {
     ghost Value = { Reaction };
 
-    ghost view = { λ reactions. record { rules = reactions.rows.items; current = reactions.current; told = reactions.told } };
+    ghost view = { λ reactions. record { rules = reactions.rows.items; current = reactions.current; received = reactions.received } };
 }
 
 /// The same bytes as a line.
@@ -39,24 +39,24 @@ fn line_of(bytes: &Chunk) -> ArrayVec<u8, 127>
 impl Reactions {
     /// The application that has these rows, and has received nothing.
     pub fn new(rows: Vec<Row>) -> Self
-        ensures { result ≡ record { rules = rows.items; current = None; told = Payload.Empty } }
+        ensures { result ≡ record { rules = rows.items; current = None; received = Payload.Empty } }
     {
         Reactions {
             rows,
             current: None,
-            told: Payload::Empty,
+            received: Payload::Empty,
         }
     }
 
     /// Stores the received value.
-    fn hear(&mut self, stimulus: &Stimulus)
-        ensures { self.new ≡ record self.old { told = told_after self.old.told stimulus.now } }
+    fn receive(&mut self, stimulus: &Stimulus)
+        ensures { self.new ≡ record self.old { received = received_after self.old.received stimulus.now } }
     {
         match stimulus {
-            Stimulus::Event(event) => self.told = event.payload.copied(),
-            Stimulus::Callback(timer) => self.told = Payload::Num(u32::from(*timer)),
-            Stimulus::Answer(Reply::Num(number)) => self.told = Payload::Num(*number),
-            Stimulus::Answer(Reply::Bytes(bytes)) => self.told = Payload::Line(line_of(bytes)),
+            Stimulus::Event(event) => self.received = event.payload.copied(),
+            Stimulus::Callback(timer) => self.received = Payload::Num(u32::from(*timer)),
+            Stimulus::Answer(Reply::Num(number)) => self.received = Payload::Num(*number),
+            Stimulus::Answer(Reply::Bytes(bytes)) => self.received = Payload::Line(line_of(bytes)),
             Stimulus::Answer(_) => {}
         }
     }
@@ -111,11 +111,11 @@ impl Reactions {
 
     /// The next call of that row.
     fn go_on(&mut self) -> Call
-        ensures call { result ≡ answer_of self.old }
+        ensures call { result ≡ made_call self.old }
         ensures state { self.new ≡ gone_on self.old }
     {
         match self.current {
-            Some(place) if place < self.rows.len() => self.rows[place].make_call(&self.told),
+            Some(place) if place < self.rows.len() => self.rows[place].make_call(&self.received),
             _ => Call::Wait,
         }
     }
@@ -125,7 +125,7 @@ impl App for Reactions {
     ghost says = { reaction_says };
 
     fn turn(&mut self, stimulus: &Stimulus) -> Call {
-        self.hear(stimulus);
+        self.receive(stimulus);
         self.choose(stimulus);
         self.go_on()
     }

@@ -75,21 +75,21 @@ fn step_of(alloc: Global, text: &str) -> Result<Step, RowFault<'_>>
     let Some(front) = text.strip_suffix(" told") else {
         return Ok(Step {
             call: call_of(text)?,
-            is_told: false,
+            uses_received: false,
         });
     };
     if let Ok(call) = call_of(with_word(alloc, front, " -")?.as_str()) {
         return Ok(Step {
             call,
-            is_told: true,
+            uses_received: true,
         });
     }
     match call_of(with_word(alloc, front, " 0")?.as_str()) {
         Ok(call) => Ok(Step {
             call,
-            is_told: true,
+            uses_received: true,
         }),
-        Err(_) => Err(RowFault::NotTold(front)),
+        Err(_) => Err(RowFault::TakesNoValue(front)),
     }
 }
 

@@ -15,7 +15,7 @@ use std::marker::Model;
 pub struct Step {
     pub call: Call,
     /// Whether the last received value replaces its last word.
-    pub is_told: bool,
+    pub uses_received: bool,
 }
 
 /// The calls for a stimulus, and the number of those made since the row began.
@@ -54,13 +54,13 @@ impl Row {
     }
 
     /// The next call, with the last received value; after the last one `Wait`, where the row begins anew, if it does.
-    pub(crate) fn make_call(&mut self, told: &Payload) -> Call
-        ensures call { result ≡ next_call told.now (Some self.old) }
+    pub(crate) fn make_call(&mut self, received: &Payload) -> Call
+        ensures call { result ≡ next_call received.now (Some self.old) }
         ensures row { self.new ≡ one_further self.old }
     {
         if self.place < self.steps.len() {
             let step = &self.steps[self.place];
-            let call = filled(&step.call, step.is_told, told);
+            let call = filled(&step.call, step.uses_received, received);
             self.place += 1;
             return call;
         }

@@ -1,7 +1,7 @@
 //! What a row is for.
 
 ghost use Rattle.std.specs.Prelude.{◌≡◌};
-ghost use Rattle.call_lists.specs.Triggers.{is_asked, is_carried, is_for, is_for_answer, is_for_callback, is_for_event, is_refusal};
+ghost use Rattle.call_lists.specs.Triggers.{is_asked, is_carried, is_for, is_for_reply, is_for_callback, is_for_event, is_refusal};
 
 use mote_types::event::{Event, Payload, Stimulus};
 use mote_types::reply::Reply;
@@ -62,8 +62,8 @@ impl Trigger {
         }
     }
 
-    fn is_for_answer(self, reply: &Reply) -> bool
-        ensures { result ≡ is_for_answer self reply.now }
+    fn is_for_reply(self, reply: &Reply) -> bool
+        ensures { result ≡ is_for_reply self reply.now }
     {
         match (self, reply) {
             (Trigger::Refused(number), Reply::Refused(refusal)) => is_asked(
@@ -81,7 +81,7 @@ impl Trigger {
         match stimulus {
             Stimulus::Event(event) => self.is_for_event(event),
             Stimulus::Callback(timer) => self.is_for_callback(*timer),
-            Stimulus::Answer(reply) => self.is_for_answer(reply),
+            Stimulus::Answer(reply) => self.is_for_reply(reply),
         }
     }
 
