@@ -23,7 +23,8 @@ use Rattle.network_run.proofs.OutsideMoves.{outside_is}
 use Rattle.network_steps.proofs.Going.{none_more}
 use Rattle.network_steps.specs.Works.{is_behind}
 use Rattle.network_steps.proofs.GivenInputs.{not_given}
-use Rattle.network_steps.specs.NetworkRuns.{DoesStep, IsResting, Leads, Move, TellsTime, inputs_of, times_of}
+use Rattle.network_steps.specs.Code.Turns.{times_of}
+use Rattle.network_steps.specs.NetworkRuns.{DoesStep, IsResting, Leads, Move, TellsTime, inputs_of}
 use Rattle.network_steps.specs.Works.{inputs_waiting}
 use Rattle.network_steps.specs.declared.came.Waiting.{Waiting}
 use Rattle.network_steps.specs.declared.input.NetworkInput.{NetworkInput}

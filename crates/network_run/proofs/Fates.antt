@@ -1,5 +1,5 @@
 -- The lines of what came, and of links that didn't carry a frame, one after the other.
-use Rattle.std.proofs.Common.{◌≡◌, ℕ, Bool, true, false, is_some, Option, None, Some, List, [], ◌++◌, append_assoc, append-nil, ap, refl, sym, ◌∙◌}
+use Rattle.std.proofs.Common.{◌≡◌, ℕ, Bool, true, false, is_some, Option, None, Some, List, [], ◌++◌, append_assoc, ap, refl, sym, ◌∙◌}
 use Rattle.network_session.specs.Network.{NetworkView}
 use Rattle.network_steps.specs.Lines.{came_line, is_loss, loss_line, losses_left, shown_losses}
 use Rattle.network_steps.specs.StepsView.{StepsView}
@@ -28,10 +28,6 @@ pub one_lost : (came : Came) (net : NetworkView) {g₀ d₀ g₁ d₁ g₂ lost 
     left ≡ loss_line came ++ later → WritesOn g₀ d₀ g₁ d₁ done → WritesOn g₁ d₁ g₂ lost (came_line came net) → WritesOn g₀ d₀ g₂ (lost ++ later) all
 one_lost came net {done = done} later so_far loss next first second =
     written_as (sym (with_one came net done later so_far loss next)) (lost_then later (then_written first second))
-
-pub all_put : {g₀ d₀ g₁ d₁ all done left : List ℕ} → all ≡ done ++ left → left ≡ [] → WritesOn g₀ d₀ g₁ d₁ done → WritesOn g₀ d₀ g₁ d₁ all
-all_put {done = done} so_far none writes =
-    written_as (sym (so_far ∙ (ap (λ (text : List ℕ). done ++ text) none ∙ append-nil done))) writes
 
 -- all of them, where the transcript isn't quiet
 pub shown_all : (o : Option Sending) (net : NetworkView) → losses_left o net ≡ shown_losses false o net

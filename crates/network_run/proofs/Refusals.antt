@@ -1,5 +1,5 @@
 -- What a mote refuses that was not halted.
-use Rattle.std.proofs.Common.{◌≡◌, ◌+◌, ◌-◌, ℕ, Bool, true, false, not, refl, ◌∙◌, Option, None, Some, IsSomeAnd, arith, slice_get}
+use Rattle.std.proofs.Common.{◌≡◌, ◌+◌, ◌-◌, ℕ, false, refl, ◌∙◌, Option, None, Some, arith, slice_get}
 use Rattle.mote_session.specs.SessionView.{SessionView}
 use Rattle.mote_types.specs.declared.entry.Input.{Input}
 use Rattle.network_session.specs.Network.{NetworkView}
@@ -15,15 +15,6 @@ same_halted (Some mote) = refl
 
 pub was_up : (mote : Option SessionView) → is_halted_in mote ≡ false → was_halted mote ≡ false
 was_up mote up = same_halted mote ∙ up
-
--- a mote that misses an input
-pub misses : (mote : Option SessionView) → false ≡ not (is_halted_in mote) → IsSomeAnd mote (λ (one : SessionView). one.machine.is_halted ≡ true)
-misses None is = absurd (cc)
-misses (Some mote) is = by_halt mote.machine.is_halted is
-  where
-    by_halt : (halted : Bool) → false ≡ not halted → halted ≡ true
-    by_halt true is = refl
-    by_halt false is = absurd (cc)
 
 pub time_refusal : (m : ℕ) (net : NetworkView) (fault : NetworkFault) → given_refusal m net ≡ Some fault → refusal_of (Outside.Time m) net ≡ Some fault
 time_refusal m net fault is = rw (same_halted (slice_get net.motes m)) is

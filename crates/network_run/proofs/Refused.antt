@@ -1,5 +1,5 @@
 -- What a network refuses that has just booted, or went on from there: too much.
-use Rattle.std.proofs.Common.{◌≡◌, ℕ, zero, suc, ◌+◌, ◌<◌, ◌≤◌, ◌^◌, ◌==◌, List, [], ◌∷◌, length, slice_get, refl, ap, ◌∙◌, arith, Bool, true, false, not, ◌&&◌, ◌||◌, Option, Some, None, IsSomeAnd, inl, inr, is_some, nat_le, nat_lt, option_map, if◌then◌else◌}
+use Rattle.std.proofs.Common.{◌≡◌, ℕ, zero, suc, ◌+◌, ◌<◌, ◌≤◌, ◌^◌, ◌==◌, List, [], ◌∷◌, length, slice_get, refl, ap, ◌∙◌, arith, Bool, true, false, not, ◌&&◌, ◌||◌, Option, Some, None, IsSomeAnd, inr, is_some, nat_le, nat_lt, option_map, if◌then◌else◌}
 use Rattle.std.proofs.lemmas.Bool.Decides.{nat_tests}
 use Rattle.std.specs.Option.{option_or}
 use Rattle.network_session.specs.Alarms.{come_by, first_alarm, first_come, sooner}
@@ -274,14 +274,7 @@ module _ (net : NetworkView) (ready : IsReady net) (none : AwaitsNone net) (with
   fed_refused m input fault rests outside less on_time up why =
       fed_by m input fault (slice_get net.motes m) refl rests outside less on_time up (rw rests.idle at why)
 
--- ticks are refused only where the clock would exceed 2^62
-pub pass_refused : (ticks : ℕ) (net : NetworkView) (fault : NetworkFault) → IsResting net → pass_refusal ticks net ≡ Some fault → IsTooMuch fault
-pass_refused ticks net fault rests why = by_test (nat_lt (2 ^ 62) (net.target + ticks)) (rw rests.idle at why)
-  where
-    by_test : (b : Bool) → (if b then Some NetworkFault.TooLong else None) ≡ Some fault → IsTooMuch fault
-    by_test true e = inl (cc)
-    by_test false e = absurd (cc)
-
+-- ticks that are accepted let the clock go to 2^62 at most
 pub pass_far : (ticks : ℕ) (net : NetworkView) → IsResting net → pass_refusal ticks net ≡ None → net.target + ticks ≤ 2 ^ 62
 pass_far ticks net rests accepted = by_test (nat_lt (2 ^ 62) (net.target + ticks)) refl (rw rests.idle at accepted)
   where

@@ -8,13 +8,13 @@ use Rattle.mote_text.specs.Code.Writing.{WritesOn}
 use Rattle.network_run.specs.declared.fault.RunFault.{RunFault}
 use Rattle.network_steps.specs.Code.Calls.{Speak, Speaks}
 use Rattle.network_steps.specs.Code.Going.{GoesBy, PassesBy}
-use Rattle.network_steps.specs.Code.Turns.{ends_open, is_open, is_turn}
+use Rattle.network_steps.specs.Code.Turns.{ends_open, is_open, is_turn, times_of}
 use Rattle.mote_session.specs.Voices.{Voices}
 use Rattle.network_run.specs.Code.Ready.{IsRefusedOf, IsWithin, StaysWithin}
 use Rattle.network_run.proofs.Ready.{leads_awaits, leads_ready, move_within}
 use Rattle.mote_text.proofs.Writing.{nothing_more, then_written}
 use Rattle.network_run.specs.Outside.{Outside, all_outside, outside_of}
-use Rattle.network_steps.specs.NetworkRuns.{IsMove, Leads, Move, after_move, inputs_of, move_lines, moves_text, times_of}
+use Rattle.network_steps.specs.NetworkRuns.{IsMove, Leads, Move, after_move, inputs_of, move_lines, moves_text}
 use Rattle.network_steps.specs.Lines.{shown_line, shown_losses}
 use Rattle.network_steps.specs.StepsView.{StepsView}
 use Rattle.network_steps.specs.Works.{came_lines, inputs_waiting}

@@ -22,8 +22,8 @@ use Rattle.network_session.specs.declared.outcome.Outcome.{Outcome}
 use Rattle.network_session.proofs.Working.{there_after}
 use Rattle.network_steps.specs.Code.Calls.{IsActiveCall}
 use Rattle.network_steps.specs.Code.Going.{GoesBy, PassesBy, RefusesLeft, StepsIf, StopsBy, came_in, is_end_in, is_open_in, left_to_do}
-use Rattle.network_steps.specs.Code.Turns.{is_end, is_open, is_turn_step}
-use Rattle.network_steps.specs.NetworkRuns.{DoesStep, IsResting, Leads, Move, inputs_of, moves_text, times_of}
+use Rattle.network_steps.specs.Code.Turns.{is_end, is_open, is_turn_step, times_of}
+use Rattle.network_steps.specs.NetworkRuns.{DoesStep, IsResting, Leads, Move, inputs_of, moves_text}
 use Rattle.network_steps.specs.NetworkText.{log_text}
 use Rattle.network_steps.specs.declared.input.NetworkInput.{NetworkInput}
 use Rattle.network_steps.specs.Lines.{losses_left, shown_losses}

@@ -19,9 +19,9 @@ use Rattle.network_session.specs.Promise.{IsLogOf}
 use Rattle.network_session.specs.Steps.{IsNetworkSubmitted, IsNetworkFed, Steps, aired_if}
 use Rattle.network_session.specs.declared.outcome.Outcome.{Outcome}
 use Rattle.network_session.proofs.Working.{there_after}
-use Rattle.network_steps.specs.NetworkRuns.{IsMove, Leads, Move, after_move, input_of, inputs_of, log_of, move_lines, moved, moves_text, time_of, times_of}
+use Rattle.network_steps.specs.NetworkRuns.{IsMove, Leads, Move, after_move, input_of, inputs_of, log_of, move_lines, moved, moves_text}
 use Rattle.network_steps.specs.Code.Calls.{Speak}
-use Rattle.network_steps.specs.Code.Turns.{ends_open}
+use Rattle.network_steps.specs.Code.Turns.{ends_open, time_of, times_of}
 use Rattle.mote_session.specs.Voices.{Voices}
 use Rattle.network_steps.specs.NetworkText.{happening_lines, log_text}
 

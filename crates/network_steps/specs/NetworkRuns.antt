@@ -102,19 +102,6 @@ input_of (Move.Tell m new) = None
 abbrev pub inputs_of : List Move → List NetworkInput
 inputs_of moves = filter_map input_of moves
 
--- the mote that gets the time in a move before an input from outside
-abbrev pub time_of : Move → Option ℕ
-time_of (Move.Tell m new) = Some m
-time_of (Move.Step outcome new) = None
-time_of (Move.Submit call new) = None
-time_of (Move.Tick ticks new) = None
-time_of (Move.Hand m input new) = None
-time_of (Move.Miss m input new) = None
-
--- the motes that get it in all of these moves
-abbrev pub times_of : List Move → List ℕ
-times_of moves = filter_map time_of moves
-
 -- what happens in a move
 abbrev pub moved : NetworkView → Move → List Happening
 moved old (Move.Step outcome new) = happened outcome old new

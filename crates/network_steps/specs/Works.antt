@@ -10,8 +10,8 @@ use Rattle.network_session.specs.Refusals.{catch_up_refusal, feed_refusal, step_
 use Rattle.network_session.specs.Schedule.{due_step}
 use Rattle.network_session.specs.declared.fault.NetworkFault.{NetworkFault}
 use Rattle.network_session.specs.declared.outcome.Outcome.{Outcome}
-use Rattle.network_steps.specs.NetworkRuns.{IsResting, Leads, Move, PassesTime, TellsTime, inputs_of, moves_text, times_of}
-use Rattle.network_steps.specs.Code.Turns.{ends_open, is_open}
+use Rattle.network_steps.specs.NetworkRuns.{IsResting, Leads, Move, PassesTime, TellsTime, inputs_of, moves_text}
+use Rattle.network_steps.specs.Code.Turns.{ends_open, is_open, times_of}
 use Rattle.network_steps.specs.declared.input.NetworkInput.{NetworkInput}
 use Rattle.network_steps.specs.Lines.{shown_line, shown_losses}
 use Rattle.network_steps.specs.Refusals.{awaited_turn, fault_of}

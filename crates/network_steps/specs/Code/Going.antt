@@ -7,8 +7,8 @@ use Rattle.network_session.specs.Network.{NetworkView}
 use Rattle.network_session.specs.Refusals.{feed_refusal, step_refusal}
 use Rattle.network_session.specs.declared.fault.NetworkFault.{NetworkFault}
 use Rattle.network_steps.specs.Code.Calls.{Speak}
-use Rattle.network_steps.specs.Code.Turns.{ends_open, is_end, is_open}
-use Rattle.network_steps.specs.NetworkRuns.{IsResting, Leads, Move, inputs_of, moves_text, times_of}
+use Rattle.network_steps.specs.Code.Turns.{ends_open, is_end, is_open, times_of}
+use Rattle.network_steps.specs.NetworkRuns.{IsResting, Leads, Move, inputs_of, moves_text}
 use Rattle.network_steps.specs.StepsView.{StepsView}
 use Rattle.network_steps.specs.Works.{GoesNext, inputs_waiting, is_halted_in, sending_of}
 use Rattle.network_steps.specs.declared.came.Came.{Came}

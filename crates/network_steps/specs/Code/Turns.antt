@@ -1,8 +1,21 @@
--- Whether a call is awaited after moves.
-use Rattle.std.specs.Prelude.{Bool, true, false, List, [], ◌∷◌, Option, None, Some}
+-- What moves leave open, and which motes get the time in them.
+use Rattle.std.specs.Prelude.{Bool, true, false, List, [], ◌∷◌, Option, None, Some, ℕ, filter_map}
 use Rattle.network_session.specs.declared.outcome.Outcome.{Outcome}
 use Rattle.network_steps.specs.NetworkRuns.{Move}
 use Rattle.network_steps.specs.declared.came.Came.{Came}
+
+-- the mote that gets the time in a move before an input from outside
+abbrev pub time_of : Move → Option ℕ
+time_of (Move.Tell m new) = Some m
+time_of (Move.Step outcome new) = None
+time_of (Move.Submit call new) = None
+time_of (Move.Tick ticks new) = None
+time_of (Move.Hand m input new) = None
+time_of (Move.Miss m input new) = None
+
+-- the motes that get it in all of these moves
+abbrev pub times_of : List Move → List ℕ
+times_of moves = filter_map time_of moves
 
 abbrev pub is_turn_step : Outcome → Bool
 is_turn_step (Outcome.Turn m) = true
