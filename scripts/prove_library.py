@@ -5,6 +5,7 @@ its next check. It is run where the kit can't build statements only, or where an
 """
 from __future__ import annotations
 
+import functools
 import hashlib
 import os
 import shutil
@@ -29,6 +30,7 @@ def note_of(crate: Any) -> Path:
     return Path(crate.rlib).with_name("over")
 
 
+@functools.lru_cache(maxsize=None)
 def sum_of_files(folder: Path) -> str:
     """A sum of the names and contents of all files in a folder."""
     files = sorted(path for path in folder.rglob("*") if path.is_file())
