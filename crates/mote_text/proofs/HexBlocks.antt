@@ -1,12 +1,12 @@
 -- Digits of many bytes.
-use Rattle.std.proofs.Common.{get_or, All, cond, ltb, map, replicate, subst, ◌≡◌, ◌+◌, ◌*◌, ◌/◌, ◌%◌, ◌<◌, ◌≤◌, ◌++◌, ◌∷◌, ◌∙◌, ℕ, zero, suc, List, Bool, true, ◌==◌, drop, length, length-take-le, sym, take, refl, ap, arith, slice_index, [], nat_lt, if◌then◌else◌}
+use Rattle.std.proofs.Common.{cond, ltb, map, replicate, subst, Fits, w8, ◌≡◌, ◌+◌, ◌*◌, ◌/◌, ◌%◌, ◌<◌, ◌≤◌, ◌++◌, ◌∷◌, ◌∙◌, ℕ, zero, suc, List, Bool, true, ◌==◌, drop, length, length-take-le, sym, take, refl, ap, arith, slice_index, [], nat_lt, if◌then◌else◌}
 use Rattle.std.specs.Int.Bits.{bit_or}
 use Rattle.std.specs.List.{flat_map, range_with_len}
-use Rattle.std.specs.Simd.Lanes.{pick_l, sel_l, top, zip2}
-use Rattle.std.proofs.lemmas.Simd.{pick_l_whole, zip2_splat}
+use Rattle.std.specs.Simd.Lanes.{Each1, pick_l, put_chunk, sel_l, top, zip2}
+use Rattle.std.proofs.lemmas.Simd.{length-put_chunk, pick_l_whole, put_chunk_is, take_more_put_chunk}
 use Rattle.std.proofs.lemmas.Bool.{eqb-true}
-use Rattle.std.proofs.lemmas.List.Elements.{All-map}
-use Rattle.std.proofs.lemmas.List.{get_or_default, append_assoc, drop-drop, length-drop, take-take, take-append-le, take_all}
+use Rattle.std.proofs.lemmas.List.{append_assoc, drop-drop, length-drop, take-take, take-append-le, take_all}
+use Rattle.hex.proofs.HexLemmas.{length-encode_with}
 use Rattle.hex.specs.Hex.{lower_digits}
 use Rattle.mote_text.proofs.Common.{encode_lower, encode_with, le-ltb, lt-ltb}
 use Rattle.mote_text.proofs.EachByte.{holds_at, holds_below}
@@ -25,62 +25,56 @@ is_right value = worked_out value == digit value
 all_right : holds_below is_right 16 ≡ true
 all_right = refl
 
+right : (value : ℕ) → value < 16 → worked_out value ≡ digit value
+right value few = eqb-true _ _ (holds_at is_right 16 value all_right few)
+
+-- the digits of all bytes, as they are computed
+abbrev in_turn : List ℕ → List ℕ
+in_turn [] = []
+in_turn (byte ∷ rest) = worked_out (byte / 16) ∷ worked_out (byte % 16) ∷ in_turn rest
+
+all_in_turn : (bytes : List ℕ) → Each1 (Fits w8) bytes → in_turn bytes ≡ encode_lower bytes
+unfolding encode_with
+all_in_turn [] fits = refl
+all_in_turn (byte ∷ rest) fits =
+    let few = fits.0.fits in
+    ap (λ high. high ∷ worked_out (byte % 16) ∷ in_turn rest) (right (byte / 16) (omega (arith, few)))
+    ∙ ap (λ low. digit (byte / 16) ∷ low ∷ in_turn rest) (right (byte % 16) (omega arith))
+    ∙ ap (λ later. digit (byte / 16) ∷ digit (byte % 16) ∷ later) (all_in_turn rest fits.1)
+
 abbrev added : List ℕ → List ℕ → List ℕ
 added xs ys = zip2 (λ x y. (x + y) % 256) xs ys
 
-abbrev all_worked_out : ℕ → List ℕ → List ℕ
-all_worked_out n values =
-    added (added values (replicate n 48))
-    (sel_l (map (top 7) (zip2 (λ x y. cond (ltb x y) 255 0) (replicate n 9) values)) (replicate n 39) (replicate n 0))
+-- high and low halves, in turn
+abbrev values : List ℕ → List ℕ
+values bytes =
+    pick_l 0 (zip2 (λ x y. x / y) bytes (replicate 16 16) ++ zip2 (λ x y. x % y) bytes (replicate 16 16))
+    (flat_map (λ k. k ∷ (16 + k) ∷ []) (range_with_len 0 16))
 
-abbrev AreSmall : List ℕ → Type 0
-AreSmall values = All (λ value. value < 16) values
+-- in a vector's lanes
+abbrev in_lanes : List ℕ → List ℕ
+in_lanes bytes =
+    added (added (values bytes) (replicate 32 48))
+    (sel_l (map (top 7) (zip2 (λ x y. cond (ltb x y) 255 0) (replicate 32 9) (values bytes))) (replicate 32 39) (replicate 32 0))
 
-pub digits_right : (n : ℕ) (values : List ℕ) → length values ≡ n → AreSmall values → all_worked_out n values ≡ map digit values
-digits_right zero [] is few = refl
-digits_right (suc n) [] is few = absurd (omega arith)
-digits_right zero (x ∷ xs) is few = absurd (omega arith)
-digits_right (suc n) (x ∷ xs) is few =
-    ap (λ later. worked_out x ∷ later) (digits_right n xs (omega arith) (λ k d inside. few (suc k) d (omega (arith, inside))))
-    ∙ ap (λ first. first ∷ map digit xs) (eqb-true _ _ (holds_at is_right 16 x all_right (few 0 0 (omega arith))))
+pub digits_right : (bytes : List ℕ) → length bytes ≡ 16 → Each1 (Fits w8) bytes → in_lanes bytes ≡ encode_lower bytes
+digits_right bytes is fits =
+    subst (λ them. in_lanes them ≡ in_turn them) (pick_l_whole 0 bytes 16 is) refl ∙ all_in_turn bytes fits
 
-abbrev quotient : ℕ → ℕ → ℕ
-quotient x y = x / y
+-- the digits of four bytes and of four others
+abbrev fours : List ℕ → List ℕ → List ℕ
+fours front back = encode_lower (pick_l 0 (front ++ back) (range_with_len 0 8 ++ range_with_len 0 8))
 
-abbrev remainder : ℕ → ℕ → ℕ
-remainder x y = x % y
+abbrev AreFours : List ℕ → List ℕ → Type 0
+AreFours front back =
+    (pick_l 0 (fours front back ++ fours front back) (range_with_len 0 8) ≡ encode_lower front)
+    × (pick_l 0 (fours front back ++ fours front back) (range_with_len 8 8) ≡ encode_lower back)
 
--- the digits of high and low halves, in turn
-abbrev woven : List ℕ → List ℕ → List ℕ
-woven high low = pick_l 0 (map digit high ++ map digit low) (flat_map (λ k. k ∷ (16 + k) ∷ []) (range_with_len 0 16))
-
-abbrev halves : (ℕ → ℕ → ℕ) → List ℕ → List ℕ
-halves f bytes = map (λ byte. f byte 16) bytes
-
-all_woven : (bytes : List ℕ) → length bytes ≡ 16 → woven (halves quotient bytes) (halves remainder bytes) ≡ encode_lower bytes
+pub are_fours : (front back : List ℕ) → length front ≡ 4 → length back ≡ 4 → AreFours front back
 unfolding encode_with
-all_woven bytes is =
-    subst (λ them. woven (halves quotient them) (halves remainder them) ≡ encode_lower them) (pick_l_whole 0 bytes 16 is) refl
-
-module _ (bytes : List ℕ) (is : length bytes ≡ 16) where
-  -- in a vector's lanes
-  abbrev lanes : (ℕ → ℕ → ℕ) → List ℕ
-  lanes f = zip2 f (take 16 bytes) (replicate 16 16)
-
-  split : (f : ℕ → ℕ → ℕ) → lanes f ≡ halves f bytes
-  split f = ap (λ them. zip2 f them (replicate 16 16)) (take_all 16 bytes (omega arith)) ∙ zip2_splat f bytes 16 16 is
-
-  small : (f : ℕ → ℕ → ℕ) → All (λ byte. f byte 16 < 16) bytes → AreSmall (lanes f)
-  small f few = subst AreSmall (sym (split f)) (All-map (λ value. value < 16) (λ byte. f byte 16) bytes few)
-
-  pub high_small : ((i : ℕ) → get_or bytes i 0 < 256) → AreSmall (lanes quotient)
-  high_small fits = small quotient (λ k d inside. omega (arith, get_or_default bytes k d 0 inside))
-
-  pub low_small : AreSmall (lanes remainder)
-  low_small = small remainder (λ k d inside. omega arith)
-
-  pub both_written : woven (lanes quotient) (lanes remainder) ≡ encode_lower bytes
-  both_written = rw (split quotient, split remainder) (all_woven bytes is)
+are_fours front back is_front is_back =
+    subst (λ them. AreFours them back) (pick_l_whole 0 front 4 is_front)
+    (subst (λ them. AreFours (pick_l 0 front (range_with_len 0 4)) them) (pick_l_whole 0 back 4 is_back) (refl, refl))
 
 pub encode_parts : (n : ℕ) (bytes : List ℕ) → encode_lower (take n bytes) ++ encode_lower (drop n bytes) ≡ encode_lower bytes
 unfolding encode_with
@@ -97,6 +91,35 @@ encode_front zero bytes = refl
 encode_front (suc n) [] = rw (double n) refl
 encode_front (suc n) (byte ∷ rest) =
     rw (double n) (ap (λ later. digit (byte / 16) ∷ digit (byte % 16) ∷ later) (encode_front n rest))
+
+-- the digits of the first n bytes, and of the last, which may overlap
+pub both_ends : (bytes rest : List ℕ) (n last : ℕ) → last ≤ n → n ≤ length bytes →
+    take (2 * last) (encode_lower (take n bytes) ++ rest) ++ encode_lower (drop last bytes) ≡ encode_lower bytes
+both_ends bytes rest n last near inside =
+    let size = length-encode_with lower_digits (take n bytes) in
+    ap (λ front. front ++ encode_lower (drop last bytes)) (
+    take-append-le (2 * last) (encode_lower (take n bytes)) rest (omega (arith, size, length-take-le n bytes inside))
+    ∙ encode_front last (take n bytes) ∙ ap encode_lower (take-take last n bytes near)
+    )
+    ∙ encode_parts last bytes
+
+-- as a vector stores the first, and another the last
+pub ends_put : (bytes old : List ℕ) (n last : ℕ) → last + n ≡ length bytes → last ≤ n → length old ≡ 2 * length bytes →
+    put_chunk (2 * last) (put_chunk 0 old (encode_lower (take n bytes))) (encode_lower (take n (drop last bytes))) ≡ encode_lower bytes
+ends_put bytes old n last end near size =
+    let front = encode_lower (take n bytes) in
+    let back = encode_lower (drop last bytes) in
+    let first = put_chunk 0 old front in
+    let same = length-put_chunk 0 old front in
+    let front_size : length front ≡ 2 * n =
+    omega (arith, length-encode_with lower_digits (take n bytes), length-take-le n bytes (omega arith)) in
+    let back_size : length back ≡ 2 * n = omega (arith, length-encode_with lower_digits (drop last bytes), length-drop last bytes) in
+    rw (take_all n (drop last bytes) (omega (arith, length-drop last bytes))) (
+    sym (take_all (length old) (put_chunk (2 * last) first back) (omega (arith, length-put_chunk (2 * last) first back, same)))
+    ∙ take_more_put_chunk (2 * last) first back (length old) (omega (arith, back_size)) (omega (arith, same))
+    ∙ ap (λ text. take (2 * last) text ++ back) (put_chunk_is 0 old front (omega (arith, front_size)))
+    ∙ both_ends bytes (drop (length front) old) n last near (omega arith)
+    )
 
 -- the digits of n bytes were written from `at` on
 abbrev pub Writes : List ℕ → List ℕ → List ℕ → ℕ → ℕ → Type 0

@@ -6,7 +6,7 @@ ghost use Rattle.hex.specs.Hex.{decode_sized, encode_lower};
 ghost use Rattle.mote_text.specs.Code.HexDigits.{PairsOfDigits, ValuesOfDigits};
 ghost use Rattle.mote_text.specs.Code.LineAnswers.{some_if};
 
-use crate::hex_blocks::{BLOCK, NO_DIGIT, read_blocks, write_blocks};
+use crate::hex_blocks::{BLOCK, FEW, NO_DIGIT, read_blocks, write_digits};
 
 /// The two lower case digits of each byte, one pair after the other.
 #[derive(Drop)]
@@ -41,8 +41,8 @@ impl DigitPairs {
         requires { length place.old ≡ 2 * length bytes.now }
         ensures { place.new ≡ encode_lower bytes.now }
     {
-        if bytes.len() >= BLOCK {
-            return write_blocks(bytes, place);
+        if bytes.len() >= FEW {
+            return write_digits(bytes, place);
         }
         'bytes: for i in 0..bytes.len() {
             let at = 2 * bytes[i] as usize;

@@ -1,16 +1,14 @@
-use Rattle.std.proofs.Common.{arith, ◌∙◌}
+use Rattle.std.proofs.Common.{arith}
 use Rattle.std.proofs.lemmas.Simd.{put_chunk_whole}
-use Rattle.mote_text.proofs.HexBlocks.{both_written, high_small, low_small}
+use Rattle.hex.proofs.HexLemmas.{length-encode_with}
+use Rattle.hex.specs.Hex.{lower_digits}
+use Rattle.mote_text.proofs.Common.{encode_lower, take_all}
 use Rattle.mote_text.proofs.hex_blocks.write_block.Goals as goal
-
-pub digits_of-high-requires : goal.digits_of-high-requires
-digits_of-high-requires c = high_small c.args.bytes.now c.requires.bytes (λ i. omega (arith, c.type_inv.bytes i))
-
-pub digits_of-low-requires : goal.digits_of-low-requires
-digits_of-low-requires c = low_small c.args.bytes.now c.requires.bytes
 
 pub returns : goal.returns
 returns c =
-    rw (c.digits_of-high.ensures, c.digits_of-low.ensures) (
-    put_chunk_whole c.args.buffer.now _ c.requires.buffer ∙ both_written c.args.bytes.now c.requires.bytes
+    let bytes = c.args.bytes.now in
+    let size = length-encode_with lower_digits bytes in
+    rw (c.digits_of.ensures, take_all 16 bytes (omega (arith, c.requires.bytes))) (
+    put_chunk_whole c.args.buffer.now (encode_lower bytes) (omega (arith, c.requires.bytes, c.requires.buffer, size))
     )
