@@ -63,7 +63,7 @@ def definitions(file: str) -> dict[str, tuple[list[str], str]]:
 
 def declared_type(file: str, name: str) -> list[str]:
     lines = (ROOT / file).read_text(encoding="utf-8").splitlines()
-    at = next(i for i, line in enumerate(lines) if re.match(rf"pub (?:struct|enum|type) {name}\b", line))
+    at = next(i for i, line in enumerate(lines) if re.match(rf"(?:pub(?:\(\w+\))? )?(?:struct|enum|type) {name}\b", line))
     start = at
     while start > 0 and lines[start - 1].startswith(("///", "#[")):
         start -= 1
@@ -82,7 +82,7 @@ def types_within(file: str, name: str) -> Iterator[Place]:
             for word in words & set(re.findall(r"\w+", several or single)):
                 yield f"crates/{home}/src/{path.replace('::', '/')}.rt", word
     for word in words - {name}:
-        if re.search(rf"^pub (?:struct|enum|type) {word}\b", text, re.M):
+        if re.search(rf"^(?:pub(?:\(\w+\))? )?(?:struct|enum|type) {word}\b", text, re.M):
             yield file, word
 
 
@@ -110,15 +110,25 @@ def reached(todo: list[Place]) -> set[Place]:
     return seen
 
 
+def named_in_contract(file: str, head: str) -> set[Place]:
+    """What the clauses of the function name whose text begins so."""
+    text = (CRATES / file).read_text(encoding="utf-8")
+    clauses = text[text.index(head) :]
+    words = set(re.findall(r"\w+", clauses[: clauses.index("\n{\n")]))
+    return {home for word, home in names_used(text).items() if word in words and home[1]}
+
+
 def promised() -> tuple[set[Place], set[Place]]:
     """What the clauses of `run` speak of, without its promise; what the promise of the text adds; and that of the laws."""
-    text = (CRATES / "mote_run/src/run.rt").read_text(encoding="utf-8")
-    clauses = text[text.index("pub fn run<") :]
-    words = set(re.findall(r"\w+", clauses[: clauses.index("\n{\n")]))
-    start = {home for word, home in names_used(text).items() if word in words and home[1]}
+    start = named_in_contract("mote_run/src/run.rt", "pub fn run<")
     promise = next(place for place in start if place[1] == "RunPromise")
     of_text = reached([*(start - {promise}), ("crates/mote_run/specs/RunText.antt", "HasRunTo")])
     return of_text, reached([*start]) - of_text
+
+
+def promised_of_networks() -> set[Place]:
+    """What the clauses of `run_script` speak of."""
+    return reached([*named_in_contract("network_setup/src/script_run.rt", "pub fn run_script<")])
 
 
 def lines_by_file(places: Iterable[Place]) -> collections.Counter[str]:

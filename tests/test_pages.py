@@ -10,7 +10,7 @@ import pytest
 import catch_alls
 import layers
 import public_calls
-from definitions import Place, definitions, lines_by_file, promised, spoken_of
+from definitions import Place, definitions, lines_by_file, promised, promised_of_networks, spoken_of
 from tools import CRATES, ROOT
 
 # CHANGELOG.md has names of before, and python/README.md programs of its own.
@@ -19,8 +19,8 @@ PAGES = [*READMES, ROOT / "interface/public-calls.md", *sorted((ROOT / "docs").g
 ORDER = (ROOT / "docs/reading-order.md").read_text(encoding="utf-8")
 # The files of docs/reading-order.md, in their order, each with its lines.
 ROWS = re.findall(r"^- `(crates/[^`]+)` \((\d+)\):", ORDER, re.M)
-# The same of part three.
-NETWORK_ROWS = re.findall(r"^- `(\w+/specs/[^`]+)` \((\d+)\):", ORDER, re.M)
+# The same of parts three and four.
+NETWORK_ROWS, OTHER_ROWS = (re.findall(r"^- `(\w+/specs/[^`]+)` \((\d+)\):", part, re.M) for part in ORDER.split("## Part four"))
 of_each_page = pytest.mark.parametrize("page", PAGES, ids=lambda page: str(page.relative_to(ROOT)))
 
 
@@ -56,7 +56,7 @@ def not_reached(file: str) -> set[str]:
 
 
 def test_definitions_are_reached() -> None:
-    """A file of definitions that `run` reaches has no others, but where part three lists it again, with the lines of these."""
+    """A file of definitions that `run` reaches has no others, but where part three or four lists it again, with the lines of these."""
     faults = []
     for file in filter(is_definitions, all_lines().keys() - {f"crates/{file}" for file, _ in NETWORK_ROWS}):
         others = not_reached(file)
@@ -85,17 +85,45 @@ def test_sum_of_types() -> None:
     assert f"{lines} lines of types" in " ".join(ORDER.split())
 
 
+# The crates of a network; and what else its run rests on, each with the words that tell its lines.
+OF_A_NETWORK = ("medium_core", "network_session", "network_steps", "network_run", "network_setup")
+BESIDE_IT = {"`mote_session/specs`": ("mote_session/specs",), "`call_lists/specs` and `mote_apps/specs`": ("call_lists/specs", "mote_apps/specs"),
+             "`specs/Code` of lower crates": ("mote_types/specs/Code", "process_core/specs/Code", "kernel_core/specs/Code")}
+
+
+@functools.lru_cache(maxsize=None)
+def of_a_network() -> set[Place]:
+    """The definitions that `run_script` reaches, and `run` doesn't."""
+    of_text, of_laws = reached()
+    return {place for place in promised_of_networks() - of_text - of_laws if is_definitions(place[0])}
+
+
+def rows(lines: dict[str, int]) -> dict[str, str]:
+    return {file.removeprefix("crates/"): str(count) for file, count in lines.items() if count}
+
+
 def test_definitions_of_a_network() -> None:
-    """Part three lists each file of definitions of the network's crates, once, with the lines that `run` doesn't reach, and their sum."""
-    lines: dict[str, int] = {}
-    for file in dict(NETWORK_ROWS):
-        found = definitions(f"crates/{file}")
-        lines[file] = sum(len(found[name][0]) for name in not_reached(f"crates/{file}"))
-    assert [(file, str(lines[file])) for file, _ in NETWORK_ROWS] == NETWORK_ROWS and len(lines) == len(NETWORK_ROWS)
-    assert f"{sum(lines.values())} lines more in {len(lines)} files" in " ".join(ORDER.split())
-    own = {str(path.relative_to(CRATES)) for crate in ("medium_core", "network_session", "network_run")
-           for path in (CRATES / crate / "specs").glob("*.antt") if path.stem not in ("Lib", "Code")}
-    assert own <= lines.keys()
+    """Part three lists each file that the run of a network's script reaches, once, with its lines, and their sum; and says how many more
+    are in crates that aren't listed."""
+    listed = dict(NETWORK_ROWS)
+    wanted = rows(lines_by_file(of_a_network()))
+    unlisted = {file: int(count) for file, count in wanted.items() if file not in listed}
+    assert len(listed) == len(NETWORK_ROWS) and listed == {file: count for file, count in wanted.items() if file in listed}
+    assert f"{sum(map(int, listed.values())):,} lines more in {len(listed)} files" in " ".join(ORDER.split())
+    for said, folders in BESIDE_IT.items():
+        count = sum(unlisted.pop(file) for file in [*unlisted] if file.startswith(folders))
+        assert f"{count} lines of {said}" in " ".join(ORDER.split())
+    assert not unlisted
+
+
+def test_other_definitions_of_a_network() -> None:
+    """Part four lists the other definitions of these files, and of its crates, and their sum."""
+    of_crates = [path for crate in OF_A_NETWORK for path in (CRATES / crate / "specs").glob("*.antt") if path.stem not in ("Lib", "Code")]
+    files = {f"crates/{file}" for file in dict(NETWORK_ROWS)} | {str(path.relative_to(ROOT)) for path in of_crates}
+    others = lines_by_file((file, name) for file in files for name in not_reached(file) if (file, name) not in of_a_network())
+    listed = dict(OTHER_ROWS)
+    assert len(listed) == len(OTHER_ROWS) and listed == rows(others)
+    assert f"{sum(others.values())} lines in {len(listed)} files" in " ".join(ORDER.split())
 
 
 OF_A_RUN = ("mote_types", "arena_core", "mmem_core", "memb_core", "heap_core", "node_memory", "process_core", "timer_core", "device_core",

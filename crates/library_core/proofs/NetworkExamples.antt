@@ -68,7 +68,7 @@ clock_of (Came.Full from to) clock = refl
 clock_of (Came.Missed from to) clock = refl
 clock_of (Came.Unheard m) clock = refl
 clock_of Came.Rest clock = refl
-clock_of Came.Halt clock = refl
+clock_of Came.Exhausted clock = refl
 
 module _ (happening : Happening) (before after : PlainTurn) (old new : StepsView) (goes : NetworkGoesNext happening before after old new) where
   -- the turn is as it was where none awaits a call

@@ -39,4 +39,4 @@ happening_of (Came.Full from to) clock = reported 4 (number_of to) (number_of fr
 happening_of (Came.Missed from to) clock = reported 5 (number_of to) (number_of from) clock
 happening_of (Came.Unheard m) clock = reported 5 (number_of m) 0 clock
 happening_of Came.Rest clock = reported 6 0 0 clock
-happening_of Came.Halt clock = reported 7 0 0 clock
+happening_of Came.Exhausted clock = reported 7 0 0 clock

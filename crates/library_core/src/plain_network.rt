@@ -121,7 +121,7 @@ pub fn happening_of(came: Came, clock: u64) -> Happening
         Came::Missed(from, to) => (5, number_of(to), number_of(from)),
         Came::Unheard(mote) => (5, number_of(mote), 0),
         Came::Rest => (6, 0, 0),
-        Came::Halt => (7, 0, 0),
+        Came::Exhausted => (7, 0, 0),
     };
     Happening {
         step,

@@ -41,7 +41,7 @@ thirds : map (λ (frees : List ℕ). is_lost (after_each frees (link 1 3 (Loss.E
 thirds = refl
 
 -- the rule is checked before the room, and what the rule loses needs none
-fates : (fate 1 (link 1 3 Loss.Never) ≡ Fate.Carried) × (fate 0 (link 1 3 Loss.Never) ≡ Fate.Crowded)
+fates : (fate 1 (link 1 3 Loss.Never) ≡ Fate.Carried) × (fate 0 (link 1 3 Loss.Never) ≡ Fate.Full)
     × (fate 0 (link 1 3 (Loss.EveryNth 2 0)) ≡ Fate.Lost) × (free_after 5 (link 1 3 (Loss.EveryNth 2 0)) ≡ 5) × (free_after 5 (link 1 3 Loss.Never) ≡ 4)
 fates = (refl, refl, refl, refl, refl)
 
@@ -76,7 +76,7 @@ both_fly = refl
 
 -- with room for one the first link has it, and the other says so
 one_flies : ((sent 0 (frame 5) (still_air 1 pair)).flights ≡ over_first 0 5 ∷ [])
-    × (map (λ (l : Link). l.last) (links_from 0 (sent 0 (frame 5) (still_air 1 pair))) ≡ Fate.Carried ∷ Fate.Crowded ∷ [])
+    × (map (λ (l : Link). l.last) (links_from 0 (sent 0 (frame 5) (still_air 1 pair))) ≡ Fate.Carried ∷ Fate.Full ∷ [])
 one_flies = (refl, refl)
 
 -- who has no link sends to nobody

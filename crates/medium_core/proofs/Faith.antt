@@ -26,7 +26,7 @@ all_if_carried : (P : Flight → Type 0) (x : Fate) (f : Flight) (others : List 
 all_if_carried P Fate.Carried f others own rest = (own, rest)
 all_if_carried P Fate.Unused f others own rest = rest
 all_if_carried P Fate.Lost f others own rest = rest
-all_if_carried P Fate.Crowded f others own rest = rest
+all_if_carried P Fate.Full f others own rest = rest
 
 all_begun : (P : Flight → Type 0) (clock from : ℕ) (bytes : ArrayVec ℕ) → ((position : ℕ) (link : Link) → P (flight_over clock from bytes position link)) →
     (free position : ℕ) (links : List Link) → AllByRecursion P (begun free clock from bytes position links)
@@ -144,14 +144,14 @@ module _ (m position : ℕ) where
   over_own Fate.Carried f others own none = rw own (ap (λ l. f ∷ l) none)
   over_own Fate.Unused f others own none = none
   over_own Fate.Lost f others own none = none
-  over_own Fate.Crowded f others own none = none
+  over_own Fate.Full f others own none = none
 
   over_other : (x : Fate) (f : Flight) (others : List Flight) → is_over m position f ≡ false →
       over m position (if_carried x f others) ≡ over m position others
   over_other Fate.Carried f others misses = rw misses refl
   over_other Fate.Unused f others misses = refl
   over_other Fate.Lost f others misses = refl
-  over_other Fate.Crowded f others misses = refl
+  over_other Fate.Full f others misses = refl
 
   begun_over : (free clock : ℕ) (bytes : ArrayVec ℕ) (p j : ℕ) (links : List Link) → position ≡ p + j →
       over m position (begun free clock m bytes p links) ≡ alone clock bytes (free_at free links j) (slice_get links j)
@@ -195,7 +195,7 @@ module _ (m position : ℕ) where
 
       by_tests : (a b : Bool) →
           map (flown m position link) (if a || b then rest else frame ∷ rest)
-          ≡ if_carried (if a then Fate.Lost else if b then Fate.Crowded else Fate.Carried) (flight_over frame.at m frame.bytes position link) []
+          ≡ if_carried (if a then Fate.Lost else if b then Fate.Full else Fate.Carried) (flight_over frame.at m frame.bytes position link) []
           ++ map (flown m position (after_frame frame.free link)) rest
       by_tests true b = refl
       by_tests false true = refl

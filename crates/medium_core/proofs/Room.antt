@@ -26,7 +26,7 @@ length_begun free clock from bytes position (link ∷ links) =
     by_tests (is_lost link) (free == 0) refl (λ k. length_begun k clock from bytes (position + 1) links)
   where
     by_tests : (a b : Bool) → (free == 0) ≡ b → ((k : ℕ) → length (begun k clock from bytes (position + 1) links) ≤ k) →
-        length (if_carried (if a then Fate.Lost else if b then Fate.Crowded else Fate.Carried) (flight_over clock from bytes position link)
+        length (if_carried (if a then Fate.Lost else if b then Fate.Full else Fate.Carried) (flight_over clock from bytes position link)
         (begun (if a then free else free - 1) clock from bytes (position + 1) links)) ≤ free
     by_tests true b e rest = rest free
     by_tests false true e rest = let h = rest (free - 1) in omega (arith, h)
@@ -48,7 +48,7 @@ pub free_spent : (room : ℕ) (f : Flight) (flights : List Flight) (link : Link)
 free_spent room f flights link = by_tests (is_lost link) ((room - length flights) == 0) refl
   where
     by_tests : (a b : Bool) → ((room - length flights) == 0) ≡ b →
-        room - length (with_flights (if_carried (if a then Fate.Lost else if b then Fate.Crowded else Fate.Carried) f []) flights)
+        room - length (with_flights (if_carried (if a then Fate.Lost else if b then Fate.Full else Fate.Carried) f []) flights)
         ≡ (if a then room - length flights else (room - length flights) - 1)
     by_tests true b e = refl
     by_tests false true e = grind (arith, nat_tests)
@@ -60,7 +60,7 @@ pub carried_first : (x : Fate) (f : Flight) (others flights : List Flight) →
 carried_first Fate.Carried f others flights = refl
 carried_first Fate.Unused f others flights = refl
 carried_first Fate.Lost f others flights = refl
-carried_first Fate.Crowded f others flights = refl
+carried_first Fate.Full f others flights = refl
 
 pub length_after : (free : ℕ) (links : List Link) → length (after_frames free links) ≡ length links
 length_after free [] = refl

@@ -50,9 +50,7 @@ flight_over clock from bytes position link =
 
 abbrev pub if_carried : Fate → Flight → List Flight → List Flight
 if_carried Fate.Carried f others = f ∷ others
-if_carried Fate.Unused f others = others
-if_carried Fate.Lost f others = others
-if_carried Fate.Crowded f others = others
+if_carried _ f others = others
 
 -- what a frame puts in flight: one over each of these links that carries it
 abbrev pub begun : ℕ → ℕ → ℕ → ArrayVec ℕ → ℕ → List Link → List Flight

@@ -25,7 +25,7 @@ is_lost link = is_lost_by link.loss
 
 -- what becomes of the next frame over a link, where free more find room in flight
 abbrev pub fate : ℕ → Link → Fate
-fate free link = if is_lost link then Fate.Lost else if free == 0 then Fate.Crowded else Fate.Carried
+fate free link = if is_lost link then Fate.Lost else if free == 0 then Fate.Full else Fate.Carried
 
 -- the link after it
 abbrev pub after_frame : ℕ → Link → Link

@@ -27,7 +27,7 @@ pub enum Fate {
     /// The link's rule lost it.
     Lost,
     /// It found no room among the frames in flight, and is lost.
-    Crowded,
+    Full,
 }
 
 /// A link from one mote to another.
@@ -133,11 +133,7 @@ impl Link {
         if self.loses() {
             return Fate::Lost;
         }
-        if free == 0 {
-            Fate::Crowded
-        } else {
-            Fate::Carried
-        }
+        if free == 0 { Fate::Full } else { Fate::Carried }
     }
 
     /// The link after a frame that found room for `free` more.

@@ -6,14 +6,12 @@ use Rattle.mote_types.specs.declared.entry.Note.{Note}
 
 abbrev pub sent_by_note : Note → Option (ArrayVec ℕ)
 sent_by_note (Note.Sent bytes) = Some bytes
-sent_by_note (Note.Lost refusal) = None
+sent_by_note _ = None
 
 -- only a note has one
 abbrev pub sent_by_entry : Entry → Option (ArrayVec ℕ)
 sent_by_entry (Entry.Note note) = sent_by_note note
-sent_by_entry (Entry.Input input) = None
-sent_by_entry (Entry.Turn pid origin stimulus call) = None
-sent_by_entry Entry.Halt = None
+sent_by_entry _ = None
 
 -- of the last entry, if there is one
 abbrev pub sent_in : Option Entry → Option (ArrayVec ℕ)

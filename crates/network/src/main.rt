@@ -11,7 +11,7 @@ mod run;
 use command_line::{Failure, exit_code, finish, texts_of, words_of};
 use mote_session::refusal::SessionRefusal;
 use mote_text::script::SCRIPT_LIMIT;
-use network_run::fault::RunFault;
+use network_run::fault::NetworkRunFault;
 use network_session::fault::NetworkFault;
 use network_setup::fault::SetUpRunFault;
 use options::{PROGRAM, Wish, wish_of};
@@ -32,16 +32,16 @@ fn read_all<R: AllocGlobal + io::Input>(rt: &R) -> Result<Vec<u8>, Failure<'stat
 }
 
 /// Reports why a network's run failed, and returns the status that the program exits with.
-fn report_run<R: Print + Eprint>(rt: &R, fault: RunFault) -> u8 {
+fn report_run<R: Print + Eprint>(rt: &R, fault: NetworkRunFault) -> u8 {
     match fault {
-        RunFault::Write => finish(rt, PROGRAM, Err(Failure::Write)),
-        RunFault::Refused(
+        NetworkRunFault::Write => finish(rt, PROGRAM, Err(Failure::Write)),
+        NetworkRunFault::Refused(
             NetworkFault::TooLong | NetworkFault::Refused(SessionRefusal::TooManyInputs),
         ) => {
             let _ = eprintln!(rt; "{}: too many inputs or ticks", PROGRAM.name);
             70
         }
-        RunFault::Refused(_) => report_broken(rt),
+        NetworkRunFault::Refused(_) => report_broken(rt),
     }
 }
 

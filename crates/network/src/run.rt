@@ -4,7 +4,7 @@ use crate::only::OnlyMote;
 use crate::options::Wish;
 use mote_shell::Output;
 use mote_text::script::End;
-use network_run::fault::RunFault;
+use network_run::fault::NetworkRunFault;
 use network_setup::fault::SetUpRunFault;
 use network_setup::script_run::run_script;
 use std::alloc::Global;
@@ -17,7 +17,7 @@ fn flush<W: Write>(
 ) -> Result<End, SetUpRunFault> {
     match writer.flush() {
         Ok(()) => outcome,
-        Err(_) => Err(SetUpRunFault::Run(RunFault::Write)),
+        Err(_) => Err(SetUpRunFault::Run(NetworkRunFault::Write)),
     }
 }
 

@@ -21,22 +21,22 @@ use Rattle.network_run.proofs.Ready.{aired_clock, each_with}
 use Rattle.network_run.proofs.Lengths.{leads_length}
 use Rattle.network_run.proofs.OutsideMoves.{outside_is}
 use Rattle.network_steps.proofs.Going.{none_more}
-use Rattle.network_steps.specs.Works.{is_behind}
+use Rattle.network_steps.specs.Works.{inputs_of, is_behind}
 use Rattle.network_steps.proofs.GivenInputs.{not_given}
 use Rattle.network_steps.specs.Code.Turns.{times_of}
-use Rattle.network_steps.specs.NetworkRuns.{DoesStep, IsResting, Leads, Move, TellsTime, inputs_of}
+use Rattle.network_steps.specs.NetworkRuns.{DoesStep, IsResting, Leads, Move, TellsTime}
 use Rattle.network_steps.specs.Works.{inputs_waiting}
 use Rattle.network_steps.specs.declared.came.Waiting.{Waiting}
 use Rattle.network_steps.specs.declared.input.NetworkInput.{NetworkInput}
 
 -- ---- time is up at rest, and doesn't go on
 
-hearing_goes : (clock : ℕ) (f : Flight) (o : Option SessionView) → (hearing clock f o ≡ Outcome.Rest → ⊥) × (hearing clock f o ≡ Outcome.Passed → ⊥)
+hearing_goes : (clock : ℕ) (f : Flight) (o : Option SessionView) → (hearing clock f o ≡ Outcome.Rest → ⊥) × (hearing clock f o ≡ Outcome.Clock → ⊥)
 hearing_goes clock f None = (λ e. absurd (cc), λ e. absurd (cc))
 hearing_goes clock f (Some mote) = by_tests (mote.machine.is_halted || length f.bytes.items == 0) (nat_lt mote.machine.clock clock)
   where
     by_tests : (a b : Bool) → ((if a then Outcome.Missed f.from f.to else if b then Outcome.Woken f.to else Outcome.Heard f.to) ≡ Outcome.Rest → ⊥)
-        × ((if a then Outcome.Missed f.from f.to else if b then Outcome.Woken f.to else Outcome.Heard f.to) ≡ Outcome.Passed → ⊥)
+        × ((if a then Outcome.Missed f.from f.to else if b then Outcome.Woken f.to else Outcome.Heard f.to) ≡ Outcome.Clock → ⊥)
     by_tests true b = (λ e. absurd (cc), λ e. absurd (cc))
     by_tests false true = (λ e. absurd (cc), λ e. absurd (cc))
     by_tests false false = (λ e. absurd (cc), λ e. absurd (cc))
@@ -45,7 +45,7 @@ rest_by : (net : NetworkView) (o : Option Flight) → arriving net o ≡ Outcome
 rest_by net (Some f) h = absurd ((hearing_goes net.air.clock f (slice_get net.motes f.to)).0 h)
 rest_by net None h = by_test (nat_lt net.air.clock net.target) refl h
   where
-    by_test : (b : Bool) → nat_lt net.air.clock net.target ≡ b → (if b then Outcome.Passed else Outcome.Rest) ≡ Outcome.Rest → net.target ≤ net.air.clock
+    by_test : (b : Bool) → nat_lt net.air.clock net.target ≡ b → (if b then Outcome.Clock else Outcome.Rest) ≡ Outcome.Rest → net.target ≤ net.air.clock
     by_test true e h = absurd (cc)
     by_test false e h = grind (arith, nat_tests)
 
@@ -55,14 +55,14 @@ rest_now net (Some m) h = absurd (cc)
 
 is_rest_then : (x : Outcome) → is_rest x ≡ true → x ≡ Outcome.Rest
 is_rest_then Outcome.Rest h = refl
-is_rest_then Outcome.Passed h = absurd (cc)
+is_rest_then Outcome.Clock h = absurd (cc)
 is_rest_then (Outcome.Missed from to) h = absurd (cc)
 is_rest_then Outcome.Exhausted h = absurd (cc)
 is_rest_then (Outcome.Started m) h = absurd (cc)
 is_rest_then (Outcome.Turn m) h = absurd (cc)
-is_rest_then (Outcome.Made m) h = absurd (cc)
+is_rest_then (Outcome.Entry m) h = absurd (cc)
 is_rest_then (Outcome.Rested m) h = absurd (cc)
-is_rest_then (Outcome.Stopped m) h = absurd (cc)
+is_rest_then (Outcome.Halted m) h = absurd (cc)
 is_rest_then (Outcome.Woken m) h = absurd (cc)
 is_rest_then (Outcome.Heard m) h = absurd (cc)
 
@@ -76,20 +76,20 @@ rest_time net h = by_tests (nat_lt net.started (length net.motes)) (net.rounds =
     by_tests false true false e h = absurd (cc)
     by_tests false false t e h = rest_now net (first_come net.air.clock (wakes_of net.motes)) h
 
-passed_by : (net : NetworkView) (o : Option Flight) → Outcome.Passed ≡ arriving net o → net.air.clock < net.target
-passed_by net (Some f) h = absurd ((hearing_goes net.air.clock f (slice_get net.motes f.to)).1 (sym h))
-passed_by net None h = by_test (nat_lt net.air.clock net.target) refl h
+clock_by : (net : NetworkView) (o : Option Flight) → Outcome.Clock ≡ arriving net o → net.air.clock < net.target
+clock_by net (Some f) h = absurd ((hearing_goes net.air.clock f (slice_get net.motes f.to)).1 (sym h))
+clock_by net None h = by_test (nat_lt net.air.clock net.target) refl h
   where
-    by_test : (b : Bool) → nat_lt net.air.clock net.target ≡ b → Outcome.Passed ≡ (if b then Outcome.Passed else Outcome.Rest) → net.air.clock < net.target
+    by_test : (b : Bool) → nat_lt net.air.clock net.target ≡ b → Outcome.Clock ≡ (if b then Outcome.Clock else Outcome.Rest) → net.air.clock < net.target
     by_test true e h = grind (arith, nat_tests)
     by_test false e h = absurd (cc)
 
-passed_now : (net : NetworkView) (o : Option ℕ) → Outcome.Passed ≡ waking net o → net.air.clock < net.target
-passed_now net None h = passed_by net (arrival net.air) h
-passed_now net (Some m) h = absurd (cc)
+clock_now : (net : NetworkView) (o : Option ℕ) → Outcome.Clock ≡ waking net o → net.air.clock < net.target
+clock_now net None h = clock_by net (arrival net.air) h
+clock_now net (Some m) h = absurd (cc)
 
-passed_time : (net : NetworkView) → Outcome.Passed ≡ due_step net → net.air.clock < net.target
-passed_time net h = passed_now net (first_come net.air.clock (wakes_of net.motes)) (due_is net Outcome.Passed refl h).due
+clock_time : (net : NetworkView) → Outcome.Clock ≡ due_step net → net.air.clock < net.target
+clock_time net h = clock_now net (first_come net.air.clock (wakes_of net.motes)) (due_is net Outcome.Clock refl h).due
 
 -- ---- mote m keeps the time
 
@@ -127,9 +127,9 @@ module _ (m : ℕ) (old new : NetworkView) (caught : IsCaught m old) where
 step_caught : (m : ℕ) (x : Outcome) (old new : NetworkView) → IsCaught m old → DoesStep x old new → IsCaught m new
 step_caught m (Outcome.Started k) old new caught does = rw does.steps (record { up = caught.up; on_time = caught.on_time })
 step_caught m (Outcome.Turn k) old new caught does = caught_worked m old new caught Next.Turn k does.steps
-step_caught m (Outcome.Made k) old new caught does = caught_worked m old new caught Next.Entry k does.steps
+step_caught m (Outcome.Entry k) old new caught does = caught_worked m old new caught Next.Entry k does.steps
 step_caught m (Outcome.Rested k) old new caught does = caught_worked m old new caught Next.Rest k does.steps
-step_caught m (Outcome.Stopped k) old new caught does = caught_worked m old new caught Next.Halted k does.steps
+step_caught m (Outcome.Halted k) old new caught does = caught_worked m old new caught Next.Halted k does.steps
 step_caught m (Outcome.Woken k) old new caught does = caught_told m old new caught k does.steps
 step_caught m (Outcome.Heard k) old new caught does =
     let s = does.steps in
@@ -141,8 +141,8 @@ step_caught m (Outcome.Missed from to) old new caught does =
     let s = does.steps in
     caught_same m old new caught (ap (λ (v : NetworkView). v.motes) s) (ap (λ (v : NetworkView). v.air.clock) s ∙ landed_clock (arrival old.air) old.air)
     (ap (λ (v : NetworkView). v.target) s)
-step_caught m Outcome.Passed old new caught does =
-    let less = passed_time old (does.due (none_at_work old.active does.work)) in absurd (omega (arith, less, caught.up))
+step_caught m Outcome.Clock old new caught does =
+    let less = clock_time old (does.due (none_at_work old.active does.work)) in absurd (omega (arith, less, caught.up))
 step_caught m Outcome.Rest old new caught does = rw does.steps caught
 step_caught m Outcome.Exhausted old new caught does = rw does.steps caught
 

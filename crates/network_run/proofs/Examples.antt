@@ -20,7 +20,7 @@ use Rattle.network_run.specs.Voices.{MakeTheCalls}
 use Rattle.network_session.specs.declared.outcome.Outcome.{Outcome}
 use Rattle.network_run.specs.NetworkRunText.{AwaitsNone, CanEnd, HasRun, IsAtStart, IsTooMuch, NetworkRan, ending_text}
 use Rattle.mote_text.specs.Script.{script_lines}
-use Rattle.network_run.specs.declared.fault.RunFault.{RunFault}
+use Rattle.network_run.specs.declared.fault.NetworkRunFault.{NetworkRunFault}
 use Rattle.network_steps.specs.NetworkRuns.{IsResting}
 use Rattle.network_run.specs.Outside.{AreInTurn, Outside, next_refusal}
 use Rattle.network_steps.specs.NetworkScript.{read_network_lines}
@@ -80,7 +80,7 @@ module _ (net : NetworkView) (idle : net.active ≡ None) where
 -- a halt that isn't due is no end of a network that rests
 module _ (net : NetworkView) (rests : IsResting net) where
   no_halt : (left : List Outside) (said : End) → CanEnd net left said End.Halted → ⊥
-  no_halt left said spent = let e : Outcome.Rest ≡ Outcome.Exhausted = sym rests.due ∙ spent.due in absurd (cc)
+  no_halt left said exhausted = let e : Outcome.Rest ≡ Outcome.Exhausted = sym rests.due ∙ exhausted.due in absurd (cc)
 
 -- what a run refuses whose motes have just booted
 too_much : IsTooMuch NetworkFault.TooLong × IsTooMuch (NetworkFault.Refused SessionRefusal.TooManyInputs)
@@ -93,7 +93,7 @@ not_too_much fault long many (inr is) = many is
 
 module _ (quiet : Bool) (start : NetworkView) (voices : Voices) (script : List NetworkInput × End) (written : List ℕ) (booted : IsAtStart start) where
   refuses : NetworkFault → Type 0
-  refuses fault = HasRun quiet start voices script written (Err (RunFault.Refused fault))
+  refuses fault = HasRun quiet start voices script written (Err (NetworkRunFault.Refused fault))
 
   -- no input comes too early for its mote, and no turn is left without its call
   no_early_input : refuses NetworkFault.Behind → ⊥
@@ -113,5 +113,5 @@ module _ (quiet : Bool) (start : NetworkView) (voices : Voices) (script : List N
 -- a call that the application doesn't make
 module _ (voices : Voices) (pid : Pid) (origin : Origin) (stimulus : Stimulus) (call other : Call) where
   another_call : voices 0 pid.0 (stimulus ∷ []) ≡ other → (other ≡ call → ⊥) →
-      MakeTheCalls voices (Happening.Makes 0 (Entry.Turn pid origin stimulus call) ∷ []) → ⊥
+      MakeTheCalls voices (Happening.Entry 0 (Entry.Turn pid origin stimulus call) ∷ []) → ⊥
   another_call says apart calls = apart (sym says ∙ calls 0 [] [] pid origin stimulus call refl)

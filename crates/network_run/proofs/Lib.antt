@@ -9,7 +9,6 @@ pub mod OutsideMoves
 pub mod Caught
 pub mod Inputs
 pub mod Ways
-mod Refusals
 pub mod Scripts
 pub mod Submitting
 pub mod Running

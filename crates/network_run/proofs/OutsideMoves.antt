@@ -2,8 +2,9 @@
 use Rattle.std.proofs.Common.{◌≡◌, ◌+◌, List, [], ◌∷◌, map, refl, ap}
 use Rattle.network_run.specs.Outside.{Outside, all_outside}
 use Rattle.network_steps.specs.Code.Turns.{times_of}
-use Rattle.network_steps.specs.NetworkRuns.{Move, inputs_of}
+use Rattle.network_steps.specs.NetworkRuns.{Move}
 use Rattle.network_steps.specs.declared.input.NetworkInput.{NetworkInput}
+use Rattle.network_steps.specs.Works.{inputs_of}
 
 pub outside_is : (moves : List Move) → times_of moves ≡ [] → all_outside moves ≡ map Outside.Given (inputs_of moves)
 outside_is [] none = refl

@@ -15,4 +15,4 @@ other_unsent (Came.Full from to) net other = refl
 other_unsent (Came.Missed from to) net other = refl
 other_unsent (Came.Unheard m) net other = refl
 other_unsent Came.Rest net other = refl
-other_unsent Came.Halt net other = refl
+other_unsent Came.Exhausted net other = refl

@@ -96,13 +96,13 @@ step_awaits : (x : Outcome) (old new : NetworkView) → AwaitsAtWork old → Doe
 step_awaits (Outcome.Turn m) old new awaits does no_turn = absurd (cc)
 step_awaits (Outcome.Started m) old new awaits does no_turn =
     same_await old new (none_awaits old awaits (none_at_work old.active does.work)) (ap (λ (v : NetworkView). v.motes) does.steps)
-step_awaits (Outcome.Made m) old new awaits does no_turn =
+step_awaits (Outcome.Entry m) old new awaits does no_turn =
     let w = does.steps.worked in
     with_await old new m w.before w.after w.mote w.others w.advances.closed (at_work_alone old m awaits does.steps.was_active)
 step_awaits (Outcome.Rested m) old new awaits does no_turn =
     let w = does.steps.worked in
     with_await old new m w.before w.after w.mote w.others w.advances.closed (at_work_alone old m awaits does.steps.was_active)
-step_awaits (Outcome.Stopped m) old new awaits does no_turn =
+step_awaits (Outcome.Halted m) old new awaits does no_turn =
     let w = does.steps.worked in
     with_await old new m w.before w.after w.mote w.others w.advances.closed (at_work_alone old m awaits does.steps.was_active)
 step_awaits (Outcome.Woken m) old new awaits does no_turn =
@@ -115,7 +115,7 @@ step_awaits (Outcome.Heard m) old new awaits does no_turn =
     with_await old new m t.before t.after t.mote t.others t.fed.closed (λ i mote other there. none_awaits old awaits idle i mote there)
 step_awaits (Outcome.Missed from to) old new awaits does no_turn =
     same_await old new (none_awaits old awaits (none_at_work old.active does.work)) (ap (λ (v : NetworkView). v.motes) does.steps)
-step_awaits Outcome.Passed old new awaits does no_turn =
+step_awaits Outcome.Clock old new awaits does no_turn =
     same_await old new (none_awaits old awaits (none_at_work old.active does.work)) (ap (λ (v : NetworkView). v.motes) does.steps)
 step_awaits Outcome.Rest old new awaits does no_turn =
     same_await old new (none_awaits old awaits (none_at_work old.active does.work)) (ap (λ (v : NetworkView). v.motes) does.steps)
@@ -152,13 +152,13 @@ awaits_by : (b : Bool) (move : Move) (old : NetworkView) → AwaitsAtWork old �
 awaits_by false move old awaits is no_turn = λ m mote there apart. move_awaits move old awaits is no_turn m mote there
 awaits_by true (Move.Step (Outcome.Turn m) new) old awaits is turn = turn_awaits m old new awaits is.steps
 awaits_by true (Move.Step (Outcome.Started m) new) old awaits is turn = absurd (cc)
-awaits_by true (Move.Step (Outcome.Made m) new) old awaits is turn = absurd (cc)
+awaits_by true (Move.Step (Outcome.Entry m) new) old awaits is turn = absurd (cc)
 awaits_by true (Move.Step (Outcome.Rested m) new) old awaits is turn = absurd (cc)
-awaits_by true (Move.Step (Outcome.Stopped m) new) old awaits is turn = absurd (cc)
+awaits_by true (Move.Step (Outcome.Halted m) new) old awaits is turn = absurd (cc)
 awaits_by true (Move.Step (Outcome.Woken m) new) old awaits is turn = absurd (cc)
 awaits_by true (Move.Step (Outcome.Heard m) new) old awaits is turn = absurd (cc)
 awaits_by true (Move.Step (Outcome.Missed from to) new) old awaits is turn = absurd (cc)
-awaits_by true (Move.Step Outcome.Passed new) old awaits is turn = absurd (cc)
+awaits_by true (Move.Step Outcome.Clock new) old awaits is turn = absurd (cc)
 awaits_by true (Move.Step Outcome.Rest new) old awaits is turn = absurd (cc)
 awaits_by true (Move.Step Outcome.Exhausted new) old awaits is turn = absurd (cc)
 awaits_by true (Move.Submit call new) old awaits is turn = absurd (cc)
@@ -265,9 +265,9 @@ step_ready (Outcome.Started m) old new ready does =
       rw does.steps ready.within,
     )
 step_ready (Outcome.Turn m) old new ready does = worked_ready Next.Turn m old new ready does.steps
-step_ready (Outcome.Made m) old new ready does = worked_ready Next.Entry m old new ready does.steps
+step_ready (Outcome.Entry m) old new ready does = worked_ready Next.Entry m old new ready does.steps
 step_ready (Outcome.Rested m) old new ready does = worked_ready Next.Rest m old new ready does.steps
-step_ready (Outcome.Stopped m) old new ready does = worked_ready Next.Halted m old new ready does.steps
+step_ready (Outcome.Halted m) old new ready does = worked_ready Next.Halted m old new ready does.steps
 step_ready (Outcome.Woken m) old new ready does = told_ready m old new ready (none_at_work old.active does.work) does.steps
 step_ready (Outcome.Heard m) old new ready does =
     let idle = none_at_work old.active does.work in
@@ -286,7 +286,7 @@ step_ready (Outcome.Missed from to) old new ready does =
       still_same old new (ap (λ (v : NetworkView). v.motes) s) (ap (λ (v : NetworkView). v.started) s) (ap (λ (v : NetworkView). v.active) s) ready.still,
       omega (arith, clock, target, ready.within),
     )
-step_ready Outcome.Passed old new ready does =
+step_ready Outcome.Clock old new ready does =
     let s = does.steps in
     let clock : new.air.clock ≡ (gone_on (earliest_in old.target (wakes_of old.motes)) old.air).clock = ap (λ (v : NetworkView). v.air.clock) s in
     let low = gone_within old.target (wakes_of old.motes) old.air ready.within in
@@ -363,13 +363,13 @@ move_ready move old ready is =
 step_target : (x : Outcome) (old new : NetworkView) → Steps x old new → new.target ≡ old.target
 step_target (Outcome.Started m) old new s = ap (λ (v : NetworkView). v.target) s
 step_target (Outcome.Turn m) old new s = ap (λ (v : NetworkView). v.target) s.result
-step_target (Outcome.Made m) old new s = ap (λ (v : NetworkView). v.target) s.result
+step_target (Outcome.Entry m) old new s = ap (λ (v : NetworkView). v.target) s.result
 step_target (Outcome.Rested m) old new s = ap (λ (v : NetworkView). v.target) s.result
-step_target (Outcome.Stopped m) old new s = ap (λ (v : NetworkView). v.target) s.result
+step_target (Outcome.Halted m) old new s = ap (λ (v : NetworkView). v.target) s.result
 step_target (Outcome.Woken m) old new s = ap (λ (v : NetworkView). v.target) s.result
 step_target (Outcome.Heard m) old new s = ap (λ (v : NetworkView). v.target) s.result
 step_target (Outcome.Missed from to) old new s = ap (λ (v : NetworkView). v.target) s
-step_target Outcome.Passed old new s = ap (λ (v : NetworkView). v.target) s
+step_target Outcome.Clock old new s = ap (λ (v : NetworkView). v.target) s
 step_target Outcome.Rest old new s = ap (λ (v : NetworkView). v.target) s
 step_target Outcome.Exhausted old new s = ap (λ (v : NetworkView). v.target) s
 

@@ -14,16 +14,15 @@ use Rattle.kernel_core.specs.Run.{is_still}
 use Rattle.network_session.specs.Network.{NetworkView, wakes_of}
 use Rattle.network_session.specs.Refusals.{feed_refusal, frame_refusal, mote_at_work, mote_refusal, outcome_refusal, pass_refusal, passed_refusal, refusal_for, step_refusal, time_refusal, work_refusal}
 use Rattle.network_session.specs.Schedule.{arriving, due_now, due_step, hearing, is_rest, is_unheard, waking}
-use Rattle.network_session.specs.Waking.{due_ticks, wake}
+use Rattle.network_session.specs.Waking.{due_tick, wake}
 use Rattle.network_session.specs.declared.fault.NetworkFault.{NetworkFault}
 use Rattle.network_session.specs.declared.outcome.Outcome.{Outcome}
 use Rattle.network_session.proofs.Due.{due_is}
 use Rattle.network_session.proofs.Heard.{heard_due_by}
 use Rattle.network_run.specs.Code.Ready.{IsFromOutside, IsOnTime, IsReady, IsWithin}
 use Rattle.network_run.specs.NetworkRunText.{AwaitsNone, IsTooMuch}
-use Rattle.network_run.specs.Outside.{was_halted}
-use Rattle.network_steps.specs.Works.{given_refusal, is_halted_in}
-use Rattle.network_steps.specs.NetworkRuns.{IsResting}
+use Rattle.network_steps.specs.Works.{given_refusal}
+use Rattle.network_steps.specs.NetworkRuns.{IsResting, is_halted_in}
 
 -- a mote at rest refuses an input only where it is too much
 
@@ -184,7 +183,7 @@ module _ (net : NetworkView) (ready : IsReady net) (none : AwaitsNone net) (with
   arriving_up m mote (Some f) is there = hearing_up m mote f (slice_get net.motes f.to) refl is there
   arriving_up m mote None is there = by_test (nat_lt net.air.clock net.target) is
     where
-      by_test : (b : Bool) → Outcome.Woken m ≡ (if b then Outcome.Passed else Outcome.Rest) → mote.machine.is_halted ≡ false
+      by_test : (b : Bool) → Outcome.Woken m ≡ (if b then Outcome.Clock else Outcome.Rest) → mote.machine.is_halted ≡ false
       by_test true h = absurd (cc)
       by_test false h = absurd (cc)
 
@@ -195,11 +194,11 @@ module _ (net : NetworkView) (ready : IsReady net) (none : AwaitsNone net) (with
 
   -- the time that is due is refused only where it is too much
   woken_refused : (m : ℕ) (fault : NetworkFault) (o : Option SessionView) → slice_get net.motes m ≡ o → net.active ≡ None → Outcome.Woken m ≡ due_step net →
-      passed_refusal (λ mote. Input.Tick (due_ticks net.air.clock mote.machine.clock)) o ≡ Some fault → IsTooMuch fault
+      passed_refusal (due_tick net.air.clock) o ≡ Some fault → IsTooMuch fault
   woken_refused m fault None e idle due why = absurd (cc)
   woken_refused m fault (Some mote) e idle due why =
       let now = due_is net (Outcome.Woken m) refl due in
-      mote_refused (Input.Tick (due_ticks net.air.clock mote.machine.clock)) m mote fault idle now.all_started e
+      mote_refused (due_tick net.air.clock mote) m mote fault idle now.all_started e
       (woken_up m mote (first_come net.air.clock (wakes_of net.motes)) refl now.due e) refl why
 
   -- and so the frame that arrives
@@ -226,11 +225,11 @@ module _ (net : NetworkView) (ready : IsReady net) (none : AwaitsNone net) (with
       heard_refused m fault (arrival net.air) (slice_get net.motes m) refl refl idle due (heard_due_by net m due) why
   outcome_refused (Outcome.Started m) fault idle due why = absurd (cc)
   outcome_refused (Outcome.Turn m) fault idle due why = absurd (cc)
-  outcome_refused (Outcome.Made m) fault idle due why = absurd (cc)
+  outcome_refused (Outcome.Entry m) fault idle due why = absurd (cc)
   outcome_refused (Outcome.Rested m) fault idle due why = absurd (cc)
-  outcome_refused (Outcome.Stopped m) fault idle due why = absurd (cc)
+  outcome_refused (Outcome.Halted m) fault idle due why = absurd (cc)
   outcome_refused (Outcome.Missed from to) fault idle due why = absurd (cc)
-  outcome_refused Outcome.Passed fault idle due why = absurd (cc)
+  outcome_refused Outcome.Clock fault idle due why = absurd (cc)
   outcome_refused Outcome.Rest fault idle due why = absurd (cc)
   outcome_refused Outcome.Exhausted fault idle due why = absurd (cc)
 
@@ -253,10 +252,10 @@ module _ (net : NetworkView) (ready : IsReady net) (none : AwaitsNone net) (with
   due_refused_by m fault (Some mote) e rests less why = by_tests mote.machine.is_halted (nat_lt mote.machine.clock net.air.clock) refl why
     where
       by_tests : (halted late : Bool) → mote.machine.is_halted ≡ halted → (if halted then None else if late
-          then mote_refusal (Input.Tick (due_ticks net.air.clock mote.machine.clock)) mote else None) ≡ Some fault → IsTooMuch fault
+          then mote_refusal (due_tick net.air.clock mote) mote else None) ≡ Some fault → IsTooMuch fault
       by_tests true late up why = absurd (cc)
       by_tests false true up why =
-          mote_refused (Input.Tick (due_ticks net.air.clock mote.machine.clock)) m mote fault rests.idle (rest_started net rests.due) e up refl why
+          mote_refused (due_tick net.air.clock mote) m mote fault rests.idle (rest_started net rests.due) e up refl why
       by_tests false false up why = absurd (cc)
 
   pub due_refused : (m : ℕ) (fault : NetworkFault) → IsResting net → m < length net.motes → given_refusal m net ≡ Some fault → IsTooMuch fault
@@ -264,13 +263,13 @@ module _ (net : NetworkView) (ready : IsReady net) (none : AwaitsNone net) (with
 
   -- and an input from outside, where the mote is there and has got the time
   fed_by : (m : ℕ) (input : Input) (fault : NetworkFault) (o : Option SessionView) → slice_get net.motes m ≡ o → IsResting net → IsFromOutside input →
-      m < length net.motes → IsOnTime m net → was_halted o ≡ false → refusal_for input net.air.clock o ≡ Some fault → IsTooMuch fault
+      m < length net.motes → IsOnTime m net → is_halted_in o ≡ false → refusal_for input net.air.clock o ≡ Some fault → IsTooMuch fault
   fed_by m input fault None e rests outside less on_time up why = absurd (some_within net.motes m less e)
   fed_by m input fault (Some mote) e rests outside less on_time up why =
       mote_refused input m mote fault rests.idle (rest_started net rests.due) e up outside.bytes (rw (outside.timeless, on_time mote e up) at why)
 
   pub fed_refused : (m : ℕ) (input : Input) (fault : NetworkFault) → IsResting net → IsFromOutside input → m < length net.motes → IsOnTime m net →
-      was_halted (slice_get net.motes m) ≡ false → feed_refusal m input net ≡ Some fault → IsTooMuch fault
+      is_halted_in (slice_get net.motes m) ≡ false → feed_refusal m input net ≡ Some fault → IsTooMuch fault
   fed_refused m input fault rests outside less on_time up why =
       fed_by m input fault (slice_get net.motes m) refl rests outside less on_time up (rw rests.idle at why)
 

@@ -7,8 +7,8 @@ use Rattle.mote_text.specs.Script.{script_lines}
 use Rattle.mote_text.specs.declared.script.End.{End}
 use Rattle.mote_types.specs.declared.entry.Input.{Input}
 use Rattle.network_run.specs.Code.Way.{ComesWith, Ends, Faulted, HasCome, IsWithTime, Moment, RunFaulted, Takes, Went}
-use Rattle.network_run.specs.NetworkRunText.{CanEnd, IsSpent}
-use Rattle.network_run.specs.declared.fault.RunFault.{RunFault}
+use Rattle.network_run.specs.NetworkRunText.{CanEnd, IsExhausted}
+use Rattle.network_run.specs.declared.fault.NetworkRunFault.{NetworkRunFault}
 use Rattle.network_run.specs.Outside.{AreInTurn, Outside, given_of, givens}
 use Rattle.network_run.proofs.Lengths.{leads_length}
 use Rattle.network_run.proofs.Ways.{all_carried, faulted_after, faulted_before, stopped_after, stopped_before, went_nowhere, went_on}
@@ -150,17 +150,17 @@ module _ (quiet : Bool) where
   }
 
   pub ends_halted : {script : Script} {input : NetworkInput} (later : Script) {rests : Bool} {from here to : Moment} (outside : List Outside) →
-      HasCome quiet script (input ∷ later.0, later.1) from here → IsWithTime input outside → Takes quiet outside rests here to → IsSpent to.net →
+      HasCome quiet script (input ∷ later.0, later.1) from here → IsWithTime input outside → Takes quiet outside rests here to → IsExhausted to.net →
       Ends quiet script End.Halted from to
-  ends_halted later outside come is takes spent = record {
+  ends_halted later outside come is takes exhausted = record {
     outside = come.earlier ++ (outside ++ all_given later.0);
     comes = amid later outside come is;
     left = takes.left ++ all_given later.0;
-    can = spent;
+    can = exhausted;
     stopped = stopped_after quiet come.went (stopped_before quiet (all_given later.0) takes.stopped);
   }
 
-  pub faulted_in : {script : Script} {input : NetworkInput} (later : Script) {fault : RunFault} {from here to : Moment} (outside : List Outside) →
+  pub faulted_in : {script : Script} {input : NetworkInput} (later : Script) {fault : NetworkRunFault} {from here to : Moment} (outside : List Outside) →
       HasCome quiet script (input ∷ later.0, later.1) from here → IsWithTime input outside → Faulted quiet outside fault here to →
       RunFaulted quiet script.0 fault from to
   faulted_in later outside come is faulted = record {

@@ -109,18 +109,18 @@ module _ (voices : Voices) (i : ℕ) (es : List Entry) (answers : AnswersAs (voi
   made_other false m e test untold = rw test answers
 
   answers_step : (x : Outcome) (old new : NetworkView) → Steps x old new → AnswersAs (voices i) (entries_of i (happened x old new) ++ es)
-  answers_step (Outcome.Made m) old new s =
+  answers_step (Outcome.Entry m) old new s =
       let w = s.worked in
       let there : slice_get new.motes m ≡ Some w.after = there_after m old.motes new.motes w.before w.after w.mote w.others in
       rw (there, w.advances.last) (made_other (m == i) m w.advances.entry refl w.advances.untold)
   answers_step (Outcome.Woken m) old new s = none (told_by old.air.clock m (slice_get old.motes m)) (no_told i old.air.clock m (slice_get old.motes m))
   answers_step (Outcome.Heard m) old new s = none (happened (Outcome.Heard m) old new) (no_heard i m _)
   answers_step (Outcome.Missed from to) old new s = answers
-  answers_step Outcome.Passed old new s = answers
+  answers_step Outcome.Clock old new s = answers
   answers_step (Outcome.Started m) old new s = answers
   answers_step (Outcome.Turn m) old new s = answers
   answers_step (Outcome.Rested m) old new s = answers
-  answers_step (Outcome.Stopped m) old new s = answers
+  answers_step (Outcome.Halted m) old new s = answers
   answers_step Outcome.Rest old new s = answers
   answers_step Outcome.Exhausted old new s = answers
 

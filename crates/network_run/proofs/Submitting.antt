@@ -20,9 +20,8 @@ use Rattle.network_steps.proofs.GivenInputs.{refusal_is}
 use Rattle.network_run.specs.Code.Ready.{IsFitIf, IsFromOutside, IsReady, IsUnderWay}
 use Rattle.network_run.specs.Code.Way.{IsAtRest, SubmitsIf, moment}
 use Rattle.network_run.specs.Outside.{Outside}
-use Rattle.network_run.specs.declared.fault.RunFault.{RunFault}
+use Rattle.network_run.specs.declared.fault.NetworkRunFault.{NetworkRunFault}
 use Rattle.network_run.proofs.Caught.{told_caught, untold_on_time}
-use Rattle.network_run.proofs.Refusals as refusals
 use Rattle.network_run.proofs.Refused.{due_refused, pass_far, some_within}
 use Rattle.network_run.proofs.Lengths.{same_length}
 use Rattle.network_run.proofs.Scripts.{no_time}
@@ -72,13 +71,13 @@ tick_ready ticks old new rest takes =
 
 pub tick_refused : (ticks : ℕ) (old new : StepsView) (fault : StepsFault) → IsAtRest old → tick_refusal ticks old ≡ Some fault → new ≡ old →
     (quiet : Bool) (given due : List ℕ) (voices : Voices) →
-    SubmitsIf {T = Unit {0}} (Err (RunFault.Refused NetworkFault.TooLong)) quiet (NetworkInput.Tick ticks) new.waiting (moment given due old.net voices)
+    SubmitsIf {T = Unit {0}} (Err (NetworkRunFault.Refused NetworkFault.TooLong)) quiet (NetworkInput.Tick ticks) new.waiting (moment given due old.net voices)
     (moment given due new.net voices)
 tick_refused ticks old new fault rest why same quiet given due voices =
     let outside = Outside.Given (NetworkInput.Tick ticks) ∷ [] in (
       outside,
       no_time (NetworkInput.Tick ticks),
-      faulted_same quiet outside (RunFault.Refused NetworkFault.TooLong) given due old.net new.net voices voices (ap (λ (s : StepsView). s.net) same)
+      faulted_same quiet outside (NetworkRunFault.Refused NetworkFault.TooLong) given due old.net new.net voices voices (ap (λ (s : StepsView). s.net) same)
           (inr (rest.rests, too_long ticks old fault rest why)) (λ ready none within. inl refl),
     )
 
@@ -160,7 +159,7 @@ pub record IsOwn (m : ℕ) (net : NetworkView) (fault : StepsFault) : Type 0 whe
 pub feed_refused : (m : ℕ) (input : Input) (old new : StepsView) (fault : StepsFault) (cause : NetworkFault) → IsAtRest old → m < length old.net.motes →
     IsOwn m old.net fault → ((refusal : SessionRefusal) → fault ≡ StepsFault.Refused refusal → cause ≡ NetworkFault.Refused refusal) → new ≡ old →
     (quiet : Bool) (given due : List ℕ) (voices : Voices) →
-    SubmitsIf {T = Unit {0}} (Err (RunFault.Refused cause)) quiet (NetworkInput.ForMote (m + 1) input) new.waiting (moment given due old.net voices)
+    SubmitsIf {T = Unit {0}} (Err (NetworkRunFault.Refused cause)) quiet (NetworkInput.ForMote (m + 1) input) new.waiting (moment given due old.net voices)
     (moment given due new.net voices)
 feed_refused m input old new fault cause rest there own is same quiet given due voices =
     let times = Outside.Time m ∷ [] in
@@ -168,8 +167,8 @@ feed_refused m input old new fault cause rest there own is same quiet given due 
     let why : given_refusal m old.net ≡ Some cause = own.why ∙ ap Some (sym (is own.refusal own.reported)) in (
       outside,
       (times, refl, inr (m, refl, refl)),
-      faulted_same quiet outside (RunFault.Refused cause) given due old.net new.net voices voices (ap (λ (s : StepsView). s.net) same)
-          (inr (rest.rests, refusals.time_refusal m old.net cause why))
+      faulted_same quiet outside (NetworkRunFault.Refused cause) given due old.net new.net voices voices (ap (λ (s : StepsView). s.net) same)
+          (inr (rest.rests, why))
           (λ ready none within. due_refused old.net ready none within m cause rest.rests there why),
     )
 

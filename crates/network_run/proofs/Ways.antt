@@ -5,19 +5,19 @@ use Rattle.network_run.specs.Code.Way.{Faulted, IsReason, Moment, Stopped, Takes
 use Rattle.std.proofs.lemmas.List.{map-append}
 use Rattle.std.proofs.lemmas.List.Elements.{filter_map-append}
 use Rattle.mote_text.specs.Code.Writing.{WritesOn}
-use Rattle.network_run.specs.declared.fault.RunFault.{RunFault}
+use Rattle.network_run.specs.declared.fault.NetworkRunFault.{NetworkRunFault}
 use Rattle.network_steps.specs.Code.Calls.{Speak, Speaks}
-use Rattle.network_steps.specs.Code.Going.{GoesBy, PassesBy}
+use Rattle.network_steps.specs.Code.Going.{GoesBy, MovesSilently}
 use Rattle.network_steps.specs.Code.Turns.{ends_open, is_open, is_turn, times_of}
 use Rattle.mote_session.specs.Voices.{Voices}
 use Rattle.network_run.specs.Code.Ready.{IsRefusedOf, IsWithin, StaysWithin}
 use Rattle.network_run.proofs.Ready.{leads_awaits, leads_ready, move_within}
 use Rattle.mote_text.proofs.Writing.{nothing_more, then_written}
 use Rattle.network_run.specs.Outside.{Outside, all_outside, outside_of}
-use Rattle.network_steps.specs.NetworkRuns.{IsMove, Leads, Move, after_move, inputs_of, move_lines, moves_text}
+use Rattle.network_steps.specs.NetworkRuns.{IsMove, Leads, Move, after_move, move_lines, moves_text}
 use Rattle.network_steps.specs.Lines.{shown_line, shown_losses}
 use Rattle.network_steps.specs.StepsView.{StepsView}
-use Rattle.network_steps.specs.Works.{came_lines, inputs_waiting}
+use Rattle.network_steps.specs.Works.{came_lines, inputs_of, inputs_waiting}
 use Rattle.network_steps.specs.declared.came.Came.{Came}
 use Rattle.network_steps.specs.declared.came.Sending.{Sending}
 use Rattle.network_steps.specs.declared.came.Waiting.{Waiting}
@@ -25,25 +25,25 @@ use Rattle.network_steps.specs.declared.input.NetworkInput.{NetworkInput}
 use Rattle.network_run.proofs.OutsideMoves.{outside_is}
 use Rattle.network_steps.proofs.Moves.{ends_closed, leads_on, speak_on, text_on}
 
-pub only_write : (fault : RunFault) {lost due : List ℕ} → fault ≡ RunFault.Write → is_write fault ≡ false → lost ≡ due
+pub only_write : (fault : NetworkRunFault) {lost due : List ℕ} → fault ≡ NetworkRunFault.Write → is_write fault ≡ false → lost ≡ due
 only_write fault is not = let yes : is_write fault ≡ true = ap is_write is in absurd (cc)
 
-pub needs_no_reason : (fault : RunFault) (net : NetworkView) (left : List Outside) → fault ≡ RunFault.Write → IsReason fault net left
-needs_no_reason fault net left is = subst (λ (one : RunFault). IsReason one net left) (sym is) tt
+pub needs_no_reason : (fault : NetworkRunFault) (net : NetworkView) (left : List Outside) → fault ≡ NetworkRunFault.Write → IsReason fault net left
+needs_no_reason fault net left is = subst (λ (one : NetworkRunFault). IsReason one net left) (sym is) tt
 
-pub refuses_nothing : (fault : RunFault) (net : NetworkView) → fault ≡ RunFault.Write → IsRefusedOf fault net
-refuses_nothing fault net is = subst (λ (one : RunFault). IsRefusedOf one net) (sym is) tt
+pub refuses_nothing : (fault : NetworkRunFault) (net : NetworkView) → fault ≡ NetworkRunFault.Write → IsRefusedOf fault net
+refuses_nothing fault net is = subst (λ (one : NetworkRunFault). IsRefusedOf one net) (sym is) tt
 
 -- the reason stays the same if more is to come
-reason_before : (fault : RunFault) (net : NetworkView) (left more : List Outside) → IsReason fault net left → IsReason fault net (left ++ more)
-reason_before RunFault.Write net left more why = tt
-reason_before (RunFault.Refused fault) net [] more (inl step) = inl step
-reason_before (RunFault.Refused fault) net [] more (inr none) = let e = none.1 in absurd (cc)
-reason_before (RunFault.Refused fault) net (next ∷ left) more why = why
+reason_before : (fault : NetworkRunFault) (net : NetworkView) (left more : List Outside) → IsReason fault net left → IsReason fault net (left ++ more)
+reason_before NetworkRunFault.Write net left more why = tt
+reason_before (NetworkRunFault.Refused fault) net [] more (inl step) = inl step
+reason_before (NetworkRunFault.Refused fault) net [] more (inr none) = let e = none.1 in absurd (cc)
+reason_before (NetworkRunFault.Refused fault) net (next ∷ left) more why = why
 
 -- a fault that is handed on
-pub fault_on : {T : Type 0} (result : Result T RunFault) (P : T → Type 0) (Q : RunFault → Type 0) (fault : RunFault) →
-    IsErrAnd result (λ (handed : RunFault). handed ≡ fault) → Q fault → MatchResult result P Q
+pub fault_on : {T : Type 0} (result : Result T NetworkRunFault) (P : T → Type 0) (Q : NetworkRunFault → Type 0) (fault : NetworkRunFault) →
+    IsErrAnd result (λ (handed : NetworkRunFault). handed ≡ fault) → Q fault → MatchResult result P Q
 fault_on (Ok x) P Q fault is q = absurd is
 fault_on (Err handed) P Q fault is q = subst Q (sym is) q
 
@@ -96,12 +96,13 @@ module _ (quiet : Bool) where
     };
   }
 
-  -- a step that isn't reported
-  pub passed_by : {old new : StepsView} {given due : List ℕ} {voices later : Voices} → PassesBy old new voices later →
-      Stopped quiet (outside_waiting old.waiting) (outside_waiting new.waiting) due (moment given due old.net voices) (moment given due new.net later)
-  passed_by {old} {new} {given} {due} p =
-      went_by p.moves old.waiting new.waiting old.net new.net p.leads p.calls p.untold p.inputs p.answered
-      (subst (λ (text : List ℕ). WritesOn given due given due text) (sym (p.silent quiet)) (nothing_more given due))
+  -- and none is reported
+  pub went_silently : {old new : NetworkView} {waiting left : Option Waiting} {given due : List ℕ} {voices later : Voices} →
+      MovesSilently old new waiting left voices later →
+      Stopped quiet (outside_waiting waiting) (outside_waiting left) due (moment given due old voices) (moment given due new later)
+  went_silently {old} {new} {waiting} {left} {given} {due} w =
+      went_by w.moves waiting left old new w.leads w.calls w.untold w.inputs w.answered
+      (subst (λ (text : List ℕ). WritesOn given due given due text) (sym (w.silent quiet)) (nothing_more given due))
 
   goes_text : {came : Came} {old new : StepsView} {voices later : Voices} → old.sending ≡ None → (g : GoesBy came old new voices later) →
       moves_text quiet old.net g.goes.moves ≡ came_lines quiet came new.net
@@ -174,13 +175,13 @@ module _ (quiet : Bool) where
   stopped_on {outside} {left} {later} {lost} {from} {mid} {to} first second =
       subst (λ (all : List Outside). Stopped quiet all later lost from to) (sym first.parts) (stopped_after first.went second)
 
-  refused_after : {outside : List Outside} {from mid : Moment} (fault : RunFault) → Went quiet outside from mid → IsRefusedOf fault mid.net → IsRefusedOf fault from.net
-  refused_after RunFault.Write first much = tt
-  refused_after {from = from} {mid = mid} (RunFault.Refused fault) first much = λ ready none within.
+  refused_after : {outside : List Outside} {from mid : Moment} (fault : NetworkRunFault) → Went quiet outside from mid → IsRefusedOf fault mid.net → IsRefusedOf fault from.net
+  refused_after NetworkRunFault.Write first much = tt
+  refused_after {from = from} {mid = mid} (NetworkRunFault.Refused fault) first much = λ ready none within.
       much (leads_ready first.moves from.net mid.net ready first.leads) (leads_awaits first.moves from.net mid.net none first.leads first.answered)
       (first.within within)
 
-  pub faulted_after : {outside more : List Outside} {fault : RunFault} {from mid to : Moment} → Went quiet outside from mid → Faulted quiet more fault mid to →
+  pub faulted_after : {outside more : List Outside} {fault : NetworkRunFault} {from mid to : Moment} → Went quiet outside from mid → Faulted quiet more fault mid to →
       Faulted quiet (outside ++ more) fault from to
   faulted_after {fault = fault} first second = record {
     left = second.left;
@@ -202,7 +203,7 @@ module _ (quiet : Bool) where
     went = first.went;
   }
 
-  pub faulted_before : {outside : List Outside} (more : List Outside) {fault : RunFault} {from to : Moment} → Faulted quiet outside fault from to →
+  pub faulted_before : {outside : List Outside} (more : List Outside) {fault : NetworkRunFault} {from to : Moment} → Faulted quiet outside fault from to →
       Faulted quiet (outside ++ more) fault from to
   faulted_before more {fault = fault} {to = to} first = record {
     left = first.left ++ more;
@@ -215,7 +216,7 @@ module _ (quiet : Bool) where
   }
 
   -- a network that refuses is as it was, whatever the application said that has no such turn
-  pub faulted_same : (outside : List Outside) (fault : RunFault) (given due : List ℕ) (old new : NetworkView) (voices later : Voices) → new ≡ old →
+  pub faulted_same : (outside : List Outside) (fault : NetworkRunFault) (given due : List ℕ) (old new : NetworkView) (voices later : Voices) → new ≡ old →
       IsReason fault old outside → IsRefusedOf fault old → Faulted quiet outside fault (moment given due old voices) (moment given due new later)
   faulted_same outside fault given due old new voices later same why much = record {
     left = outside;
@@ -233,7 +234,7 @@ module _ (quiet : Bool) where
       (sym (takes.stopped.parts ∙ (ap (λ (left : List Outside). takes.stopped.carried ++ left) (takes.all rests) ∙ append-nil takes.stopped.carried)))
       takes.stopped.went
 
-  pub takes_after : (result : Result Bool RunFault) (outside more : List Outside) (from mid to : Moment) → Went quiet outside from mid →
+  pub takes_after : (result : Result Bool NetworkRunFault) (outside more : List Outside) (from mid to : Moment) → Went quiet outside from mid →
       TakesIf result quiet more mid to → TakesIf result quiet (outside ++ more) from to
   takes_after (Ok rests) outside more from mid to first takes = record { left = takes.left; all = takes.all; stopped = stopped_after first takes.stopped }
   takes_after (Err fault) outside more from mid to first faulted = faulted_after first faulted

@@ -11,16 +11,16 @@ use Rattle.network_session.specs.Refusals.{step_refusal}
 use Rattle.network_session.specs.Schedule.{due_step}
 use Rattle.network_session.specs.declared.fault.NetworkFault.{NetworkFault}
 use Rattle.network_session.specs.declared.outcome.Outcome.{Outcome}
-use Rattle.network_run.specs.declared.fault.RunFault.{RunFault}
+use Rattle.network_run.specs.declared.fault.NetworkRunFault.{NetworkRunFault}
 use Rattle.mote_session.specs.Voices.{Voices}
 use Rattle.network_run.specs.Outside.{AreInTurn, Outside, all_outside, givens, next_refusal}
 use Rattle.network_run.specs.Voices.{MakeTheCalls}
-use Rattle.network_steps.specs.NetworkRuns.{IsResting, Leads, Move, inputs_of, log_of, moves_text}
+use Rattle.network_steps.specs.NetworkRuns.{IsResting, Leads, Move, log_of, moves_text}
 use Rattle.network_steps.specs.NetworkText.{last_line}
 use Rattle.network_steps.specs.declared.input.NetworkInput.{NetworkInput}
 
 -- no mote is at work, something is left to do, and the input has used up its rounds
-pub record IsSpent (net : NetworkView) : Type 0 where
+pub record IsExhausted (net : NetworkView) : Type 0 where
   pub idle : net.active ≡ None
   pub due : due_step net ≡ Outcome.Exhausted
 
@@ -32,10 +32,8 @@ pub record IsDone (net : NetworkView) (left : List Outside) (said end : End) : T
 
 -- A run can end so in this network, where this is left, and the script ends as is said
 abbrev pub CanEnd : NetworkView → List Outside → End → End → Type 0
-CanEnd net left said End.Halted = IsSpent net
-CanEnd net left said End.Finished = IsDone net left said End.Finished
-CanEnd net left said (End.BadLine n) = IsDone net left said (End.BadLine n)
-CanEnd net left said End.TooLong = IsDone net left said End.TooLong
+CanEnd net left said End.Halted = IsExhausted net
+CanEnd net left said end = IsDone net left said end
 
 -- the network refuses its next step; or it rests, and refuses what comes next from outside
 abbrev pub Refuses : NetworkView → List Outside → NetworkFault → Type 0
@@ -77,7 +75,7 @@ pub record NetworkRan (quiet : Bool) (start : NetworkView) (voices : Voices) (sc
   pub net : NetworkView
   pub leads : Leads start moves net
   pub left : List Outside
-  pub inputs : script.0 ≡ inputs_of moves ++ givens left
+  pub inputs : script.0 ≡ givens (all_outside moves ++ left)
   pub in_turn : AreInTurn (all_outside moves ++ left)
   -- the call of each turn was made
   pub answered : AwaitsNone start → AwaitsNone net
@@ -89,11 +87,11 @@ pub record NetworkRan (quiet : Bool) (start : NetworkView) (voices : Voices) (sc
       NetworkPromise configs room links (log_of start moves) net
 
 -- How it ended: all was written, unless writing failed. A network whose motes have just booted refuses only what is too much
-abbrev pub HasRun : Bool → NetworkView → Voices → List NetworkInput × End → List ℕ → Result End RunFault → Type 0
+abbrev pub HasRun : Bool → NetworkView → Voices → List NetworkInput × End → List ℕ → Result End NetworkRunFault → Type 0
 HasRun quiet start voices script written (Ok end) = NetworkRan quiet start voices script written [] (Some (Ok end))
-HasRun quiet start voices script written (Err RunFault.Write) =
+HasRun quiet start voices script written (Err NetworkRunFault.Write) =
     (rest : List ℕ) × (ending : Option (Result End NetworkFault)) × NetworkRan quiet start voices script written rest ending
-HasRun quiet start voices script written (Err (RunFault.Refused fault)) =
+HasRun quiet start voices script written (Err (NetworkRunFault.Refused fault)) =
     NetworkRan quiet start voices script written [] (Some (Err fault)) × (IsAtStart start → IsTooMuch fault)
 
 -- what was given since then is this

@@ -1,10 +1,9 @@
 -- What comes to a network from outside: inputs, and the time before them.
-use Rattle.std.specs.Prelude.{◌≡◌, ⊤, ℕ, ◌+◌, ◌-◌, Bool, false, List, [], ◌∷◌, Option, None, Some, filter_map, if◌then◌else◌, slice_get}
-use Rattle.mote_session.specs.SessionView.{SessionView}
+use Rattle.std.specs.Prelude.{◌≡◌, ⊤, ℕ, ◌+◌, ◌-◌, List, [], ◌∷◌, Option, None, Some, filter_map, if◌then◌else◌, slice_get}
 use Rattle.network_session.specs.Network.{NetworkView}
 use Rattle.network_session.specs.Refusals.{catch_up_refusal, feed_refusal, pass_refusal}
 use Rattle.network_session.specs.declared.fault.NetworkFault.{NetworkFault}
-use Rattle.network_steps.specs.NetworkRuns.{Move}
+use Rattle.network_steps.specs.NetworkRuns.{Move, is_halted_in}
 use Rattle.network_steps.specs.declared.input.NetworkInput.{NetworkInput}
 
 pub data Outside : Type 0 where
@@ -18,8 +17,7 @@ outside_of (Move.Tick ticks new) = Some (Outside.Given (NetworkInput.Tick ticks)
 outside_of (Move.Tell m new) = Some (Outside.Time m)
 outside_of (Move.Hand m input new) = Some (Outside.Given (NetworkInput.ForMote (m + 1) input))
 outside_of (Move.Miss m input new) = Some (Outside.Given (NetworkInput.ForMote (m + 1) input))
-outside_of (Move.Step outcome new) = None
-outside_of (Move.Submit call new) = None
+outside_of _ = None
 
 -- what comes in all of these moves
 abbrev pub all_outside : List Move → List Outside
@@ -34,28 +32,22 @@ abbrev pub givens : List Outside → List NetworkInput
 givens outside = filter_map given_of outside
 
 abbrev pub IsFor : ℕ → NetworkInput → Type 0
-IsFor m (NetworkInput.Tick ticks) = ⊥
 IsFor m (NetworkInput.ForMote number input) = number ≡ m + 1
+IsFor m _ = ⊥
 
 -- a mote gets the time only right before an input of its own
 abbrev pub AreInTurn : List Outside → Type 0
 AreInTurn [] = ⊤
 AreInTurn (Outside.Given input ∷ later) = AreInTurn later
-AreInTurn (Outside.Time m ∷ []) = ⊥
-AreInTurn (Outside.Time m ∷ Outside.Time k ∷ later) = ⊥
 AreInTurn (Outside.Time m ∷ Outside.Given input ∷ later) = IsFor m input × AreInTurn later
-
--- whether there is this mote, and it was halted
-abbrev pub was_halted : Option SessionView → Bool
-was_halted None = false
-was_halted (Some mote) = mote.machine.is_halted
+AreInTurn _ = ⊥
 
 -- why this is refused. A halted mote misses it
 abbrev pub refusal_of : Outside → NetworkView → Option NetworkFault
-refusal_of (Outside.Time m) net = if was_halted (slice_get net.motes m) then None else catch_up_refusal m net
+refusal_of (Outside.Time m) net = if is_halted_in (slice_get net.motes m) then None else catch_up_refusal m net
 refusal_of (Outside.Given (NetworkInput.Tick ticks)) net = pass_refusal ticks net
 refusal_of (Outside.Given (NetworkInput.ForMote number input)) net =
-    if was_halted (slice_get net.motes (number - 1)) then None else feed_refusal (number - 1) input net
+    if is_halted_in (slice_get net.motes (number - 1)) then None else feed_refusal (number - 1) input net
 
 -- why the first of these is refused
 abbrev pub next_refusal : List Outside → NetworkView → Option NetworkFault

@@ -11,7 +11,7 @@ ghost use Rattle.network_steps.specs.Refusals.{fault_of};
 ghost use Rattle.network_steps.specs.declared.input.NetworkInput.{NetworkInput};
 ghost use Rattle.mote_session.specs.declared.refusal.SessionRefusal.{SessionRefusal};
 
-use crate::fault::RunFault;
+use crate::fault::NetworkRunFault;
 use crate::reports::{put_entry, put_other};
 use mote_session::caller::Caller;
 use mote_text::output_buffer::OutputBuffer;
@@ -32,7 +32,7 @@ pub(crate) fn run_to_rest<K: ByteSink, H: Caller>(
     caller: &mut H,
     steps: &mut NetworkSteps,
     quiet: bool,
-) -> Result<bool, RunFault>
+) -> Result<bool, NetworkRunFault>
     requires under_way { IsUnderWay steps.old }
     requires countable { K.failure_count sink.old < 2 ^ 64 - 1 }
     ensures takes { K.is_named → TakesIf result quiet (outside_waiting steps.old.waiting)
@@ -44,7 +44,7 @@ pub(crate) fn run_to_rest<K: ByteSink, H: Caller>(
     loop {
         let came = match steps.step_by(caller) {
             Ok(came) => came,
-            Err(fault) => return Err(RunFault::Refused(fault)),
+            Err(fault) => return Err(NetworkRunFault::Refused(fault)),
         };
         match came {
             None => {}
@@ -69,7 +69,7 @@ fn cause_of(fault: StepsFault) -> NetworkFault
 }
 
 /// Lets the clock go on.
-fn tick(steps: &mut NetworkSteps, ticks: u32) -> Result<(), RunFault>
+fn tick(steps: &mut NetworkSteps, ticks: u32) -> Result<(), NetworkRunFault>
     requires rests { IsAtRest steps.old }
     ensures takes { (quiet : Bool) (given due : List ℕ) (voices : Voices) → SubmitsIf result quiet (NetworkInput.Tick ticks) steps.new.waiting
         (moment given due steps.old.net voices) (moment given due steps.new.net voices) }
@@ -79,12 +79,12 @@ fn tick(steps: &mut NetworkSteps, ticks: u32) -> Result<(), RunFault>
     match steps.tick(ticks) {
         Ok(()) => Ok(()),
         // At rest nothing else is refused.
-        Err(_) => Err(RunFault::Refused(NetworkFault::TooLong)),
+        Err(_) => Err(NetworkRunFault::Refused(NetworkFault::TooLong)),
     }
 }
 
 /// Submits an input of a mote, which gets the time first.
-fn feed(steps: &mut NetworkSteps, mote: usize, input: Input) -> Result<(), RunFault>
+fn feed(steps: &mut NetworkSteps, mote: usize, input: Input) -> Result<(), NetworkRunFault>
     requires rests { IsAtRest steps.old }
     requires there { mote < length steps.old.net.motes }
     requires outside { IsFromOutside input }
@@ -95,12 +95,12 @@ fn feed(steps: &mut NetworkSteps, mote: usize, input: Input) -> Result<(), RunFa
 {
     match steps.feed(mote, input) {
         Ok(()) => Ok(()),
-        Err(fault) => Err(RunFault::Refused(cause_of(fault))),
+        Err(fault) => Err(NetworkRunFault::Refused(cause_of(fault))),
     }
 }
 
 /// Submits an input, if there is the mote that it is for.
-fn submit(steps: &mut NetworkSteps, input: NetworkInput) -> Result<(), RunFault>
+fn submit(steps: &mut NetworkSteps, input: NetworkInput) -> Result<(), NetworkRunFault>
     requires rests { IsAtRest steps.old }
     requires for_some { is_for_some (length steps.old.net.motes) input ≡ true }
     requires outside { ComesFromOutside input }
@@ -126,7 +126,7 @@ pub(crate) fn take_input<K: ByteSink, H: Caller>(
     steps: &mut NetworkSteps,
     input: NetworkInput,
     quiet: bool,
-) -> Result<bool, RunFault>
+) -> Result<bool, NetworkRunFault>
     requires rests { IsAtRest steps.old }
     requires for_some { is_for_some (length steps.old.net.motes) input ≡ true }
     requires outside { ComesFromOutside input }

@@ -11,7 +11,7 @@ ghost use Rattle.network_steps.specs.Works.{came_lines, sending_of};
 ghost use Rattle.network_steps.specs.declared.came.Came.TheVariants.{Entry};
 ghost use Rattle.network_steps.specs.declared.came.Phase.TheVariants.{Working as Works};
 
-use crate::fault::RunFault;
+use crate::fault::NetworkRunFault;
 use mote_session::session::Session;
 use mote_text::output_buffer::OutputBuffer;
 use mote_text::script::End;
@@ -29,11 +29,11 @@ fn put_own<K: ByteSink>(
     network: &Network,
     came: Came,
     quiet: bool,
-) -> Result<(), RunFault>
+) -> Result<(), NetworkRunFault>
     requires countable { K.failure_count sink.old < 2 ^ 64 - 1 }
     ensures puts { K.is_named → WritesIf result (K.given sink.old) text.old.items (K.given sink.new) text.new.items
         (if_shown (not quiet) (came_line came network.now)) }
-    ensures fault { IfErr result (λ fault. fault ≡ RunFault.Write) }
+    ensures fault { IfErr result (λ fault. fault ≡ NetworkRunFault.Write) }
     ensures failures { CountsFailure result (K.failure_count sink.old) (K.failure_count sink.new) }
 {
     if quiet {
@@ -52,11 +52,11 @@ fn put_line<K: ByteSink>(
     mote: usize,
     session: &Session,
     quiet: bool,
-) -> Result<(), RunFault>
+) -> Result<(), NetworkRunFault>
     requires countable { K.failure_count sink.old < 2 ^ 64 - 1 }
     ensures puts { K.is_named → WritesIf result (K.given sink.old) text.old.items (K.given sink.new) text.new.items
         (if_shown (is_last_shown quiet session.now.last) (last_entry_line mote session.now.last)) }
-    ensures fault { IfErr result (λ fault. fault ≡ RunFault.Write) }
+    ensures fault { IfErr result (λ fault. fault ≡ NetworkRunFault.Write) }
     ensures failures { CountsFailure result (K.failure_count sink.old) (K.failure_count sink.new) }
 {
     if !session.shows_last(quiet) {
@@ -75,11 +75,11 @@ fn put_last<K: ByteSink>(
     network: &Network,
     mote: usize,
     quiet: bool,
-) -> Result<(), RunFault>
+) -> Result<(), NetworkRunFault>
     requires countable { K.failure_count sink.old < 2 ^ 64 - 1 }
     ensures puts { K.is_named → WritesIf result (K.given sink.old) text.old.items (K.given sink.new) text.new.items
         (shown_line quiet (Entry mote) network.now) }
-    ensures fault { IfErr result (λ fault. fault ≡ RunFault.Write) }
+    ensures fault { IfErr result (λ fault. fault ≡ NetworkRunFault.Write) }
     ensures failures { CountsFailure result (K.failure_count sink.old) (K.failure_count sink.new) }
 {
     match network.mote(mote) {
@@ -93,10 +93,10 @@ pub(crate) fn put_end<K: ByteSink>(
     sink: &mut K,
     text: &mut OutputBuffer,
     end: End,
-) -> Result<(), RunFault>
+) -> Result<(), NetworkRunFault>
     requires countable { K.failure_count sink.old < 2 ^ 64 - 1 }
     ensures puts { K.is_named → WritesIf result (K.given sink.old) text.old.items (K.given sink.new) text.new.items (last_line end) }
-    ensures fault { IfErr result (λ fault. fault ≡ RunFault.Write) }
+    ensures fault { IfErr result (λ fault. fault ≡ NetworkRunFault.Write) }
     ensures failures { CountsFailure result (K.failure_count sink.old) (K.failure_count sink.new) }
 {
     text.make_room(sink, MOTE_LINE)?;
@@ -112,7 +112,7 @@ fn put_losses<K: ByteSink>(
     text: &mut OutputBuffer,
     steps: &mut NetworkSteps,
     quiet: bool,
-) -> Result<(), RunFault>
+) -> Result<(), NetworkRunFault>
     requires countable { K.failure_count sink.old < 2 ^ 64 - 1 }
     ensures puts { K.is_named → WritesIf result (K.given sink.old) text.old.items (K.given sink.new) text.new.items
         (shown_losses quiet steps.old.sending steps.old.net) }
@@ -120,7 +120,7 @@ fn put_losses<K: ByteSink>(
     ensures waiting { steps.new.waiting ≡ steps.old.waiting }
     ensures works { steps.old.phase ≡ Works → steps.new.phase ≡ Works }
     ensures reported { OnOk result (steps.new.sending ≡ None) }
-    ensures fault { IfErr result (λ fault. fault ≡ RunFault.Write) }
+    ensures fault { IfErr result (λ fault. fault ≡ NetworkRunFault.Write) }
     ensures failures { CountsFailure result (K.failure_count sink.old) (K.failure_count sink.new) }
 {
     if quiet {
@@ -142,7 +142,7 @@ pub(crate) fn put_entry<K: ByteSink>(
     steps: &mut NetworkSteps,
     mote: usize,
     quiet: bool,
-) -> Result<(), RunFault>
+) -> Result<(), NetworkRunFault>
     requires noted { steps.old.sending ≡ sending_of (Entry mote) steps.old.net }
     requires countable { K.failure_count sink.old < 2 ^ 64 - 1 }
     ensures puts { K.is_named → WritesIf result (K.given sink.old) text.old.items (K.given sink.new) text.new.items
@@ -151,7 +151,7 @@ pub(crate) fn put_entry<K: ByteSink>(
     ensures waiting { steps.new.waiting ≡ steps.old.waiting }
     ensures works { steps.old.phase ≡ Works → steps.new.phase ≡ Works }
     ensures reported { OnOk result (steps.new.sending ≡ None) }
-    ensures fault { IfErr result (λ fault. fault ≡ RunFault.Write) }
+    ensures fault { IfErr result (λ fault. fault ≡ NetworkRunFault.Write) }
     ensures failures { CountsFailure result (K.failure_count sink.old) (K.failure_count sink.new) }
 {
     put_last(sink, text, steps.network(), mote, quiet)?;
@@ -170,7 +170,7 @@ fn rests_after(came: Came) -> Option<bool>
 {
     match came {
         Came::Rest => Some(true),
-        Came::Halt => Some(false),
+        Came::Exhausted => Some(false),
         _ => None,
     }
 }
@@ -183,14 +183,14 @@ pub(crate) fn put_other<K: ByteSink>(
     network: &Network,
     came: Came,
     quiet: bool,
-) -> Result<Option<bool>, RunFault>
+) -> Result<Option<bool>, NetworkRunFault>
     requires other { is_of_mote came ≡ false }
     requires countable { K.failure_count sink.old < 2 ^ 64 - 1 }
     ensures puts { K.is_named → WritesIf result (K.given sink.old) text.old.items (K.given sink.new) text.new.items
         (came_lines quiet came network.now) }
     ensures rests { IfOk result (λ rests. rests ≡ rests_after came) }
     ensures unsent { sending_of came network.now ≡ None }
-    ensures fault { IfErr result (λ fault. fault ≡ RunFault.Write) }
+    ensures fault { IfErr result (λ fault. fault ≡ NetworkRunFault.Write) }
     ensures failures { CountsFailure result (K.failure_count sink.old) (K.failure_count sink.new) }
 {
     let rests = rests_after(came);

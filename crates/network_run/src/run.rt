@@ -9,7 +9,7 @@ ghost use Rattle.mote_session.specs.Voices.{Voices};
 ghost use Rattle.network_session.specs.Network.{NetworkView};
 ghost use Rattle.network_steps.specs.NetworkScript.{read_network_line, read_network_lines, with_network_line};
 
-use crate::fault::RunFault;
+use crate::fault::NetworkRunFault;
 use crate::input::{run_to_rest, take_input};
 use crate::reports::put_end;
 use crate::script::{Line, read_line};
@@ -31,7 +31,7 @@ fn take_line<K: ByteSink, H: Caller>(
     line: &[u8],
     number: u32,
     quiet: bool,
-) -> Result<Option<End>, RunFault>
+) -> Result<Option<End>, NetworkRunFault>
     requires rests { IsAtRest steps.old }
     requires countable { K.failure_count sink.old < 2 ^ 64 - 1 }
     ensures runs { K.is_named → (script later : Reading) (from : Moment) →
@@ -64,7 +64,7 @@ fn take_lines<K: ByteSink, H: Caller>(
     script: &[u8],
     first: u32,
     quiet: bool,
-) -> Result<End, RunFault>
+) -> Result<End, NetworkRunFault>
     requires rests { IsAtRest steps.old }
     requires numbers { first + length script.now < 2 ^ 32 }
     requires countable { K.failure_count sink.old < 2 ^ 64 - 1 }
@@ -95,7 +95,7 @@ fn carry_out<K: ByteSink, H: Caller>(
     script: &[u8],
     first: u32,
     quiet: bool,
-) -> Result<End, RunFault>
+) -> Result<End, NetworkRunFault>
     requires under_way { IsUnderWay steps.old }
     requires none { steps.old.waiting ≡ None }
     requires numbers { first + length script.now < 2 ^ 32 }
@@ -113,7 +113,11 @@ fn carry_out<K: ByteSink, H: Caller>(
 }
 
 /// Writes all pending output, and the last line of a run with this end.
-fn close<K: ByteSink>(sink: &mut K, text: &mut OutputBuffer, end: End) -> Result<End, RunFault>
+fn close<K: ByteSink>(
+    sink: &mut K,
+    text: &mut OutputBuffer,
+    end: End,
+) -> Result<End, NetworkRunFault>
     requires countable { K.failure_count sink.old < 2 ^ 64 - 1 }
     ensures ran { K.is_named →
         (quiet : Bool) (script : Reading) (start net : NetworkView) (voices later : Voices) (given : List ℕ) →
@@ -128,12 +132,12 @@ fn close<K: ByteSink>(sink: &mut K, text: &mut OutputBuffer, end: End) -> Result
 }
 
 /// Whether writing failed.
-fn is_write(fault: RunFault) -> bool
+fn is_write(fault: NetworkRunFault) -> bool
     ensures { result ≡ is_write fault }
 {
     match fault {
-        RunFault::Write => true,
-        RunFault::Refused(_) => false,
+        NetworkRunFault::Write => true,
+        NetworkRunFault::Refused(_) => false,
     }
 }
 
@@ -141,8 +145,8 @@ fn is_write(fault: RunFault) -> bool
 fn fail<K: ByteSink>(
     sink: &mut K,
     text: &mut OutputBuffer,
-    fault: RunFault,
-) -> Result<End, RunFault>
+    fault: NetworkRunFault,
+) -> Result<End, NetworkRunFault>
     requires countable { is_write fault ≡ false → K.failure_count sink.old < 2 ^ 64 - 1 }
     ensures ran { K.is_named →
         (quiet : Bool) (script : Reading) (start net : NetworkView) (voices later : Voices) (given : List ℕ) →
@@ -179,13 +183,13 @@ pub fn run_network<K: ByteSink, H: Caller>(
     script: &[u8],
     first: u32,
     quiet: bool,
-) -> Result<End, RunFault>
+) -> Result<End, NetworkRunFault>
     requires numbers { first + length script.now < 2 ^ 32 }
     requires countable { K.failure_count sink.old < 2 ^ 64 - 1 }
     ensures ran { K.is_named → Gives (K.given sink.old) (K.given sink.new) (λ written.
         HasRun quiet network (H.voices caller.old)
         (read_network_lines (length network.motes) first (script_lines script.now)) written result) }
-    ensures write_fault { IsErrOf result RunFault.Write ↔ (K.failure_count sink.old < K.failure_count sink.new) }
+    ensures write_fault { IsErrOf result NetworkRunFault.Write ↔ (K.failure_count sink.old < K.failure_count sink.new) }
 {
     let mut steps = NetworkSteps::over(network);
     let mut text = OutputBuffer::new();

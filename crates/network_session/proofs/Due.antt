@@ -16,14 +16,7 @@ abbrev pub is_plain : Outcome → Bool
 is_plain (Outcome.Started m) = false
 is_plain Outcome.Rest = false
 is_plain Outcome.Exhausted = false
-is_plain (Outcome.Turn m) = true
-is_plain (Outcome.Made m) = true
-is_plain (Outcome.Rested m) = true
-is_plain (Outcome.Stopped m) = true
-is_plain (Outcome.Woken m) = true
-is_plain (Outcome.Heard m) = true
-is_plain (Outcome.Missed from to) = true
-is_plain Outcome.Passed = true
+is_plain _ = true
 
 -- what is due is due now
 pub record IsDueNow (net : NetworkView) (x : Outcome) : Type 0 where
@@ -108,6 +101,6 @@ done_passing net none still =
     ap (λ (o : Option ℕ). is_rest (waking net o)) none
     ∙ (ap (λ (o : Option Flight). is_rest (arriving net o)) still ∙ by_test (nat_lt net.air.clock net.target) refl)
   where
-    by_test : (b : Bool) → nat_lt net.air.clock net.target ≡ b → is_rest (if b then Outcome.Passed else Outcome.Rest) ≡ nat_le net.target net.air.clock
+    by_test : (b : Bool) → nat_lt net.air.clock net.target ≡ b → is_rest (if b then Outcome.Clock else Outcome.Rest) ≡ nat_le net.target net.air.clock
     by_test true e = grind (arith, nat_tests)
     by_test false e = grind (arith, nat_tests)

@@ -63,7 +63,7 @@ starts = refl
 
 -- a frame arrives in its moment, for a mote that was told the time
 arrives : (due_step (net (told 3) (flight 3 1 (7 ∷ []) ∷ []) 9 9) ≡ Outcome.Heard 1) × (due_step (net (told 2) (flight 3 1 (7 ∷ []) ∷ []) 9 9) ≡ Outcome.Woken 1)
-    × (due_step (net (told 3) (flight 4 1 (7 ∷ []) ∷ []) 9 9) ≡ Outcome.Passed)
+    × (due_step (net (told 3) (flight 4 1 (7 ∷ []) ∷ []) 9 9) ≡ Outcome.Clock)
 arrives = (refl, refl, refl)
 
 -- nobody hears it where its receiver was halted or isn't there, or it has no bytes
@@ -72,7 +72,7 @@ missed : (due_step (net halted (flight 3 1 (7 ∷ []) ∷ []) 9 9) ≡ Outcome.M
 missed = (refl, refl, refl, refl)
 
 -- time goes on as far as it may
-passes : (due_step (net (told 3) [] 4 9) ≡ Outcome.Passed) × (due_step (net (told 3) [] 3 9) ≡ Outcome.Rest)
+passes : (due_step (net (told 3) [] 4 9) ≡ Outcome.Clock) × (due_step (net (told 3) [] 3 9) ≡ Outcome.Rest)
 passes = (refl, refl)
 
 -- with no rounds left nothing is done, but motes are started
@@ -147,7 +147,7 @@ asleep timely = absurd (omega (arith, timely.awake refl (λ same. absurd (cc))))
 
 -- nobody hears what nobody sent
 unsent : (configs : ℕ → Config) (links : List (List Link)) (bytes : ArrayVec ℕ) (some : NetworkView) →
-    IsLogOf configs 8 links (Happening.Hears 0 bytes ∷ []) some → ⊥
+    IsLogOf configs 8 links (Happening.Heard 0 bytes ∷ []) some → ⊥
 unsent configs links bytes some log = log.heard.0
 
 module _ (configs : ℕ → Config) (room : ℕ) (links : List (List Link)) (log : List Happening) (some : NetworkView)

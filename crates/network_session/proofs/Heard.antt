@@ -13,15 +13,9 @@ use Rattle.network_session.specs.declared.outcome.Outcome.{Outcome}
 settles : Outcome → Bool
 settles (Outcome.Started m) = false
 settles (Outcome.Woken m) = false
-settles (Outcome.Turn m) = true
-settles (Outcome.Made m) = true
-settles (Outcome.Rested m) = true
-settles (Outcome.Stopped m) = true
-settles (Outcome.Heard m) = true
-settles (Outcome.Missed from to) = true
-settles Outcome.Passed = true
 settles Outcome.Rest = false
 settles Outcome.Exhausted = false
+settles _ = true
 
 due_arriving : (net : NetworkView) (x : Outcome) → settles x ≡ true → is_plain x ≡ true → x ≡ due_step net → x ≡ arriving net (arrival net.air)
 unfolding settles
@@ -54,11 +48,11 @@ heard_hearing clock m f (Some mote) h = by_tests (mote.machine.is_halted || leng
     by_tests false true e = absurd (cc)
     by_tests false false e = (let same : f.to ≡ m = cc in same, refl)
 
-no_passing : (from to : ℕ) (b : Bool) → Outcome.Missed from to ≡ (if b then Outcome.Passed else Outcome.Rest) → ⊥
+no_passing : (from to : ℕ) (b : Bool) → Outcome.Missed from to ≡ (if b then Outcome.Clock else Outcome.Rest) → ⊥
 no_passing from to true h = absurd (cc)
 no_passing from to false h = absurd (cc)
 
-no_passing_heard : (m : ℕ) (b : Bool) → Outcome.Heard m ≡ (if b then Outcome.Passed else Outcome.Rest) → ⊥
+no_passing_heard : (m : ℕ) (b : Bool) → Outcome.Heard m ≡ (if b then Outcome.Clock else Outcome.Rest) → ⊥
 no_passing_heard m true h = absurd (cc)
 no_passing_heard m false h = absurd (cc)
 
@@ -72,18 +66,18 @@ heard_arriving : (net : NetworkView) (m : ℕ) (o : Option Flight) → Outcome.H
 heard_arriving net m None h = absurd (no_passing_heard m (nat_lt net.air.clock net.target) h)
 heard_arriving net m (Some f) h = heard_hearing net.air.clock m f (slice_get net.motes f.to) h
 
-not_passed : (clock : ℕ) (f : Flight) (o : Option SessionView) → Outcome.Passed ≡ hearing clock f o → ⊥
-not_passed clock f None h = absurd (cc)
-not_passed clock f (Some mote) h = by_tests (mote.machine.is_halted || length f.bytes.items == 0) (nat_lt mote.machine.clock clock) h
+not_clock : (clock : ℕ) (f : Flight) (o : Option SessionView) → Outcome.Clock ≡ hearing clock f o → ⊥
+not_clock clock f None h = absurd (cc)
+not_clock clock f (Some mote) h = by_tests (mote.machine.is_halted || length f.bytes.items == 0) (nat_lt mote.machine.clock clock) h
   where
-    by_tests : (a b : Bool) → Outcome.Passed ≡ (if a then Outcome.Missed f.from f.to else if b then Outcome.Woken f.to else Outcome.Heard f.to) → ⊥
+    by_tests : (a b : Bool) → Outcome.Clock ≡ (if a then Outcome.Missed f.from f.to else if b then Outcome.Woken f.to else Outcome.Heard f.to) → ⊥
     by_tests true b e = absurd (cc)
     by_tests false true e = absurd (cc)
     by_tests false false e = absurd (cc)
 
-passed_arriving : (net : NetworkView) (o : Option Flight) → Outcome.Passed ≡ arriving net o → o ≡ None
-passed_arriving net None h = refl
-passed_arriving net (Some f) h = absurd (not_passed net.air.clock f (slice_get net.motes f.to) h)
+clock_arriving : (net : NetworkView) (o : Option Flight) → Outcome.Clock ≡ arriving net o → o ≡ None
+clock_arriving net None h = refl
+clock_arriving net (Some f) h = absurd (not_clock net.air.clock f (slice_get net.motes f.to) h)
 
 pub missed_due : (net : NetworkView) (from to : ℕ) → Outcome.Missed from to ≡ due_step net →
     IsSomeAnd (arrival net.air) (λ f. (f.from ≡ from) × (f.to ≡ to) × (is_unheard f (slice_get net.motes f.to) ≡ true))
@@ -95,6 +89,6 @@ pub heard_due_by : (net : NetworkView) (m : ℕ) → Outcome.Heard m ≡ due_ste
 unfolding settles
 heard_due_by net m h = heard_arriving net m (arrival net.air) (due_arriving net (Outcome.Heard m) refl refl h)
 
-pub passed_due : (net : NetworkView) → Outcome.Passed ≡ due_step net → arrival net.air ≡ None
+pub clock_due : (net : NetworkView) → Outcome.Clock ≡ due_step net → arrival net.air ≡ None
 unfolding settles
-passed_due net h = passed_arriving net (arrival net.air) (due_arriving net Outcome.Passed refl refl h)
+clock_due net h = clock_arriving net (arrival net.air) (due_arriving net Outcome.Clock refl refl h)

@@ -56,17 +56,17 @@ module _ (config : Config) (m : ℕ) (log : List Happening) where
   unfolding grown
   more h = rw (filter_map-append (input_of m) log (h ∷ []), filter_map-append (entry_of m) log (h ∷ [])) refl
 
-  pub history_made : (entry : Entry) → history_of config m (log ++ Happening.Makes m entry ∷ []) ≡ with_entry entry (history_of config m log)
+  pub history_made : (entry : Entry) → history_of config m (log ++ Happening.Entry m entry ∷ []) ≡ with_entry entry (history_of config m log)
   unfolding grown
-  history_made entry = more (Happening.Makes m entry) ∙ rw (same m, append-nil (filter_map (input_of m) log)) refl
+  history_made entry = more (Happening.Entry m entry) ∙ rw (same m, append-nil (filter_map (input_of m) log)) refl
 
-  pub history_handed : (input : Input) → history_of config m (log ++ Happening.Hands m input ∷ []) ≡ with_input input (history_of config m log)
+  pub history_handed : (input : Input) → history_of config m (log ++ Happening.Fed m input ∷ []) ≡ with_input input (history_of config m log)
   unfolding grown
-  history_handed input = more (Happening.Hands m input) ∙ rw (same m, append-nil (filter_map (entry_of m) log)) refl
+  history_handed input = more (Happening.Fed m input) ∙ rw (same m, append-nil (filter_map (entry_of m) log)) refl
 
-  pub history_heard : (bytes : ArrayVec ℕ) → history_of config m (log ++ Happening.Hears m bytes ∷ []) ≡ with_input (Input.Frame bytes) (history_of config m log)
+  pub history_heard : (bytes : ArrayVec ℕ) → history_of config m (log ++ Happening.Heard m bytes ∷ []) ≡ with_input (Input.Frame bytes) (history_of config m log)
   unfolding grown
-  history_heard bytes = more (Happening.Hears m bytes) ∙ rw (same m, append-nil (filter_map (entry_of m) log)) refl
+  history_heard bytes = more (Happening.Heard m bytes) ∙ rw (same m, append-nil (filter_map (entry_of m) log)) refl
 
   pub history_other : (h : Happening) → input_of m h ≡ None → entry_of m h ≡ None → history_of config m (log ++ h ∷ []) ≡ history_of config m log
   unfolding grown
@@ -118,14 +118,14 @@ module _ (i m : ℕ) (other : i ≢ m) where
   differs = let h : m ≢ i = λ e. other (sym e) in grind (arith, nat_tests)
 
   module _ (config : Config) (log : List Happening) where
-    other_made : (entry : Entry) → history_of config i (log ++ Happening.Makes m entry ∷ []) ≡ history_of config i log
-    other_made entry = history_other config i log (Happening.Makes m entry) refl (rw differs refl)
+    other_made : (entry : Entry) → history_of config i (log ++ Happening.Entry m entry ∷ []) ≡ history_of config i log
+    other_made entry = history_other config i log (Happening.Entry m entry) refl (rw differs refl)
 
-    other_handed : (input : Input) → history_of config i (log ++ Happening.Hands m input ∷ []) ≡ history_of config i log
-    other_handed input = history_other config i log (Happening.Hands m input) (rw differs refl) refl
+    other_handed : (input : Input) → history_of config i (log ++ Happening.Fed m input ∷ []) ≡ history_of config i log
+    other_handed input = history_other config i log (Happening.Fed m input) (rw differs refl) refl
 
-    other_heard : (bytes : ArrayVec ℕ) → history_of config i (log ++ Happening.Hears m bytes ∷ []) ≡ history_of config i log
-    other_heard bytes = history_other config i log (Happening.Hears m bytes) (rw differs refl) refl
+    other_heard : (bytes : ArrayVec ℕ) → history_of config i (log ++ Happening.Heard m bytes ∷ []) ≡ history_of config i log
+    other_heard bytes = history_other config i log (Happening.Heard m bytes) (rw differs refl) refl
 
 aired_sends : (m : ℕ) (o : Option (ArrayVec ℕ)) (air : Air) → aired_if m o air ≡ all_done (sends m o) air
 aired_sends m None air = refl
@@ -158,18 +158,18 @@ module _ (configs : ℕ → Config) (room : ℕ) (links : List (List Link)) (log
 
   made_entry : (m : ℕ) (before after : SessionView) (entry : Entry) → slice_get old.motes m ≡ Some before → new.motes ≡ set old.motes m after →
       IsHistoryOf (with_entry entry (history_of (configs m) m log)) after → new.air ≡ all_done (sends m (sent_by_entry entry)) old.air →
-      IsLogOf configs room links (log ++ Happening.Makes m entry ∷ []) new
+      IsLogOf configs room links (log ++ Happening.Entry m entry ∷ []) new
   made_entry m before after entry there others own air =
-      log_one (Happening.Makes m entry)
-      (histories_with configs log (log ++ Happening.Makes m entry ∷ []) old.motes new.motes m before after l.motes there others
+      log_one (Happening.Entry m entry)
+      (histories_with configs log (log ++ Happening.Entry m entry ∷ []) old.motes new.motes m before after l.motes there others
       (rw (history_made (configs m) m log entry) own) (λ i other. other_made i m other (configs i) log entry))
       air tt
 
   handed_input : (input : InputLaw) (m : ℕ) (given : Input) (before after : SessionView) → slice_get old.motes m ≡ Some before → new.motes ≡ set old.motes m after →
-      rests before ≡ true → IsFed given before after → new.air ≡ old.air → IsLogOf configs room links (log ++ Happening.Hands m given ∷ []) new
+      rests before ≡ true → IsFed given before after → new.air ≡ old.air → IsLogOf configs room links (log ++ Happening.Fed m given ∷ []) new
   handed_input input m given before after there others rested fed air =
-      log_one (Happening.Hands m given)
-      (histories_with configs log (log ++ Happening.Hands m given ∷ []) old.motes new.motes m before after l.motes there others
+      log_one (Happening.Fed m given)
+      (histories_with configs log (log ++ Happening.Fed m given ∷ []) old.motes new.motes m before after l.motes there others
       (rw (history_handed (configs m) m log given) (input (history_of (configs m) m log) given before after (l.motes m before there) rested fed))
       (λ i other. other_handed i m other (configs i) log given))
       air tt
@@ -179,10 +179,10 @@ module _ (configs : ℕ → Config) (room : ℕ) (links : List (List Link)) (log
       log_none (rw (ap (λ (v : NetworkView). v.motes) s) l.motes) (ap (λ (v : NetworkView). v.air) s)
   log_step next input (Outcome.Turn m) s = quiet next m Next.Turn s (λ history last. refl) (λ mote. refl)
   log_step next input (Outcome.Rested m) s = quiet next m Next.Rest s (λ history last. refl) (λ mote. refl)
-  log_step next input (Outcome.Stopped m) s = quiet next m Next.Halted s (λ history last. refl) (λ mote. refl)
-  log_step next input (Outcome.Made m) s =
+  log_step next input (Outcome.Halted m) s = quiet next m Next.Halted s (λ history last. refl) (λ mote. refl)
+  log_step next input (Outcome.Entry m) s =
       let h = s.worked in
-      let made_is : made_by m (slice_get new.motes m) ≡ Happening.Makes m h.advances.entry ∷ [] =
+      let made_is : made_by m (slice_get new.motes m) ≡ Happening.Entry m h.advances.entry ∷ [] =
       ap (made_by m) (there_after m old.motes new.motes h.before h.after h.mote h.others) ∙ ap (made m) h.advances.last in
       let own : IsHistoryOf (with_entry h.advances.entry (history_of (configs m) m log)) h.after =
       subst (λ (o : Option Entry). IsHistoryOf (with_made Next.Entry o (history_of (configs m) m log)) h.after) h.advances.last
@@ -200,18 +200,18 @@ module _ (configs : ℕ → Config) (room : ℕ) (links : List (List Link)) (log
       let h = s.handed in
       let own = input (history_of (configs m) m log) (Input.Frame s.flight.bytes) h.before h.after (l.motes m h.before h.mote) h.rested h.fed in
       rw (ap (heard_by m) s.arrives)
-      (log_one (Happening.Hears m s.flight.bytes)
-      (histories_with configs log (log ++ Happening.Hears m s.flight.bytes ∷ []) old.motes new.motes m h.before h.after l.motes h.mote h.others
+      (log_one (Happening.Heard m s.flight.bytes)
+      (histories_with configs log (log ++ Happening.Heard m s.flight.bytes ∷ []) old.motes new.motes m h.before h.after l.motes h.mote h.others
       (rw (history_heard (configs m) m log s.flight.bytes) own) (λ i other. other_heard i m other (configs i) log s.flight.bytes))
       (ap (λ (v : NetworkView). v.air) s.result) (frame_for m s.flight (arrival old.air) s.arrives s.is_for))
   log_step next input (Outcome.Missed from to) s =
-      log_one Happening.Misses
-      (rw (ap (λ (v : NetworkView). v.motes) s) (λ i mote there. rw (history_other (configs i) i log Happening.Misses refl refl) (l.motes i mote there)))
+      log_one Happening.Missed
+      (rw (ap (λ (v : NetworkView). v.motes) s) (λ i mote there. rw (history_other (configs i) i log Happening.Missed refl refl) (l.motes i mote there)))
       (ap (λ (v : NetworkView). v.air) s) tt
-  log_step next input Outcome.Passed s =
+  log_step next input Outcome.Clock s =
       let moment : ℕ = earliest_in old.target (wakes_of old.motes) in
-      log_one (Happening.Passes moment)
-      (rw (ap (λ (v : NetworkView). v.motes) s) (λ i mote there. rw (history_other (configs i) i log (Happening.Passes moment) refl refl) (l.motes i mote there)))
+      log_one (Happening.Clock moment)
+      (rw (ap (λ (v : NetworkView). v.motes) s) (λ i mote there. rw (history_other (configs i) i log (Happening.Clock moment) refl refl) (l.motes i mote there)))
       (ap (λ (v : NetworkView). v.air) s) tt
   log_step next input Outcome.Exhausted s =
       log_none (rw (ap (λ (v : NetworkView). v.motes) s) l.motes) (ap (λ (v : NetworkView). v.air) s)
@@ -223,14 +223,14 @@ module _ (configs : ℕ → Config) (room : ℕ) (links : List (List Link)) (log
       let h = s.submitted in
       let a = h.submitted in
       let entry : Entry = Entry.Turn a.turn.process a.turn.origin a.turn.stimulus call in
-      let made_is : submitted old new ≡ Happening.Makes s.m entry ∷ [] =
+      let made_is : submitted old new ≡ Happening.Entry s.m entry ∷ [] =
       ap (submitted_by new) s.was_active
       ∙ (ap (made_by s.m) (there_after s.m old.motes new.motes h.before h.after h.mote h.others) ∙ ap (made s.m) a.last) in
       let own : IsHistoryOf (with_entry entry (history_of (configs s.m) s.m log)) h.after =
       rw a.awaited at (answer (history_of (configs s.m) s.m log) call h.before h.after (l.motes s.m h.before h.mote) a h.same) in
       rw made_is (made_entry s.m h.before h.after entry h.mote h.others own (ap (λ (v : NetworkView). v.air) s.result))
 
-  pub log_feed : (input : InputLaw) (m : ℕ) (given : Input) → IsNetworkFed m given old new → IsLogOf configs room links (log ++ Happening.Hands m given ∷ []) new
+  pub log_feed : (input : InputLaw) (m : ℕ) (given : Input) → IsNetworkFed m given old new → IsLogOf configs room links (log ++ Happening.Fed m given ∷ []) new
   log_feed input m given s =
       let h = s.handed in
       handed_input input m given h.before h.after h.mote h.others h.rested h.fed (ap (λ (v : NetworkView). v.air) s.result)

@@ -9,8 +9,7 @@ use Rattle.mote_session.specs.declared.session.Next.{Next}
 use Rattle.network_session.specs.Code.Measures.{IsNearerRest, is_last, left_at, left_at_work, left_of, to_do}
 use Rattle.network_session.specs.Network.{NetworkView, wakes_of}
 use Rattle.network_session.specs.Schedule.{due_now, due_step, is_rest}
-use Rattle.network_session.specs.Steps.{IsNetworkSubmitted, Steps, Worked}
-use Rattle.network_session.specs.Time.{is_work}
+use Rattle.network_session.specs.Steps.{IsNetworkSubmitted, Steps, Worked, is_work}
 use Rattle.network_session.specs.declared.outcome.Outcome.{Outcome}
 use Rattle.network_session.proofs.Due.{due_is}
 use Rattle.network_session.proofs.Timely.{not_waking}
@@ -34,8 +33,8 @@ worked_to_do m next old new w =
     same_to_do old new (same_length old.motes m w.worked.after new.motes w.worked.others)
     (ap (λ (v : NetworkView). v.started) w.result) (ap (λ (v : NetworkView). v.rounds) w.result)
 
-pub nearer_made : (m : ℕ) (old new : NetworkView) → Worked m Next.Entry old new → IsNearerRest old new
-nearer_made m old new w =
+pub nearer_entry : (m : ℕ) (old new : NetworkView) → Worked m Next.Entry old new → IsNearerRest old new
+nearer_entry m old new w =
     let before = left_is old m w.worked.before w.was_active w.worked.mote in
     let active : new.active ≡ Some m = ap (λ (v : NetworkView). v.active) w.result in
     let after = left_is new m w.worked.after active (there_after m old.motes new.motes w.worked.before w.worked.after w.worked.mote w.worked.others) in
@@ -69,14 +68,14 @@ nearer_turn m call old mid new w a =
 -- a step of a mote at work, but for a turn
 pub nearer_worked : (x : Outcome) (old new : NetworkView) → Steps x old new → is_work x ≡ true → ((m : ℕ) → x ≡ Outcome.Turn m → ⊥) → IsNearerRest old new
 nearer_worked (Outcome.Turn m) old new s work apart = absurd (apart m refl)
-nearer_worked (Outcome.Made m) old new s work apart = nearer_made m old new s
+nearer_worked (Outcome.Entry m) old new s work apart = nearer_entry m old new s
 nearer_worked (Outcome.Rested m) old new s work apart = nearer_idle m Next.Rest old new s (ap (λ (v : NetworkView). v.active) s.result)
-nearer_worked (Outcome.Stopped m) old new s work apart = nearer_idle m Next.Halted old new s (ap (λ (v : NetworkView). v.active) s.result)
+nearer_worked (Outcome.Halted m) old new s work apart = nearer_idle m Next.Halted old new s (ap (λ (v : NetworkView). v.active) s.result)
 nearer_worked (Outcome.Started m) old new s work apart = absurd (cc)
 nearer_worked (Outcome.Woken m) old new s work apart = absurd (cc)
 nearer_worked (Outcome.Heard m) old new s work apart = absurd (cc)
 nearer_worked (Outcome.Missed from to) old new s work apart = absurd (cc)
-nearer_worked Outcome.Passed old new s work apart = absurd (cc)
+nearer_worked Outcome.Clock old new s work apart = absurd (cc)
 nearer_worked Outcome.Rest old new s work apart = absurd (cc)
 nearer_worked Outcome.Exhausted old new s work apart = absurd (cc)
 
@@ -115,12 +114,12 @@ fewer_to_do (Outcome.Heard m) old new s due work on =
 fewer_to_do (Outcome.Missed from to) old new s due work on =
     round_taken old new (ap (λ (v : NetworkView). length v.motes) s) (ap (λ (v : NetworkView). v.started) s) (ap (λ (v : NetworkView). v.rounds) s)
     (due_is old (Outcome.Missed from to) refl due).some_left
-fewer_to_do Outcome.Passed old new s due work on =
+fewer_to_do Outcome.Clock old new s due work on =
     round_taken old new (ap (λ (v : NetworkView). length v.motes) s) (ap (λ (v : NetworkView). v.started) s) (ap (λ (v : NetworkView). v.rounds) s)
-    (due_is old Outcome.Passed refl due).some_left
+    (due_is old Outcome.Clock refl due).some_left
 fewer_to_do Outcome.Rest old new s due work on = absurd (cc)
 fewer_to_do Outcome.Exhausted old new s due work on = absurd (cc)
 fewer_to_do (Outcome.Turn m) old new s due work on = absurd (cc)
-fewer_to_do (Outcome.Made m) old new s due work on = absurd (cc)
+fewer_to_do (Outcome.Entry m) old new s due work on = absurd (cc)
 fewer_to_do (Outcome.Rested m) old new s due work on = absurd (cc)
-fewer_to_do (Outcome.Stopped m) old new s due work on = absurd (cc)
+fewer_to_do (Outcome.Halted m) old new s due work on = absurd (cc)

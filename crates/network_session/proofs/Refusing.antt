@@ -24,7 +24,7 @@ fed_or_refused net m input mote why idle there no_tick on_time e =
 -- a mote that was handed an input was on time
 pub fed_on_time : (old new : NetworkView) (m : ℕ) (input : Input) (mote : SessionView) →
     old.active ≡ None → slice_get old.motes m ≡ Some mote → ticks_of input ≡ 0 → old.air.clock ≤ mote.machine.clock →
-    HandedIn m input old.motes new.motes → new ≡ record old { motes = new.motes; active = Some m; rounds = old.bound } → IsNetworkFed m input old new
+    HandedIn m (λ mote. input) old.motes new.motes → new ≡ record old { motes = new.motes; active = Some m; rounds = old.bound } → IsNetworkFed m input old new
 fed_on_time old new m input mote idle there timeless on_time handed result =
     let same : Some mote ≡ Some handed.before = sym there ∙ handed.mote in
     let clock : mote.machine.clock ≡ handed.before.machine.clock = let s = same in cc in
@@ -38,7 +38,7 @@ pub record IsOnTime (net : NetworkView) (m : ℕ) (input : Input) (mote : Sessio
   pub on_time : net.air.clock ≤ mote.machine.clock
 
 pub feed_fed : (r : Result Unit NetworkFault) (old new : NetworkView) (m : ℕ) (input : Input) (mote : SessionView) → IsOnTime old m input mote → ticks_of input ≡ 0 →
-    IfOk r (λ _. HandedIn m input old.motes new.motes) → IfOk r (λ _. new ≡ record old { motes = new.motes; active = Some m; rounds = old.bound }) →
+    IfOk r (λ _. HandedIn m (λ mote. input) old.motes new.motes) → IfOk r (λ _. new ≡ record old { motes = new.motes; active = Some m; rounds = old.bound }) →
     IfOk r (λ _. IsNetworkFed m input old new)
 feed_fed (Ok x) old new m input mote h timeless handed result =
     fed_on_time old new m input mote h.idle h.there timeless h.on_time handed result

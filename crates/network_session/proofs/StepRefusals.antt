@@ -11,7 +11,7 @@ use Rattle.mote_types.specs.declared.entry.Input.{Input}
 use Rattle.network_session.specs.Network.{NetworkView}
 use Rattle.network_session.specs.Refusals.{frame_refusal, mote_at_work, mote_refusal, outcome_refusal, passed_refusal, step_refusal, work_refusal}
 use Rattle.network_session.specs.Schedule.{arriving, due_step}
-use Rattle.network_session.specs.Waking.{due_ticks}
+use Rattle.network_session.specs.Waking.{due_tick}
 use Rattle.network_session.specs.declared.fault.NetworkFault.{NetworkFault}
 use Rattle.network_session.specs.declared.outcome.Outcome.{Outcome}
 
@@ -45,9 +45,9 @@ frame_refused net due from to bytes fault within seen why = frame_refused_by net
 
 -- a mote refuses the time
 pub time_refused : (net : NetworkView) (m : ℕ) (fault : NetworkFault) → m < length net.motes →
-    ((mote : SessionView) → slice_get net.motes m ≡ Some mote → mote_refusal (Input.Tick (due_ticks net.air.clock mote.machine.clock)) mote ≡ Some fault) →
+    ((mote : SessionView) → slice_get net.motes m ≡ Some mote → mote_refusal (due_tick net.air.clock mote) mote ≡ Some fault) →
     outcome_refusal (Outcome.Woken m) net ≡ Some fault
-time_refused net m fault within why = passed_refused (λ mote. Input.Tick (due_ticks net.air.clock mote.machine.clock)) net.motes m fault within why
+time_refused net m fault within why = passed_refused (due_tick net.air.clock) net.motes m fault within why
 
 woken_of : (net : NetworkView) (due from to : ℕ) (bytes : ArrayVec ℕ) (mote : SessionView) →
     slice_get net.motes to ≡ Some mote → mote.machine.is_halted ≡ false → (length bytes.items == 0) ≡ false → mote.machine.clock < net.air.clock →
@@ -76,7 +76,7 @@ refused_step (Err fault) net outcome idle due refused =
 
 pub refused_time : {T : Type 0} (result : Result T NetworkFault) (net : NetworkView) (m : ℕ) → m < length net.motes →
     IfErr result (λ fault. (mote : SessionView) → slice_get net.motes m ≡ Some mote →
-    mote_refusal (Input.Tick (due_ticks net.air.clock mote.machine.clock)) mote ≡ Some fault) →
+    mote_refusal (due_tick net.air.clock mote) mote ≡ Some fault) →
     IfErr result (λ fault. outcome_refusal (Outcome.Woken m) net ≡ Some fault)
 refused_time (Ok x) net m within why = tt
 refused_time (Err fault) net m within why = time_refused net m fault within why

@@ -22,8 +22,8 @@ use Rattle.mote_types.specs.declared.entry.Input.{Input}
 use Rattle.timer_core.specs.Deadlines.{earlier_of, next_deadline}
 use Rattle.network_session.specs.Network.{NetworkView, wakes_of}
 use Rattle.network_session.specs.Schedule.{arriving, due_now, due_step, hearing, is_rest, waking}
-use Rattle.network_session.specs.Steps.{IsNetworkSubmitted, IsNetworkFed, Steps, Worked, active_after, aired, aired_if}
-use Rattle.network_session.specs.Time.{IsTimely, KeepsTime, is_work}
+use Rattle.network_session.specs.Steps.{IsNetworkSubmitted, IsNetworkFed, Steps, Worked, active_after, aired, aired_if, is_work}
+use Rattle.network_session.specs.Time.{IsTimely, KeepsTime}
 use Rattle.network_session.specs.Waking.{due_ticks, wake}
 use Rattle.network_session.specs.declared.outcome.Outcome.{Outcome}
 use Rattle.network_session.proofs.Due.{due_is}
@@ -221,10 +221,10 @@ heard_time net m f mote h arrives is there =
     ap (λ (i : ℕ). hearing net.air.clock f (slice_get net.motes i)) is ∙ ap (hearing net.air.clock f) there in
     hearing_time net.air.clock m f mote (arriving_now ∙ (one ∙ two))
 
-passed_started : (net : NetworkView) → Outcome.Passed ≡ due_step net → length net.motes ≤ net.started
-passed_started net h = (due_is net Outcome.Passed refl h).all_started
+clock_started : (net : NetworkView) → Outcome.Clock ≡ due_step net → length net.motes ≤ net.started
+clock_started net h = (due_is net Outcome.Clock refl h).all_started
 
-not_passing : (net : NetworkView) (m : ℕ) (b : Bool) → Outcome.Started m ≡ (if b then Outcome.Passed else Outcome.Rest) → ⊥
+not_passing : (net : NetworkView) (m : ℕ) (b : Bool) → Outcome.Started m ≡ (if b then Outcome.Clock else Outcome.Rest) → ⊥
 not_passing net m true h = absurd (cc)
 not_passing net m false h = absurd (cc)
 
@@ -283,9 +283,9 @@ timely_started m old new all idle is e = rw e (λ i mote there.
       awake = λ up h. t.awake up (unlike old.active i idle);
     })
 
-timely_passed : (old new : NetworkView) → KeepsTime old → old.active ≡ None → length old.motes ≤ old.started →
+timely_clock : (old new : NetworkView) → KeepsTime old → old.active ≡ None → length old.motes ≤ old.started →
     new ≡ record old { air = gone_on (earliest_in old.target (wakes_of old.motes)) old.air; rounds = old.rounds - 1 } → KeepsTime new
-timely_passed old new all idle started e = rw e (λ i mote there.
+timely_clock old new all idle started e = rw e (λ i mote there.
     let t = all i mote there in
     let moment : ℕ = earliest_in old.target (wakes_of old.motes) in
     let low = until_low old.air.flights moment in
@@ -314,9 +314,9 @@ timely_step (Outcome.Started m) old new all s due work =
     let idle = none_at_work old.active work in
     timely_started m old new all idle (started_is old m (due idle)) s
 timely_step (Outcome.Turn m) old new all s due work = timely_worked m Next.Turn old new all s
-timely_step (Outcome.Made m) old new all s due work = timely_worked m Next.Entry old new all s
+timely_step (Outcome.Entry m) old new all s due work = timely_worked m Next.Entry old new all s
 timely_step (Outcome.Rested m) old new all s due work = timely_worked m Next.Rest old new all s
-timely_step (Outcome.Stopped m) old new all s due work = timely_worked m Next.Halted old new all s
+timely_step (Outcome.Halted m) old new all s due work = timely_worked m Next.Halted old new all s
 timely_step (Outcome.Woken m) old new all s due work =
     let idle = none_at_work old.active work in
     let h = s.told in
@@ -338,9 +338,9 @@ timely_step (Outcome.Heard m) old new all s due work =
     timely_handed m old new h.before h.after all idle h.mote h.others (omega (arith, clock, time, t.not_ahead))
     (ap (λ (v : NetworkView). v.air.clock) s.result ∙ landed_clock (arrival old.air) old.air) (ap (λ (v : NetworkView). v.active) s.result) (ap (λ (v : NetworkView). v.started) s.result)
 timely_step (Outcome.Missed from to) old new all s due work = timely_missed old new all s
-timely_step Outcome.Passed old new all s due work =
+timely_step Outcome.Clock old new all s due work =
     let idle = none_at_work old.active work in
-    timely_passed old new all idle (passed_started old (due idle)) s
+    timely_clock old new all idle (clock_started old (due idle)) s
 timely_step Outcome.Rest old new all s due work = rw s all
 timely_step Outcome.Exhausted old new all s due work = rw s all
 

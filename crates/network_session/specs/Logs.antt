@@ -4,16 +4,15 @@ use Rattle.network_session.specs.Alarms.{earliest_in}
 use Rattle.medium_core.specs.Air.{arrival}
 use Rattle.medium_core.specs.declared.flight.Flight.{Flight}
 use Rattle.mote_types.specs.declared.entry.Entry.{Entry}
-use Rattle.mote_types.specs.declared.entry.Input.{Input}
 use Rattle.mote_session.specs.SessionView.{SessionView}
 use Rattle.network_session.specs.Happenings.{Happening}
 use Rattle.network_session.specs.Network.{NetworkView, wakes_of}
-use Rattle.network_session.specs.Waking.{due_ticks}
+use Rattle.network_session.specs.Waking.{due_tick}
 use Rattle.network_session.specs.declared.outcome.Outcome.{Outcome}
 
 abbrev pub made : ℕ → Option Entry → List Happening
 made m None = []
-made m (Some entry) = Happening.Makes m entry ∷ []
+made m (Some entry) = Happening.Entry m entry ∷ []
 
 -- the entry that the mote made last
 abbrev pub made_by : ℕ → Option SessionView → List Happening
@@ -23,24 +22,19 @@ made_by m (Some mote) = made m mote.last
 -- the ticks that the mote is behind
 abbrev pub told_by : ℕ → ℕ → Option SessionView → List Happening
 told_by clock m None = []
-told_by clock m (Some mote) = Happening.Hands m (Input.Tick (due_ticks clock mote.machine.clock)) ∷ []
+told_by clock m (Some mote) = Happening.Fed m (due_tick clock mote) ∷ []
 
 abbrev pub heard_by : ℕ → Option Flight → List Happening
 heard_by m None = []
-heard_by m (Some flight) = Happening.Hears m flight.bytes ∷ []
+heard_by m (Some flight) = Happening.Heard m flight.bytes ∷ []
 
 abbrev pub happened : Outcome → NetworkView → NetworkView → List Happening
-happened (Outcome.Made m) old new = made_by m (slice_get new.motes m)
+happened (Outcome.Entry m) old new = made_by m (slice_get new.motes m)
 happened (Outcome.Woken m) old new = told_by old.air.clock m (slice_get old.motes m)
 happened (Outcome.Heard m) old new = heard_by m (arrival old.air)
-happened (Outcome.Missed from to) old new = Happening.Misses ∷ []
-happened Outcome.Passed old new = Happening.Passes (earliest_in old.target (wakes_of old.motes)) ∷ []
-happened (Outcome.Started m) old new = []
-happened (Outcome.Turn m) old new = []
-happened (Outcome.Rested m) old new = []
-happened (Outcome.Stopped m) old new = []
-happened Outcome.Rest old new = []
-happened Outcome.Exhausted old new = []
+happened (Outcome.Missed from to) old new = Happening.Missed ∷ []
+happened Outcome.Clock old new = Happening.Clock (earliest_in old.target (wakes_of old.motes)) ∷ []
+happened _ old new = []
 
 -- the turn whose call was submitted
 abbrev pub submitted_by : NetworkView → Option ℕ → List Happening

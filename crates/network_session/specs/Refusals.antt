@@ -9,14 +9,13 @@ use Rattle.mote_session.specs.SessionView.{SessionView}
 use Rattle.mote_session.specs.declared.refusal.SessionRefusal.{SessionRefusal}
 use Rattle.network_session.specs.Network.{NetworkView}
 use Rattle.network_session.specs.Schedule.{due_step}
-use Rattle.network_session.specs.Waking.{due_ticks}
+use Rattle.network_session.specs.Waking.{due_tick}
 use Rattle.network_session.specs.declared.fault.NetworkFault.{NetworkFault}
 use Rattle.network_session.specs.declared.outcome.Outcome.{Outcome}
 
 abbrev pub is_tick : Input → Bool
 is_tick (Input.Tick n) = true
-is_tick (Input.Serial bytes) = false
-is_tick (Input.Frame bytes) = false
+is_tick _ = false
 
 -- the mote's own refusal of an input
 abbrev pub mote_refusal : Input → SessionView → Option NetworkFault
@@ -40,7 +39,7 @@ feed_refusal m input net =
 abbrev pub time_refusal : ℕ → Option SessionView → Option NetworkFault
 time_refusal clock None = Some NetworkFault.NoMote
 time_refusal clock (Some mote) =
-    if nat_lt mote.machine.clock clock then mote_refusal (Input.Tick (due_ticks clock mote.machine.clock)) mote else None
+    if nat_lt mote.machine.clock clock then mote_refusal (due_tick clock mote) mote else None
 
 -- the same, by the mote's number; a mote that isn't behind doesn't need the time
 abbrev pub catch_up_refusal : ℕ → NetworkView → Option NetworkFault
@@ -79,8 +78,7 @@ frame_refusal (Some flight) mote = passed_refusal (λ one. Input.Frame flight.by
 
 -- why a step can't be made that passes the time to a mote, or the frame that arrives
 abbrev pub outcome_refusal : Outcome → NetworkView → Option NetworkFault
-outcome_refusal (Outcome.Woken m) net =
-    passed_refusal (λ mote. Input.Tick (due_ticks net.air.clock mote.machine.clock)) (slice_get net.motes m)
+outcome_refusal (Outcome.Woken m) net = passed_refusal (due_tick net.air.clock) (slice_get net.motes m)
 outcome_refusal (Outcome.Heard m) net = frame_refusal (arrival net.air) (slice_get net.motes m)
 outcome_refusal _ net = None
 

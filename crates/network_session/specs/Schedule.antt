@@ -14,7 +14,7 @@ is_unheard f (Some mote) = mote.machine.is_halted || length f.bytes.items == 0
 
 -- time goes on, if it may
 abbrev pub passing : NetworkView → Outcome
-passing net = if nat_lt net.air.clock net.target then Outcome.Passed else Outcome.Rest
+passing net = if nat_lt net.air.clock net.target then Outcome.Clock else Outcome.Rest
 
 -- a frame arrives for this mote, which gets the time first
 abbrev pub hearing : ℕ → Flight → Option SessionView → Outcome
@@ -39,16 +39,7 @@ due_now net = waking net (first_come net.air.clock (wakes_of net.motes))
 
 abbrev pub is_rest : Outcome → Bool
 is_rest Outcome.Rest = true
-is_rest Outcome.Passed = false
-is_rest (Outcome.Missed from to) = false
-is_rest Outcome.Exhausted = false
-is_rest (Outcome.Started m) = false
-is_rest (Outcome.Turn m) = false
-is_rest (Outcome.Made m) = false
-is_rest (Outcome.Rested m) = false
-is_rest (Outcome.Stopped m) = false
-is_rest (Outcome.Woken m) = false
-is_rest (Outcome.Heard m) = false
+is_rest _ = false
 
 -- First all motes are started, in order. Once an input has used up its rounds, no step is made
 abbrev pub due_step : NetworkView → Outcome

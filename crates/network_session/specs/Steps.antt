@@ -1,5 +1,5 @@
 -- What a step does.
-use Rattle.std.specs.Prelude.{◌≡◌, ℕ, ◌≤◌, ◌+◌, ◌-◌, List, slice_get, slice_set, true, Option, None, Some}
+use Rattle.std.specs.Prelude.{◌≡◌, ℕ, ◌≤◌, ◌+◌, ◌-◌, Bool, true, false, List, slice_get, slice_set, Option, None, Some}
 use Rattle.network_session.specs.Alarms.{earliest_in}
 use Rattle.arrayvec.specs.ArrayVec.{ArrayVec}
 use Rattle.medium_core.specs.Air.{Air, arrival, gone_on, landed, sent}
@@ -12,7 +12,7 @@ use Rattle.mote_session.specs.Steps.{Advances, HasSameInputs, IsSubmitted, IsFed
 use Rattle.mote_session.specs.declared.session.Next.{Next}
 use Rattle.kernel_core.specs.Code.Conditions.{ticks_of}
 use Rattle.network_session.specs.Network.{NetworkView, wakes_of}
-use Rattle.network_session.specs.Waking.{due_ticks}
+use Rattle.network_session.specs.Waking.{due_tick}
 use Rattle.network_session.specs.declared.outcome.Outcome.{Outcome}
 
 -- what is sent goes into the air, if anything is
@@ -29,8 +29,7 @@ aired m _ mote air = air
 abbrev pub active_after : ℕ → Next → Option ℕ
 active_after m Next.Rest = None
 active_after m Next.Halted = None
-active_after m Next.Turn = Some m
-active_after m Next.Entry = Some m
+active_after m _ = Some m
 
 -- one mote worked; the others are as they were
 pub record WorkedIn (m : ℕ) (next : Next) (old new : List SessionView) : Type 0 where
@@ -43,21 +42,12 @@ pub record WorkedIn (m : ℕ) (next : Next) (old new : List SessionView) : Type 
   pub others : new ≡ slice_set old m after
 
 -- one mote got an input; the others are as they were
-pub record HandedIn (m : ℕ) (input : Input) (old new : List SessionView) : Type 0 where
+pub record HandedIn (m : ℕ) (input : SessionView → Input) (old new : List SessionView) : Type 0 where
   pub before : SessionView
   pub after : SessionView
   pub mote : slice_get old m ≡ Some before
   pub rested : rests before ≡ true
-  pub fed : IsFed input before after
-  pub others : new ≡ slice_set old m after
-
--- one mote got the time; the others are as they were
-pub record ToldIn (m now : ℕ) (old new : List SessionView) : Type 0 where
-  pub before : SessionView
-  pub after : SessionView
-  pub mote : slice_get old m ≡ Some before
-  pub rested : rests before ≡ true
-  pub fed : IsFed (Input.Tick (due_ticks now before.machine.clock)) before after
+  pub fed : IsFed (input before) before after
   pub others : new ≡ slice_set old m after
 
 -- the call of one mote was submitted; the others are as they were
@@ -77,7 +67,7 @@ pub record Worked (m : ℕ) (next : Next) (old new : NetworkView) : Type 0 where
 
 -- a mote gets the time
 pub record IsToldTime (m : ℕ) (old new : NetworkView) : Type 0 where
-  pub told : ToldIn m old.air.clock old.motes new.motes
+  pub told : HandedIn m (due_tick old.air.clock) old.motes new.motes
   pub result : new ≡ record old { motes = new.motes; active = Some m; rounds = old.rounds - 1 }
 
 -- a mote gets the frame that arrives
@@ -85,7 +75,7 @@ pub record HearsFrame (m : ℕ) (old new : NetworkView) : Type 0 where
   pub flight : Flight
   pub arrives : arrival old.air ≡ Some flight
   pub is_for : flight.to ≡ m
-  pub handed : HandedIn m (Input.Frame flight.bytes) old.motes new.motes
+  pub handed : HandedIn m (λ mote. Input.Frame flight.bytes) old.motes new.motes
   pub result : new ≡ record old { motes = new.motes; air = landed old.air; active = Some m; rounds = old.rounds - 1 }
 
 -- the call that a mote awaits for its turn is executed
@@ -100,21 +90,29 @@ pub record IsNetworkFed (m : ℕ) (input : Input) (old new : NetworkView) : Type
   pub was_active : old.active ≡ None
   -- it is no tick, and the mote has got the time
   pub timeless : ticks_of input ≡ 0
-  pub handed : HandedIn m input old.motes new.motes
+  pub handed : HandedIn m (λ mote. input) old.motes new.motes
   pub on_time : old.air.clock ≤ handed.before.machine.clock
   pub result : new ≡ record old { motes = new.motes; active = Some m; rounds = old.bound }
 
 abbrev pub Steps : Outcome → NetworkView → NetworkView → Type 0
 Steps (Outcome.Started m) old new = new ≡ record old { active = Some m; started = m + 1 }
 Steps (Outcome.Turn m) old new = Worked m Next.Turn old new
-Steps (Outcome.Made m) old new = Worked m Next.Entry old new
+Steps (Outcome.Entry m) old new = Worked m Next.Entry old new
 Steps (Outcome.Rested m) old new = Worked m Next.Rest old new
-Steps (Outcome.Stopped m) old new = Worked m Next.Halted old new
+Steps (Outcome.Halted m) old new = Worked m Next.Halted old new
 Steps (Outcome.Woken m) old new = IsToldTime m old new
 Steps (Outcome.Heard m) old new = HearsFrame m old new
 Steps (Outcome.Missed from to) old new = new ≡ record old { air = landed old.air; rounds = old.rounds - 1 }
 -- to the next moment at which something happens
-Steps Outcome.Passed old new =
+Steps Outcome.Clock old new =
     new ≡ record old { air = gone_on (earliest_in old.target (wakes_of old.motes)) old.air; rounds = old.rounds - 1 }
 Steps Outcome.Rest old new = new ≡ old
 Steps Outcome.Exhausted old new = new ≡ old
+
+-- the steps of a mote that is at work
+abbrev pub is_work : Outcome → Bool
+is_work (Outcome.Turn m) = true
+is_work (Outcome.Entry m) = true
+is_work (Outcome.Rested m) = true
+is_work (Outcome.Halted m) = true
+is_work _ = false

@@ -1,6 +1,8 @@
 -- When motes must get the time.
 use Rattle.std.specs.Prelude.{ℕ, ◌+◌, ◌-◌, max, min, if◌then◌else◌}
 use Rattle.kernel_core.specs.Machine.{Machine}
+use Rattle.mote_session.specs.SessionView.{SessionView}
+use Rattle.mote_types.specs.declared.entry.Input.{Input}
 use Rattle.timer_core.specs.Deadlines.{earlier_of, next_deadline}
 
 -- the most ticks that a mote can sleep: one input has no more
@@ -20,3 +22,7 @@ wake m =
 -- by how many ticks a mote with this clock is behind
 abbrev pub due_ticks : ℕ → ℕ → ℕ
 due_ticks now clock = min (now - clock) longest_sleep
+
+-- the tick that gives it the time
+abbrev pub due_tick : ℕ → SessionView → Input
+due_tick now mote = Input.Tick (due_ticks now mote.machine.clock)

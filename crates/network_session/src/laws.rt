@@ -15,8 +15,8 @@ ghost use Rattle.network_session.specs.Logs.{submitted, happened};
 ghost use Rattle.network_session.specs.Network.{NetworkView};
 ghost use Rattle.network_session.specs.Promise.{IsLogOf, NetworkPromise};
 ghost use Rattle.network_session.specs.Schedule.{due_step, is_unheard};
-ghost use Rattle.network_session.specs.Time.{KeepsTime, is_work};
-ghost use Rattle.network_session.specs.Steps.{IsNetworkSubmitted, IsNetworkFed, Steps};
+ghost use Rattle.network_session.specs.Time.{KeepsTime};
+ghost use Rattle.network_session.specs.Steps.{IsNetworkSubmitted, IsNetworkFed, Steps, is_work};
 ghost use Rattle.network_session.specs.declared.outcome.Outcome.{Outcome};
 
 use medium_core::laws::media_keep_faith;
@@ -32,7 +32,7 @@ pub fn logs_go_on()
     ensures submit { (configs : ℕ → Config) (room : ℕ) (links : List (List Link)) (log : List Happening) (call : Call) (old new : NetworkView) →
         IsLogOf configs room links log old → IsNetworkSubmitted call old new → IsLogOf configs room links (log ++ submitted old new) new }
     ensures feed { (configs : ℕ → Config) (room : ℕ) (links : List (List Link)) (log : List Happening) (m : ℕ) (input : Input) (old new : NetworkView) →
-        IsLogOf configs room links log old → IsNetworkFed m input old new → IsLogOf configs room links (log ++ Happening.Hands m input ∷ []) new }
+        IsLogOf configs room links log old → IsNetworkFed m input old new → IsLogOf configs room links (log ++ Happening.Fed m input ∷ []) new }
 {
     histories_go_on();
 }
@@ -64,5 +64,5 @@ pub fn frames_are_heard()
         IsSomeAnd (arrival net.air) (λ f. (f.from ≡ from) × (f.to ≡ to) × (is_unheard f (slice_get net.motes f.to) ≡ true)) }
     ensures heard { (net : NetworkView) (m : ℕ) → Outcome.Heard m ≡ due_step net →
         IsSomeAnd (arrival net.air) (λ f. (f.to ≡ m) × (is_unheard f (slice_get net.motes f.to) ≡ false)) }
-    ensures passed { (net : NetworkView) → Outcome.Passed ≡ due_step net → arrival net.air ≡ None }
+    ensures clock { (net : NetworkView) → Outcome.Clock ≡ due_step net → arrival net.air ≡ None }
 {}

@@ -7,14 +7,13 @@ ghost use Rattle.network_session.specs.Refusals.{catch_up_refusal, feed_refusal,
 ghost use Rattle.network_session.specs.Schedule.{arriving, due_now, due_step, is_rest, passing};
 ghost use Rattle.network_session.specs.declared.fault.NetworkBootFault.{NetworkBootFault};
 ghost use Rattle.network_session.specs.declared.outcome.Outcome.TheVariants.{Woken};
-ghost use Rattle.network_session.specs.Steps.{SubmittedIn, HandedIn, IsNetworkSubmitted, IsNetworkFed, IsToldTime, Steps, ToldIn, WorkedIn, aired_if};
+ghost use Rattle.network_session.specs.Steps.{SubmittedIn, HandedIn, IsNetworkSubmitted, IsNetworkFed, IsToldTime, Steps, WorkedIn, aired_if, is_work};
 ghost use Rattle.network_session.specs.Code.Measures.{left_at_work, most_left_at_work};
 ghost use Rattle.network_session.specs.Code.Wakes.{AreWakes, IsSteady};
 ghost use Rattle.mote_session.specs.Code.Speaking.{SpeaksBy};
 ghost use Rattle.network_session.specs.Code.Working.{Works, WorksIn};
 ghost use Rattle.kernel_core.specs.Code.Conditions.{ticks_of};
-ghost use Rattle.network_session.specs.Time.{is_work};
-ghost use Rattle.network_session.specs.Waking.{due_ticks, wake};
+ghost use Rattle.network_session.specs.Waking.{due_tick, wake};
 ghost use Rattle.network_session.specs.declared.fault.NetworkFault.{NetworkFault};
 ghost use Rattle.mote_session.specs.declared.refusal.SessionRefusal.{SessionRefusal};
 ghost use Rattle.mote_types.specs.declared.entry.Input.{Input};
@@ -71,7 +70,7 @@ fn work_in(motes: &mut Vec<Session>, m: usize) -> Result<Next, NetworkFault>
 /// Passes an input to one mote.
 fn hand_in(motes: &mut Vec<Session>, m: usize, input: Input) -> Result<(), NetworkFault>
     requires { m < length motes.old.items }
-    ensures handed { IfOk result (λ _. HandedIn m input motes.old.items motes.new.items) }
+    ensures handed { IfOk result (λ _. HandedIn m (λ mote. input) motes.old.items motes.new.items) }
     ensures accepted { IfOk result (λ _. (mote : SessionView) → slice_get motes.old.items m ≡ Some mote → mote_refusal input mote ≡ None) }
     ensures refused { IfErr result (λ _. motes.new.items ≡ motes.old.items) }
     ensures why { IfErr result (λ fault. (mote : SessionView) → slice_get motes.old.items m ≡ Some mote → mote_refusal input mote ≡ Some fault) }
@@ -85,10 +84,10 @@ fn hand_in(motes: &mut Vec<Session>, m: usize, input: Input) -> Result<(), Netwo
 /// Tells one mote the time.
 fn tell_in(motes: &mut Vec<Session>, m: usize, now: u64) -> Result<(), NetworkFault>
     requires { m < length motes.old.items }
-    ensures told { IfOk result (λ _. ToldIn m now motes.old.items motes.new.items) }
-    ensures accepted { IfOk result (λ _. (mote : SessionView) → slice_get motes.old.items m ≡ Some mote → mote_refusal (Input.Tick (due_ticks now mote.machine.clock)) mote ≡ None) }
+    ensures told { IfOk result (λ _. HandedIn m (due_tick now) motes.old.items motes.new.items) }
+    ensures accepted { IfOk result (λ _. (mote : SessionView) → slice_get motes.old.items m ≡ Some mote → mote_refusal (due_tick now mote) mote ≡ None) }
     ensures refused { IfErr result (λ _. motes.new.items ≡ motes.old.items) }
-    ensures why { IfErr result (λ fault. (mote : SessionView) → slice_get motes.old.items m ≡ Some mote → mote_refusal (Input.Tick (due_ticks now mote.machine.clock)) mote ≡ Some fault) }
+    ensures why { IfErr result (λ fault. (mote : SessionView) → slice_get motes.old.items m ≡ Some mote → mote_refusal (due_tick now mote) mote ≡ Some fault) }
 {
     let ticks = ticks_behind(now, motes[m].clock());
     match motes[m].feed_input(Input::Tick(ticks)) {
@@ -236,7 +235,7 @@ impl Network {
             Next::Turn => Ok(Outcome::Turn(m)),
             Next::Entry => {
                 air_in(&mut self.medium, &self.motes[m], m);
-                Ok(Outcome::Made(m))
+                Ok(Outcome::Entry(m))
             }
             Next::Rest => {
                 set_wake(&mut self.wakes, &self.motes, m);
@@ -246,7 +245,7 @@ impl Network {
             Next::Halted => {
                 set_wake(&mut self.wakes, &self.motes, m);
                 self.active = None;
-                Ok(Outcome::Stopped(m))
+                Ok(Outcome::Halted(m))
             }
         }
     }
@@ -338,8 +337,8 @@ impl Network {
         requires within { m < length self.old.motes }
         ensures told { IfOk result (λ _. IsToldTime m self.old self.new) }
         ensures refused { IfErr result (λ _. self.new ≡ self.old) }
-        ensures accepted { IfOk result (λ _. (mote : SessionView) → slice_get self.old.motes m ≡ Some mote → mote_refusal (Input.Tick (due_ticks self.old.air.clock mote.machine.clock)) mote ≡ None) }
-        ensures why { IfErr result (λ fault. (mote : SessionView) → slice_get self.old.motes m ≡ Some mote → mote_refusal (Input.Tick (due_ticks self.old.air.clock mote.machine.clock)) mote ≡ Some fault) }
+        ensures accepted { IfOk result (λ _. (mote : SessionView) → slice_get self.old.motes m ≡ Some mote → mote_refusal (due_tick self.old.air.clock mote) mote ≡ None) }
+        ensures why { IfErr result (λ fault. (mote : SessionView) → slice_get self.old.motes m ≡ Some mote → mote_refusal (due_tick self.old.air.clock mote) mote ≡ Some fault) }
         ensures outcome { IfOk result (λ outcome. outcome ≡ Woken m) }
     {
         tell_in(&mut self.motes, m, self.medium.clock())?;
@@ -389,7 +388,7 @@ impl Network {
             let moment = self.wakes.earliest(self.target);
             self.medium.go_on(moment);
             self.rounds = self.rounds.saturating_sub(1);
-            Outcome::Passed
+            Outcome::Clock
         } else {
             Outcome::Rest
         }
@@ -526,7 +525,7 @@ impl Network {
     fn hand_over(&mut self, m: usize, input: Input) -> Result<(), NetworkFault>
         requires closed { self.old.active ≡ None }
         requires within { m < length self.old.motes }
-        ensures handed { IfOk result (λ _. HandedIn m input self.old.motes self.new.motes) }
+        ensures handed { IfOk result (λ _. HandedIn m (λ mote. input) self.old.motes self.new.motes) }
         ensures active { IfOk result (λ _. self.new ≡ record self.old { motes = self.new.motes; active = Some m; rounds = self.old.bound }) }
         ensures accepted { IfOk result (λ _. (mote : SessionView) → slice_get self.old.motes m ≡ Some mote → mote_refusal input mote ≡ None) }
         ensures refused { IfErr result (λ _. self.new ≡ self.old) }

@@ -7,11 +7,11 @@ pub enum Outcome {
     /// An application of this mote takes a turn, and its call is awaited.
     Turn(usize),
     /// This mote made another entry.
-    Made(usize),
+    Entry(usize),
     /// This mote rests.
     Rested(usize),
     /// This mote had been halted, and does nothing.
-    Stopped(usize),
+    Halted(usize),
     /// This mote got the time: its moment has come, or a frame arrives for it.
     Woken(usize),
     /// This mote was handed the frame that arrived.
@@ -19,7 +19,7 @@ pub enum Outcome {
     /// A frame from the one mote arrived for the other, and nobody hears it.
     Missed(usize, usize),
     /// The clock went on.
-    Passed,
+    Clock,
     /// Nothing is left to do.
     Rest,
     /// Something is left to do, but the input has taken all its rounds.

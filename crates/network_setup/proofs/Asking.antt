@@ -1,5 +1,5 @@
 -- A turn of one application among those of all motes, or of none of them.
-use Rattle.std.proofs.Common.{◌≡◌, ◌≢◌, ◌<◌, ◌≤◌, ◌+◌, ◌-◌, ◌⊎◌, ◌==◌, ◌&&◌, ℕ, inl, inr, nat_lt, None, zero, suc, Bool, true, false, List, [], ◌∷◌, length, set, get_or, slice_get, refl, ap, sym, ◌∙◌, arith, Some}
+use Rattle.std.proofs.Common.{◌≡◌, ◌≢◌, ◌<◌, ◌≤◌, ◌+◌, ◌-◌, ◌⊎◌, ◌==◌, ◌&&◌, ℕ, inl, inr, nat_lt, None, zero, suc, Bool, true, false, List, [], ◌∷◌, length, set, get_or, slice_get, refl, ap, sym, ◌∙◌, arith, Some, if◌then◌else◌}
 use Rattle.std.proofs.lemmas.Bool.Decides.{nat_tests}
 use Rattle.std.specs.Global.{Vec}
 use Rattle.mote_types.proofs.Voices.{says_of_application, slice_get_set_other}
@@ -64,6 +64,10 @@ silent_here apps p stimuli (inl early) = let test : nat_lt p 4 ≡ true = grind 
 silent_here apps p stimuli (inr late) =
     says_of_application mote_app_says apps p stimuli (omega (arith, late)) ∙ silent_beyond apps (p - 4) stimuli (omega (arith, late))
 
+either_way : (early : Bool) → (if early then Call.Wait else Call.Wait) ≡ Call.Wait
+either_way true = refl
+either_way false = refl
+
 none_beyond : {X : Type 0} (xs : List X) (i : ℕ) → length xs ≤ i → slice_get xs i ≡ None
 none_beyond [] i beyond = refl
 none_beyond (x ∷ xs) zero beyond = absurd (omega (arith, beyond))
@@ -71,7 +75,7 @@ none_beyond (x ∷ xs) (suc i) beyond = none_beyond xs i (omega (arith, beyond))
 
 module _ (motes : List (Vec MoteApp)) (m p : ℕ) where
   pub silent_mote : length motes ≤ m → (stimuli : List Stimulus) → voices_of motes m p stimuli ≡ Call.Wait
-  silent_mote beyond stimuli = rw (none_beyond motes m beyond) refl
+  silent_mote beyond stimuli = rw (none_beyond motes m beyond) (either_way (nat_lt p 4))
 
   pub silent_application : (apps : Vec MoteApp) → m < length motes → apps ≡ get_or motes m apps → (p < 4) ⊎ (4 + length apps.items ≤ p) →
       (stimuli : List Stimulus) → voices_of motes m p stimuli ≡ Call.Wait

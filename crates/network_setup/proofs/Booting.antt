@@ -5,8 +5,8 @@ use Rattle.kernel_core.specs.Machine.{Machine}
 use Rattle.mote_session.specs.History.{at_boot}
 use Rattle.mote_session.specs.SessionRuns.{IsHistoryOf}
 use Rattle.mote_session.specs.SessionView.{SessionView}
-use Rattle.network_setup.specs.MoteLines.{IsAdded}
-use Rattle.network_setup.specs.SetupView.{AreBooted, HasJustBooted, HaveJustBooted, SetupView, config_of}
+use Rattle.network_setup.specs.Code.Setups.{AreBooted, IsAdded}
+use Rattle.network_setup.specs.SetupView.{HasJustBooted, HaveJustBooted, SetupView, config_of}
 use Rattle.network_setup.specs.SetUpRuns.{HasBooted, start_of}
 use Rattle.network_run.specs.NetworkRunText.{IsAtStart}
 

@@ -1,8 +1,7 @@
 -- What the definitions refuse: another line's number, a mote that has worked, another application, and how no run ends.
 use Rattle.std.specs.Fmt.{digits}
-use Rattle.std.proofs.Common.{◌≡◌, ◌∙◌, ℕ, Bool, List, [], ◌∷◌, ◌++◌, Option, Some, None, Ok, Err, ap, arith, codes, length, sym}
+use Rattle.std.proofs.Common.{◌≡◌, ◌∙◌, ℕ, Bool, List, [], ◌∷◌, Option, Some, None, Ok, Err, ap, arith, codes, inl, inr, sym}
 use Rattle.std.specs.Option.{option_map_or}
-use Rattle.std.proofs.lemmas.List.{length-append}
 use Rattle.std.specs.Global.{Box, Vec}
 use Rattle.call_lists.specs.declared.applications.Application.{Application}
 use Rattle.kernel_core.specs.Machine.{Machine}
@@ -13,8 +12,8 @@ use Rattle.mote_text.specs.EntryText.{line_of}
 use Rattle.mote_text.specs.Script.{read_line}
 use Rattle.mote_text.specs.declared.script.End.{End}
 use Rattle.mote_types.specs.declared.entry.Entry.{Entry}
-use Rattle.network_setup.specs.FirstLines.{AreCarriedOut, BeginWithInput, IsBadLine}
-use Rattle.network_setup.specs.MoteLines.{AddsMotes, HasCalls, HasName, HasOneMore, HaveMotes, MoteLine}
+use Rattle.network_setup.specs.FirstLines.{AreCarriedOut, IsBadLine}
+use Rattle.network_setup.specs.MoteLines.{AddsMotes, HasCalls, HasMote, HasName, HaveMotes, MoteLine}
 use Rattle.network_setup.specs.ScriptRuns.{EndsAtOnce, IsSetUp}
 use Rattle.network_setup.specs.SetUpRuns.{HasRunSetUp, start_of}
 use Rattle.network_setup.specs.SetupView.{HasJustBooted, SetupView, empty_setup}
@@ -24,21 +23,21 @@ use Rattle.network_steps.specs.declared.input.NetworkInput.{NetworkInput}
 
 -- ---- the first lines
 
-one_line : (front rest : List (List ℕ)) (line other : List ℕ) → line ∷ [] ≡ front ++ other ∷ rest → length front ≡ 0
-one_line front rest line other parts =
-    let count : 1 ≡ length (front ++ other ∷ rest) = ap length parts in omega (arith, count, length-append front (other ∷ rest))
-
 -- a malformed line is reported by its own number
 another_number : IsBadLine 5 (codes "walk" ∷ []) empty_setup → ⊥
-another_number bad = absurd (omega (arith, bad.number, one_line bad.front bad.rest (codes "walk") bad.line bad.parts))
+another_number bad = absurd bad.2
 
 -- what is left begins with an input, not with another line
-no_input : BeginWithInput (codes "walk" ∷ []) → ⊥
-unfolding read_line
-no_input begin = absurd (cc)
-
 nothing_left_out : (old new : SetupView) → AreCarriedOut (codes "walk" ∷ []) (codes "walk" ∷ []) old new → ⊥
-nothing_left_out old new carried = no_input carried.input
+unfolding read_line
+nothing_left_out old new (inl input) = let e = input.0 in absurd (cc)
+nothing_left_out old new (inr executed) = let e = executed.2.0 in absurd (cc)
+
+-- no input is executed before the first one that is left
+no_input_taken : (old new : SetupView) → AreCarriedOut (codes "tick 1" ∷ []) [] old new → ⊥
+unfolding read_line
+no_input_taken old new (inl input) = let e = input.1 in absurd (cc)
+no_input_taken old new (inr executed) = let e = executed.1.1 in absurd (cc)
 
 -- the lines that are left have their numbers
 another_first : IsSetUp [] 2 [] empty_setup → ⊥
@@ -51,13 +50,13 @@ module _ (config : Config) (mote : SessionView) (booted_now : HasJustBooted conf
   has_worked clock = let same : mote.machine.clock ≡ 0 = ap (λ (m : Machine). m.clock) booted_now.machine in absurd (omega (arith, clock, same))
 
   has_an_input : mote.inputs ≡ 1 → ⊥
-  has_an_input inputs = absurd (omega (arith, inputs, booted_now.inputs))
+  has_an_input inputs = absurd (omega (arith, inputs, booted_now.history.inputs))
 
   takes_a_turn : (turn : AwaitedCall) → mote.turn ≡ Some turn → ⊥
   takes_a_turn turn waits = let e : Some turn ≡ None = sym waits ∙ booted_now.turn in absurd (cc)
 
   has_an_entry : mote.last ≡ Some Entry.Halt → ⊥
-  has_an_entry last = let e : Some Entry.Halt ≡ None = sym last ∙ booted_now.last in absurd (cc)
+  has_an_entry last = let e : Some Entry.Halt ≡ None = sym last ∙ booted_now.history.last booted_now.turn in absurd (cc)
 
 -- ---- lines of motes
 
@@ -76,15 +75,16 @@ module _ (box : Box Application) (is : box.value ≡ Application.ClockWatcher) w
   no_list text calls = rw is at calls
 
 -- one more mote has no links, and changes neither room nor rounds
-module _ (config : Config) (own : Vec MoteApp) (new : SetupView) (more : HasOneMore config own empty_setup new) where
+module _ (words : List (List ℕ)) (calls : Option (List ℕ)) (new : SetupView) (more : HasMote words calls empty_setup new) where
   no_links : new.links ≡ [] → ⊥
-  no_links links = let e = sym links ∙ more.links in absurd (cc)
+  no_links links = let e = sym links ∙ ap (λ (setup : SetupView). setup.links) more.added in absurd (cc)
 
   same_room : new.room ≡ 1_025 → ⊥
-  same_room room = let same : new.room ≡ 1_024 = more.room in absurd (omega (arith, room, same))
+  same_room room = let same : new.room ≡ 1_024 = ap (λ (setup : SetupView). setup.room) more.added in absurd (omega (arith, room, same))
 
   same_rounds : new.rounds ≡ 0 → ⊥
-  same_rounds rounds = let same : new.rounds ≡ 16_777_216 = more.rounds in absurd (omega (arith, rounds, same))
+  same_rounds rounds =
+      let same : new.rounds ≡ 16_777_216 = ap (λ (setup : SetupView). setup.rounds) more.added in absurd (omega (arith, rounds, same))
 
 -- no motes change nothing
 nothing_more : (words : List (List ℕ)) → HaveMotes 0 words None empty_setup (record empty_setup { room = 8 }) → ⊥

@@ -1,13 +1,14 @@
 -- Where a text is cut.
-use Rattle.std.proofs.Common.{◌≡◌, ℕ, zero, suc, ◌<◌, ◌≤◌, Bool, true, false, List, [], ◌∷◌, ◌++◌, length, take, drop, Option, Some, None, Result, Ok, Err, IfOk, codes, bytes_eq, lit<, refl, ap, sym, ◌∙◌, arith}
+use Rattle.std.proofs.Common.{◌≡◌, ℕ, zero, suc, ◌<◌, ◌≤◌, ◌==◌, Bool, true, false, List, [], ◌∷◌, ◌++◌, length, take, drop, Option, Some, None, Result, Ok, Err, IfOk, IsErrOf, codes, bytes_eq, lit<, refl, ap, sym, ◌∙◌, arith}
+use Rattle.std.proofs.lemmas.Bool.Decides.{nat_tests}
 use Rattle.std.proofs.lemmas.List.{drop_at, length-append, length-drop, take-append-drop, take_at}
 use Rattle.std.proofs.lemmas.Slice.Eq.{bytes_eq-Decides}
 use Rattle.std.specs.Str.Pattern.{LacksTextAt}
 use Rattle.mote_text.specs.Script.{argument_of}
+use Rattle.network_setup.specs.Code.Setups.{Does, IfMalformed}
 use Rattle.network_setup.specs.FirstLines.{DoesSaid, SaysNothing}
 use Rattle.network_setup.specs.Lines.{cut_at, line_said, span_said, words_of}
-use Rattle.network_setup.specs.MoteLines.{list_said, with_calls}
-use Rattle.network_setup.specs.Setting.{Does, IfMalformed}
+use Rattle.network_setup.specs.MoteLines.{SaysNoMotes, list_said, with_calls}
 use Rattle.network_setup.specs.SetupView.{SetupView}
 use Rattle.network_setup.specs.declared.fault.LineFault.{LineFault}
 use Rattle.network_setup.specs.declared.words.Span.{Span}
@@ -70,23 +71,35 @@ pub nothing : (xs : List ℕ) → length xs ≡ 0 → xs ≡ []
 nothing [] none = refl
 nothing (x ∷ xs) none = absurd (omega (arith, none))
 
--- a text with words after a space, and one without
-pub words_after : (text front rest : List ℕ) (calls : Option (List ℕ)) (span : Span) → cut_at (codes " ") text ≡ Some (front, rest) →
-    span_said front ≡ Some span → with_calls text calls ≡ Some (record { span = span; words = words_of rest; calls = calls })
-words_after text front rest calls span cut is = rw (cut, is) refl
+-- the words of a text that has a space, and of one that has none
+is_no_space : (byte : ℕ) (text : List ℕ) → LacksTextAt (codes " ") (byte ∷ text) 0 → (byte == 32) ≡ false
+is_no_space byte text none = is_not _ (λ is.
+    let space : byte ≡ 32 = grind (arith, nat_tests) in none text (ap (λ (b : ℕ). b ∷ text) space))
 
-pub no_words : (text : List ℕ) (calls : Option (List ℕ)) (span : Span) → cut_at (codes " ") text ≡ None → span_said text ≡ Some span →
-    with_calls text calls ≡ Some (record { span = span; words = []; calls = calls })
-no_words text calls span cut is = rw (cut, is) refl
+pub words_first : (text : List ℕ) (i : ℕ) (rest : List ℕ) → ((k : ℕ) → k < i → LacksTextAt (codes " ") text k) →
+    drop i text ≡ codes " " ++ rest → words_of text ≡ take i text ∷ words_of rest
+words_first [] i rest none here = absurd (omega (arith, ap (length {A = ℕ}) here, length-drop {A = ℕ} i []))
+words_first (byte ∷ text) zero rest none here = ap (λ (xs : List ℕ). words_of xs) here
+words_first (byte ∷ text) (suc i) rest none here =
+    let apart = is_no_space byte text (none 0 (omega arith)) in
+    let later = words_first text i rest (λ k h. none (suc k) (omega arith)) here in
+    rw (apart, later) refl
 
--- and with no motes
-pub words_without : (text front rest : List ℕ) (calls : Option (List ℕ)) → cut_at (codes " ") text ≡ Some (front, rest) →
-    span_said front ≡ None → with_calls text calls ≡ None
-words_without text front rest calls cut is = rw (cut, is) refl
+pub one_word : (text : List ℕ) → ((k : ℕ) → k ≤ length text → LacksTextAt (codes " ") text k) → words_of text ≡ text ∷ []
+one_word [] none = refl
+one_word (byte ∷ text) none =
+    let apart = is_no_space byte text (none 0 (omega arith)) in
+    let later = one_word text (λ k h. none (suc k) (omega arith)) in
+    rw (apart, later) refl
 
-pub nothing_without : (text : List ℕ) (calls : Option (List ℕ)) → cut_at (codes " ") text ≡ None → span_said text ≡ None →
-    with_calls text calls ≡ None
-nothing_without text calls cut is = rw (cut, is) refl
+-- such words where the first one says motes, and where it says none
+pub motes_first : (text front : List ℕ) (words : List (List ℕ)) (calls : Option (List ℕ)) (span : Span) → words_of text ≡ front ∷ words →
+    span_said front ≡ Some span → with_calls (words_of text) calls ≡ Some (record { span = span; words = words; calls = calls })
+motes_first text front words calls span first is = rw (first, is) refl
+
+pub no_motes_first : (text front : List ℕ) (words : List (List ℕ)) (calls : Option (List ℕ)) → words_of text ≡ front ∷ words →
+    span_said front ≡ None → with_calls (words_of text) calls ≡ None
+no_motes_first text front words calls first is = rw (first, is) refl
 
 pub argument_some : (mark line rest : List ℕ) → 0 < length mark → line ≡ mark ++ rest → argument_of mark line ≡ Some rest
 argument_some mark line rest some here =
@@ -94,15 +107,20 @@ argument_some mark line rest some here =
     let after : drop (length mark) line ≡ rest = ap (drop (length mark)) here ∙ drop_at mark rest (length mark) refl in
     rw (yes, after) refl
 
--- a line that doesn't say motes
+-- a line that says motes, and one that doesn't
+module _ (line text : List ℕ) (old : SetupView) (some : argument_of (codes "mote ") line ≡ Some text) where
+  pub motes_malformed : (result : Result (Unit {0}) LineFault) → IfMalformed result (SaysNoMotes text old) →
+      IsErrOf result LineFault.Malformed → SaysNothing line old
+  motes_malformed result why same = rw some (rw same at why)
+
 module _ (line : List ℕ) (old new : SetupView) (none : argument_of (codes "mote ") line ≡ None) where
   pub other_done : (result : Result (Unit {0}) LineFault) → Does result (line_said (words_of line) old) new →
-      IfOk result (λ _. DoesSaid (argument_of (codes "mote ") line) line old new)
+      IfOk result (λ _. DoesSaid line old new)
   other_done (Ok x) does = rw none does
   other_done (Err fault) does = tt
 
   pub other_malformed : (result : Result (Unit {0}) LineFault) → Does result (line_said (words_of line) old) new →
-      IfMalformed result (SaysNothing (argument_of (codes "mote ") line) line old)
-  other_malformed (Ok x) does = tt
-  other_malformed (Err LineFault.Malformed) does = rw none does
-  other_malformed (Err LineFault.Memory) does = tt
+      IsErrOf result LineFault.Malformed → SaysNothing line old
+  other_malformed (Ok x) does same = absurd (cc)
+  other_malformed (Err LineFault.Malformed) does same = rw none does
+  other_malformed (Err LineFault.Memory) does same = absurd (cc)

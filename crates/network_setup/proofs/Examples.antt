@@ -1,13 +1,13 @@
 -- Worked examples: the links and the motes that a line adds, and which lines are malformed.
 use Rattle.std.specs.Fmt.{digits}
-use Rattle.std.proofs.Common.{◌≡◌, ℕ, ◌-◌, ◌^◌, List, [], ◌∷◌, Option, Some, None, Ok, true, false, codes, inl, inr, refl, replicate}
+use Rattle.std.proofs.Common.{◌≡◌, ℕ, ◌-◌, ◌^◌, List, [], ◌∷◌, Option, Some, None, Ok, true, false, arith, codes, inl, inr, refl, replicate}
 use Rattle.medium_core.specs.declared.link.Fate.{Fate}
 use Rattle.medium_core.specs.declared.link.Link.{Link}
 use Rattle.medium_core.specs.declared.link.Loss.{Loss}
 use Rattle.mote_text.specs.EntryText.{line_of}
 use Rattle.mote_text.specs.Script.{read_line}
 use Rattle.mote_text.specs.declared.script.End.{End}
-use Rattle.network_setup.specs.FirstLines.{BeginWithInput, IsMalformed}
+use Rattle.network_setup.specs.FirstLines.{AreCarriedOut, IsBadLine, IsMalformed}
 use Rattle.network_setup.specs.Lines.{links_said, words_of}
 use Rattle.network_setup.specs.MoteLines.{OneIsUnknown, config_said, mote_line, names_said, sizes_said}
 use Rattle.network_setup.specs.ScriptRuns.{EndsAtOnce, is_there}
@@ -168,9 +168,15 @@ malformed_lines : IsMalformed (codes "mote 2 hello") empty_setup × IsMalformed 
 unfolding read_line
 malformed_lines = (inr (refl, refl, inl (λ same. absurd (cc))), inr (refl, refl, refl), inr (refl, refl, refl))
 
-an_input : BeginWithInput (codes "tick 1" ∷ codes "walk" ∷ [])
+-- the second of these lines is malformed, as the first one is blank
+second_line : IsBadLine 2 (codes "# motes" ∷ codes "walk" ∷ []) empty_setup
+unfolding read_line lib.Utf8.encode
+second_line = (empty_setup, ((omega arith, (codes "# motes", (refl, refl))), refl, refl), inr (refl, refl, refl))
+
+-- lines from an input on are left, also a malformed one
+an_input : AreCarriedOut (codes "tick 1" ∷ codes "walk" ∷ []) (codes "tick 1" ∷ codes "walk" ∷ []) empty_setup empty_setup
 unfolding read_line
-an_input = refl
+an_input = inl (refl, refl, refl)
 
 -- a mote that is asked for, and no mote
 there : (is_there (Some 3) 3 ≡ true) × (is_there (Some 4) 3 ≡ false) × (is_there (Some 0) 3 ≡ false) × (is_there None 0 ≡ true)

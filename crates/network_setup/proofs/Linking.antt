@@ -2,13 +2,15 @@
 use Rattle.std.proofs.Common.{◌≡◌, ℕ, zero, suc, ◌+◌, ◌-◌, ◌<◌, ◌≤◌, List, [], ◌∷◌, ◌++◌, length, get_or, set, true, Result, Ok, Err, append_assoc, append-nil, ap, sym, refl, ◌∙◌, arith}
 use Rattle.std.proofs.lemmas.List.{length-map, map-set}
 use Rattle.std.specs.Global.{Vec}
+use Rattle.std.specs.List.{range_with_len}
 use Rattle.std.specs.Prelude.{flat_map}
 use Rattle.medium_core.specs.Code.Airs.{link_lists}
 use Rattle.medium_core.specs.declared.link.Fate.{Fate}
 use Rattle.medium_core.specs.declared.link.Link.{Link}
 use Rattle.network_setup.specs.Code.Linking.{Links}
-use Rattle.network_setup.specs.Setting.{Does, is_fit, next_carriage}
-use Rattle.network_setup.specs.Shapes.{is_shape, linked, links_of, numbers, up_to, with_new_link, with_shape}
+use Rattle.network_setup.specs.Code.Setups.{Does}
+use Rattle.network_setup.specs.Setting.{is_fit, next_carriage}
+use Rattle.network_setup.specs.Shapes.{is_shape, linked, links_of, up_to, with_new_link, with_shape}
 use Rattle.network_setup.specs.declared.carriage.Carriage.{Carriage}
 use Rattle.network_setup.specs.declared.fault.LineFault.{LineFault}
 use Rattle.network_setup.specs.declared.shape.Shape.{Shape}
@@ -17,12 +19,12 @@ use Rattle.network_setup.specs.declared.shape.Shape.{Shape}
 pub up_to_more : (a end : ℕ) → a < end → up_to a end ≡ a ∷ up_to (a + 1) end
 up_to_more a end h =
     let e : end - a ≡ suc (end - (a + 1)) = omega arith in
-    ap (numbers a) e
+    ap (range_with_len a) e
 
 pub up_to_none : (a end : ℕ) → end ≤ a → up_to a end ≡ []
 up_to_none a end h =
     let e : end - a ≡ 0 = omega arith in
-    ap (numbers a) e
+    ap (range_with_len a) e
 
 -- of a loop's links these are left
 pub record IsLeft (all left : List (ℕ × ℕ)) (before after : Carriage) (old new : List (List Link)) : Type 0 where

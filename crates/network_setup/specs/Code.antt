@@ -1,3 +1,4 @@
 -- What the code keeps.
-pub mod Words
 pub mod Linking
+pub mod Setups
+pub mod Words

@@ -1,6 +1,6 @@
 -- What a line that says motes sets up, and when it is malformed: `N` or `N..M`, names of applications and sizes, and after `calls` a list
 -- of calls.
-use Rattle.std.specs.Prelude.{◌≡◌, ◌≢◌, ◌⊎◌, ◌+◌, ◌-◌, ℕ, zero, suc, List, [], ◌∷◌, ◌++◌, length, codes, Option, Some, None, IfSome, is_some, option_and_then, option_map, bytes_eq, if◌then◌else◌}
+use Rattle.std.specs.Prelude.{◌≡◌, ◌≢◌, ◌⊎◌, ⊤, ◌+◌, ◌-◌, ℕ, zero, suc, List, [], ◌∷◌, ◌++◌, length, codes, Option, Some, None, IfSome, is_some, option_and_then, option_map, bytes_eq, if◌then◌else◌}
 use Rattle.std.specs.Global.{Vec}
 use Rattle.call_lists.specs.Applications.{IsListed, IsNamed}
 use Rattle.call_lists.specs.Faults.{IsNoList, IsNoName}
@@ -37,14 +37,10 @@ sizes_said None (word ∷ words) config = sizes_said (option_of word) words conf
 sizes_said (Some name) [] config = None
 sizes_said (Some name) (word ∷ words) config = option_and_then (λ c. sizes_said None words c) (with_option name word config)
 
-abbrev pub with_name : List ℕ → Option (List ℕ) → List (List ℕ) → List (List ℕ)
-with_name word None names = word ∷ names
-with_name word (Some option) names = names
-
 -- the other words, which are names of applications
 abbrev pub names_said : Option (List ℕ) → List (List ℕ) → List (List ℕ)
 names_said option [] = []
-names_said None (word ∷ words) = with_name word (option_of word) (names_said (option_of word) words)
+names_said None (word ∷ words) = (if is_some (option_of word) then [] else word ∷ []) ++ names_said (option_of word) words
 names_said (Some name) (word ∷ words) = names_said None words
 
 -- the application of this name, as it begins
@@ -57,15 +53,12 @@ abbrev pub HasCalls : List ℕ → MoteApp → Type 0
 HasCalls text (MoteApp.Bundled application) = ⊥
 HasCalls text (MoteApp.Boxed application) = IsListed text application.value
 
--- after these applications those of the names, in their order, are all
-abbrev pub AreNamed : List (List ℕ) → List MoteApp → List MoteApp → Type 0
-AreNamed [] before all = all ≡ before
-AreNamed (name ∷ names) before all = (next : MoteApp) × HasName name next × AreNamed names (before ++ next ∷ []) all
-
--- and after them the one of the list of calls, if there is a list
-abbrev pub IsListLast : Option (List ℕ) → List MoteApp → List MoteApp → Type 0
-IsListLast None named all = all ≡ named
-IsListLast (Some text) named all = (last : MoteApp) × HasCalls text last × (all ≡ named ++ last ∷ [])
+-- applications of these names, in their order, and after them the one of the list of calls, if there is a list
+abbrev pub AreSaid : List (List ℕ) → Option (List ℕ) → List MoteApp → Type 0
+AreSaid [] None [] = ⊤
+AreSaid [] (Some text) (last ∷ []) = HasCalls text last
+AreSaid (name ∷ names) calls (next ∷ others) = HasName name next × AreSaid names calls others
+AreSaid _ _ _ = ⊥
 
 -- the number of applications that are said
 abbrev pub count_said : List (List ℕ) → Option (List ℕ) → ℕ
@@ -79,12 +72,6 @@ abbrev pub config_said : List (List ℕ) → Option (List ℕ) → Option Config
 config_said words calls =
     option_and_then (λ sizes. if_bootable (record sizes { apps = count_said words calls })) (sizes_said None words default_config)
 
--- a mote's applications, by its words and its list of calls
-pub record AreSaid (words : List (List ℕ)) (calls : Option (List ℕ)) (own : List MoteApp) : Type 0 where
-  pub named : List MoteApp
-  pub names : AreNamed (names_said None words) [] named
-  pub list : IsListLast calls named own
-
 -- one of these names is no application's
 abbrev pub OneIsUnknown : List (List ℕ) → Type 0
 OneIsUnknown [] = ⊥
@@ -96,27 +83,15 @@ pub data SaysNoMote (words : List (List ℕ)) (calls : Option (List ℕ)) : Type
   no_application : OneIsUnknown (names_said None words) → SaysNoMote words calls
   no_list : (text : List ℕ) → calls ≡ Some text → IsNoList text → SaysNoMote words calls
 
--- one more mote, which has just booted with this configuration
-pub record IsAdded (config : Config) (old new : List SessionView) : Type 0 where
-  pub mote : SessionView
-  pub booted : HasJustBooted config mote
-  pub added : new ≡ old ++ mote ∷ []
-
--- and these are its applications; it has no links
-pub record HasOneMore (config : Config) (own : Vec MoteApp) (old new : SetupView) : Type 0 where
-  pub motes : IsAdded config old.motes new.motes
-  pub applications : new.applications ≡ old.applications ++ own ∷ []
-  pub links : new.links ≡ old.links ++ [] ∷ []
-  pub room : new.room ≡ old.room
-  pub rounds : new.rounds ≡ old.rounds
-
--- one more mote, as its words and its list of calls say
+-- one more mote, as its words and its list of calls say. It has just booted, and has no links
 pub record HasMote (words : List (List ℕ)) (calls : Option (List ℕ)) (old new : SetupView) : Type 0 where
   pub config : Config
+  pub mote : SessionView
   pub own : Vec MoteApp
   pub sizes : config_said words calls ≡ Some config
-  pub applications : AreSaid words calls own.items
-  pub added : HasOneMore config own old new
+  pub booted : HasJustBooted config mote
+  pub applications : AreSaid (names_said None words) calls own.items
+  pub added : new ≡ record old { motes = old.motes ++ mote ∷ []; applications = old.applications ++ own ∷ []; links = old.links ++ [] ∷ [] }
 
 -- n more
 abbrev pub HaveMotes : ℕ → List (List ℕ) → Option (List ℕ) → SetupView → SetupView → Type 0
@@ -135,20 +110,14 @@ list_said [] = Some []
 list_said (byte ∷ []) = None
 list_said (byte ∷ next ∷ text) = argument_of (codes " ") (byte ∷ next ∷ text)
 
-abbrev pub with_span : Option Span → List (List ℕ) → Option (List ℕ) → Option MoteLine
-with_span span words calls = option_map (λ s. record { span = s; words = words; calls = calls }) span
-
--- `3` or `3..40`, and words after a space
-abbrev pub cut_at_space : List ℕ → Option (List ℕ) → Option (List ℕ × List ℕ) → Option MoteLine
-cut_at_space text calls None = with_span (span_said text) [] calls
-cut_at_space text calls (Some parts) = with_span (span_said parts.0) (words_of parts.1) calls
-
-abbrev pub with_calls : List ℕ → Option (List ℕ) → Option MoteLine
-with_calls text calls = cut_at_space text calls (cut_at (codes " ") text)
+-- `3` or `3..40`, and the other words
+abbrev pub with_calls : List (List ℕ) → Option (List ℕ) → Option MoteLine
+with_calls [] calls = None
+with_calls (motes ∷ words) calls = option_map (λ span. record { span = span; words = words; calls = calls }) (span_said motes)
 
 abbrev pub cut_at_calls : List ℕ → Option (List ℕ × List ℕ) → Option MoteLine
-cut_at_calls text None = with_calls text None
-cut_at_calls text (Some parts) = option_and_then (λ calls. with_calls parts.0 (Some calls)) (list_said parts.1)
+cut_at_calls text None = with_calls (words_of text) None
+cut_at_calls text (Some parts) = option_and_then (λ calls. with_calls (words_of parts.0) (Some calls)) (list_said parts.1)
 
 -- what is said after `mote `
 abbrev pub mote_line : List ℕ → Option MoteLine

@@ -1,11 +1,13 @@
 -- The run of a whole script, from its first line on.
-use Rattle.std.specs.Prelude.{◌≡◌, ◌≤◌, ◌<◌, ◌+◌, ℕ, Bool, true, false, ◌&&◌, List, [], ◌++◌, length, nat_le, Option, Some, None, Result, Ok, Err}
+use Rattle.std.specs.Prelude.{◌≡◌, ◌≤◌, ◌<◌, ◌+◌, ℕ, Bool, true, false, List, [], ◌++◌, length, Option, Result, Ok, Err}
+use Rattle.std.specs.Option.{option_map_or}
 use Rattle.mote_text.specs.Script.{script_limit}
 use Rattle.mote_text.specs.declared.script.End.{End}
 use Rattle.mote_text.specs.Script.{script_lines}
-use Rattle.network_run.specs.declared.fault.RunFault.{RunFault}
+use Rattle.network_run.specs.declared.fault.NetworkRunFault.{NetworkRunFault}
 use Rattle.network_setup.specs.FirstLines.{AreCarriedOut, IsBadLine}
 use Rattle.network_setup.specs.MoteApps.{voices_of}
+use Rattle.network_setup.specs.Setting.{is_mote}
 use Rattle.network_setup.specs.SetUpRuns.{HasBooted, HasRunSetUp, start_of}
 use Rattle.network_setup.specs.SetupView.{SetupView, empty_setup}
 use Rattle.network_setup.specs.declared.fault.SetUpRunFault.{SetUpRunFault}
@@ -16,12 +18,11 @@ use Rattle.network_steps.specs.NetworkText.{last_line}
 abbrev pub EndsAtOnce : End → List ℕ → Result End SetUpRunFault → Type 0
 EndsAtOnce end written (Ok told) = (told ≡ end) × (written ≡ last_line end)
 EndsAtOnce end written (Err fault) =
-    (fault ≡ SetUpRunFault.Run RunFault.Write) × ((rest : List ℕ) × (written ++ rest ≡ last_line end))
+    (fault ≡ SetUpRunFault.Run NetworkRunFault.Write) × ((rest : List ℕ) × (written ++ rest ≡ last_line end))
 
 -- the mote that is asked for, if one is, is one of this many
 abbrev pub is_there : Option ℕ → ℕ → Bool
-is_there None motes = true
-is_there (Some number) motes = nat_le 1 number && nat_le number motes
+is_there only motes = option_map_or (is_mote motes) only true
 
 -- the lines up to the first input were executed, and set up this network; those from that one on are left, and it is line `first`
 pub record IsSetUp (script : List ℕ) (first : ℕ) (left : List (List ℕ)) (setup : SetupView) : Type 0 where

@@ -13,15 +13,9 @@ use Rattle.network_steps.specs.declared.input.NetworkInput.{NetworkInput}
 
 -- the network of these motes and links, before anything has happened
 abbrev pub start_of : SetupView → NetworkView
-start_of setup = record {
-  motes = setup.motes;
-  air = still_air setup.room setup.links;
-  active = None;
-  started = 0;
-  target = 0;
-  bound = setup.rounds;
-  rounds = setup.rounds;
-}
+start_of setup =
+    let air = still_air setup.room setup.links in
+    record { motes = setup.motes; air = air; active = None; started = 0; target = 0; bound = setup.rounds; rounds = setup.rounds }
 
 -- It has just booted: nothing is the log of what happened in it, and no mote was started. So what happens in its run keeps the promise of a
 -- network, and it refuses only what is too much

@@ -20,22 +20,14 @@ pub record SetupView : Type 0 where
 -- a mote of this configuration that has done nothing since its boot
 pub record HasJustBooted (config : Config) (mote : SessionView) : Type 0 where
   pub machine : mote.machine ≡ booted config
-  pub inputs : mote.inputs ≡ 0
   pub turn : mote.turn ≡ None
-  pub last : mote.last ≡ None
   pub history : IsHistoryOf (at_boot config) mote
 
 -- so it is with each of these motes
 abbrev pub HaveJustBooted : List Config → List SessionView → Type 0
 HaveJustBooted [] [] = Unit {0}
-HaveJustBooted [] (mote ∷ motes) = ⊥
-HaveJustBooted (config ∷ configs) [] = ⊥
 HaveJustBooted (config ∷ configs) (mote ∷ motes) = HasJustBooted config mote × HaveJustBooted configs motes
-
--- with some configurations
-pub record AreBooted (motes : List SessionView) : Type 0 where
-  pub configs : List Config
-  pub booted : HaveJustBooted configs motes
+HaveJustBooted _ _ = ⊥
 
 -- a mote without options
 abbrev pub default_config : Config

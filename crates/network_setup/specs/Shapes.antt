@@ -1,19 +1,15 @@
 -- The links that a line adds. A pair of numbers is a link from one mote to another.
-use Rattle.std.specs.Prelude.{ℕ, zero, suc, ◌+◌, ◌-◌, ◌%◌, ◌==◌, Bool, true, ◌&&◌, ◌||◌, List, [], ◌∷◌, ◌++◌, flat_map, length, slice_index_or, slice_set, Option, None, Some, nat_le, nat_lt, if◌then◌else◌}
+use Rattle.std.specs.Prelude.{ℕ, ◌+◌, ◌-◌, ◌%◌, ◌==◌, Bool, true, ◌&&◌, ◌||◌, List, [], ◌∷◌, ◌++◌, flat_map, length, slice_index_or, slice_set, Option, None, Some, nat_le, nat_lt, if◌then◌else◌}
+use Rattle.std.specs.List.{range_with_len}
 use Rattle.medium_core.specs.declared.link.Fate.{Fate}
 use Rattle.medium_core.specs.declared.link.Link.{Link}
 use Rattle.network_setup.specs.Setting.{is_fit, next_carriage}
 use Rattle.network_setup.specs.declared.carriage.Carriage.{Carriage}
 use Rattle.network_setup.specs.declared.shape.Shape.{Shape}
 
--- n numbers from `first` on
-abbrev pub numbers : ℕ → ℕ → List ℕ
-numbers first zero = []
-numbers first (suc count) = first ∷ numbers (first + 1) count
-
 -- the numbers from this one on that are below the end
 abbrev pub up_to : ℕ → ℕ → List ℕ
-up_to first end = numbers first (end - first)
+up_to first end = range_with_len first (end - first)
 
 -- links both ways between two motes
 abbrev pub both_ways : ℕ → ℕ → List (ℕ × ℕ)

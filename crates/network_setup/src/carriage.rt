@@ -1,7 +1,7 @@
 //! How links carry frames: the end of a line that makes links.
 
-ghost use Rattle.std.specs.Prelude.{◌≡◌, map};
-ghost use Rattle.network_setup.specs.Lines.{carriage_said, every_said, loss_said, lot_said};
+ghost use Rattle.std.specs.Prelude.{◌≡◌, [], ◌∷◌, map};
+ghost use Rattle.network_setup.specs.Lines.{carriage_said, loss_said};
 ghost use Rattle.network_setup.specs.Setting.{next_carriage};
 
 use medium_core::link::{Link, Loss};
@@ -16,7 +16,7 @@ pub(crate) struct Carriage {
 
 /// `every N`.
 fn read_every(word: &str, number: &str) -> Option<Loss>
-    ensures { result ≡ every_said word.now number.now }
+    ensures { result ≡ loss_said (word.now ∷ number.now ∷ []) }
 {
     if word != "every" {
         return None;
@@ -27,7 +27,7 @@ fn read_every(word: &str, number: &str) -> Option<Loss>
 
 /// `lot N seed N`.
 fn read_lot(word: &str, chance: &str, label: &str, seed: &str) -> Option<Loss>
-    ensures { result ≡ lot_said word.now chance.now label.now seed.now }
+    ensures { result ≡ loss_said (word.now ∷ chance.now ∷ label.now ∷ seed.now ∷ []) }
 {
     if word != "lot" || label != "seed" {
         return None;

@@ -18,5 +18,5 @@ pub enum SetUpRunFault {
     /// A rule of this crate is broken: a link that passed its checks isn't sound.
     BadLink,
     /// The run of the network failed.
-    Run(network_run::fault::RunFault),
+    Run(network_run::fault::NetworkRunFault),
 }

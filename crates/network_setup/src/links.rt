@@ -3,7 +3,8 @@
 ghost use Rattle.std.specs.Prelude.{◌≡◌, ◌≢◌, ◌≤◌, ◌<◌, true, ◌∷◌, [], length};
 ghost use Rattle.medium_core.specs.Code.Airs.{link_lists};
 ghost use Rattle.network_setup.specs.Code.Linking.{Links};
-ghost use Rattle.network_setup.specs.Setting.{Does, next_carriage};
+ghost use Rattle.network_setup.specs.Code.Setups.{Does};
+ghost use Rattle.network_setup.specs.Setting.{next_carriage};
 ghost use Rattle.network_setup.specs.Shapes.{both_ways, column_links, grid_links, is_shape, line_links, links_after, links_of, mesh_links, ring_links, row_links, with_shape};
 
 use crate::carriage::Carriage;

@@ -2,10 +2,10 @@
 
 ghost use Rattle.std.specs.Prelude.{IfOk};
 ghost use Rattle.call_lists.specs.Faults.{IsNoList, IsNoName};
+ghost use Rattle.network_setup.specs.Code.Setups.{IfMalformed};
 ghost use Rattle.network_setup.specs.Code.Words.{IsBoxed};
 ghost use Rattle.network_setup.specs.MoteApps.{mote_app_says};
 ghost use Rattle.network_setup.specs.MoteLines.{HasCalls, HasName};
-ghost use Rattle.network_setup.specs.Setting.{IfMalformed};
 
 use crate::fault::LineFault;
 use call_lists::Application;

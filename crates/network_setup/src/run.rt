@@ -1,14 +1,12 @@
 //! Sets networks up, and runs them.
 
-ghost use Rattle.std.specs.Prelude.{◌≡◌, ◌≤◌, ◌<◌, ◌+◌, ◌-◌, ◌^◌, ◌↔◌, codes, false, length, IfErr, IfOk, IsErrOf};
-ghost use Rattle.mote_text.specs.Script.{argument_of};
+ghost use Rattle.std.specs.Prelude.{◌≡◌, ◌≤◌, ◌<◌, ◌+◌, ◌-◌, ◌^◌, ◌↔◌, false, length, IfErr, IfOk, IsErrOf};
 ghost use Rattle.mote_text.specs.Script.{script_lines};
 ghost use Rattle.network_run.specs.NetworkRunText.{Gives};
-ghost use Rattle.network_run.specs.declared.fault.RunFault.{RunFault};
+ghost use Rattle.network_run.specs.declared.fault.NetworkRunFault.{NetworkRunFault};
 ghost use Rattle.network_setup.specs.FirstLines.{AreCarriedOut, DoesLine, IsBadLine, SaysNothing, is_blank};
 ghost use Rattle.network_setup.specs.MoteApps.{voices_of};
 ghost use Rattle.network_setup.specs.SetUpRuns.{HasBooted, HasRunSetUp, start_of};
-ghost use Rattle.network_setup.specs.Setting.{IfMalformed};
 ghost use Rattle.network_setup.specs.declared.fault.LineFault.{LineFault};
 ghost use Rattle.network_steps.specs.NetworkScript.{read_network_lines};
 
@@ -35,8 +33,7 @@ fn is_blank(text: &str) -> bool
 /// Takes one of the first lines.
 fn take_setup_line(alloc: Global, text: &str, setup: &mut Setup) -> Result<(), LineFault>
     ensures done { IfOk result (λ _. DoesLine text.now setup.old setup.new) }
-    ensures malformed { IfMalformed result ((is_blank text.now ≡ false)
-        × SaysNothing (argument_of (codes "mote ") text.now) text.now setup.old) }
+    ensures malformed { IsErrOf result LineFault.Malformed → (is_blank text.now ≡ false) × SaysNothing text.now setup.old }
 {
     if is_blank(text) {
         return Ok(());
@@ -93,7 +90,7 @@ pub fn run_setup<K: ByteSink>(
     ensures ran { K.is_named → Gives (K.given sink.old) (K.given sink.new) (λ written. HasRunSetUp quiet (start_of setup)
         (voices_of setup.applications) (read_network_lines (length setup.motes) inputs.entry.first (script_lines inputs.entry.script.now)) written result) }
     ensures booted { HasBooted setup }
-    ensures write_fault { IsErrOf result (SetUpRunFault.Run RunFault.Write) ↔ (K.failure_count sink.old < K.failure_count sink.new) }
+    ensures write_fault { IsErrOf result (SetUpRunFault.Run NetworkRunFault.Write) ↔ (K.failure_count sink.old < K.failure_count sink.new) }
 {
     setup.has_booted();
     let Setup {

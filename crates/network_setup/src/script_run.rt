@@ -19,7 +19,7 @@ use mote_text::output_buffer::OutputBuffer;
 use mote_text::script::{End, SCRIPT_LIMIT};
 use mote_text::write::write_all;
 use mote_types::device::ByteSink;
-use network_run::fault::RunFault;
+use network_run::fault::NetworkRunFault;
 use network_steps::lines::last_text;
 use std::alloc::Global;
 
@@ -27,13 +27,13 @@ use std::alloc::Global;
 fn end_at_once<K: ByteSink>(sink: &mut K, end: End) -> Result<End, SetUpRunFault>
     requires countable { K.failure_count sink.old < 2 ^ 64 - 1 }
     ensures ended { K.is_named → Gives (K.given sink.old) (K.given sink.new) (λ written. EndsAtOnce end written result) }
-    ensures write_fault { IsErrOf result (SetUpRunFault.Run RunFault.Write) ↔ (K.failure_count sink.old < K.failure_count sink.new) }
+    ensures write_fault { IsErrOf result (SetUpRunFault.Run NetworkRunFault.Write) ↔ (K.failure_count sink.old < K.failure_count sink.new) }
 {
     let mut text = OutputBuffer::new();
     last_text(end, &mut text);
     match write_all(sink, text.as_slice()) {
         Ok(()) => Ok(end),
-        Err(_) => Err(SetUpRunFault::Run(RunFault::Write)),
+        Err(_) => Err(SetUpRunFault::Run(NetworkRunFault::Write)),
     }
 }
 
@@ -48,7 +48,7 @@ fn end_in_setup<K: ByteSink>(
         Gives (K.given sink.old) (K.given sink.new) (λ written. EndsAtOnce (End.BadLine number) written result) }
     ensures no_memory { fault ≡ LineFault.Memory →
         (result ≡ Err SetUpRunFault.Memory) × (K.is_named → K.given sink.new ≡ K.given sink.old) }
-    ensures write_fault { IsErrOf result (SetUpRunFault.Run RunFault.Write) ↔ (K.failure_count sink.old < K.failure_count sink.new) }
+    ensures write_fault { IsErrOf result (SetUpRunFault.Run NetworkRunFault.Write) ↔ (K.failure_count sink.old < K.failure_count sink.new) }
 {
     match fault {
         LineFault::Malformed => end_at_once(sink, End::BadLine(number)),
@@ -83,7 +83,7 @@ pub fn run_script<K: ByteSink>(
 ) -> Result<End, SetUpRunFault>
     requires countable { K.failure_count sink.old < 2 ^ 64 - 1 }
     ensures ran { K.is_named → Gives (K.given sink.old) (K.given sink.new) (λ written. HasRunScript quiet only script.now written result) }
-    ensures write_fault { IsErrOf result (SetUpRunFault.Run RunFault.Write) ↔ (K.failure_count sink.old < K.failure_count sink.new) }
+    ensures write_fault { IsErrOf result (SetUpRunFault.Run NetworkRunFault.Write) ↔ (K.failure_count sink.old < K.failure_count sink.new) }
 {
     if script.len() > SCRIPT_LIMIT as usize {
         return end_at_once(sink, End::TooLong);

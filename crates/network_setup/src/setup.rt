@@ -1,15 +1,15 @@
 //! The motes and links of a network, as the first lines of its script say them.
 
-ghost use Rattle.std.specs.Prelude.{◌≡◌, ◌≤◌, ◌∷◌, ◌++◌, [], IfOk, None, Some, OnErr, codes, false, map, option_map, true};
+ghost use Rattle.std.specs.Prelude.{◌≡◌, ◌≤◌, ◌∷◌, ◌++◌, [], IfOk, IsErrOf, None, Some, OnErr, false, map, option_and_then, option_map, true};
 ghost use Rattle.kernel_core.specs.Machine.{is_bootable};
-ghost use Rattle.mote_text.specs.Script.{argument_of};
-ghost use Rattle.network_setup.specs.Code.Words.{AreBadWords, IsBadList, IsBadWord, IsMoteSaid, TakesWord, TakesWords, words_in};
+ghost use Rattle.network_setup.specs.Code.Setups.{Does, HasOneMore, IfMalformed, IfNoMemory, IsAdded};
+ghost use Rattle.network_setup.specs.Code.Words.{AreBadWords, IsBadList, IsBadWord, IsListLast, IsMoteSaid, TakesWord, TakesWords, words_in};
 ghost use Rattle.network_setup.specs.FirstLines.{DoesSaid, SaysNothing};
-ghost use Rattle.network_setup.specs.Lines.{line_said, with_links_said, with_room, with_rounds, words_of, words_said};
-ghost use Rattle.network_setup.specs.MoteLines.{AddsMotes, HasOneMore, IsAdded, IsListLast, SaysNoMote, SaysNoMotes, mote_line, with_calls, with_option};
+ghost use Rattle.network_setup.specs.Lines.{line_said, with_links, words_of};
+ghost use Rattle.network_setup.specs.MoteLines.{AddsMotes, SaysNoMote, SaysNoMotes, mote_line, with_calls, with_option};
 ghost use Rattle.network_setup.specs.SetUpRuns.{HasBooted};
 ghost use Rattle.network_setup.specs.SetupView.{HasJustBooted, empty_setup};
-ghost use Rattle.network_setup.specs.Setting.{Does, IfMalformed, IfNoMemory};
+ghost use Rattle.network_setup.specs.declared.fault.LineFault.{LineFault};
 
 use crate::carriage::Carriage;
 use crate::fault::LineFault;
@@ -56,7 +56,8 @@ pub struct Setup {
 
 impl Model for Setup {
     ghost use Rattle.medium_core.specs.Code.Airs.{link_lists};
-    ghost use Rattle.network_setup.specs.SetupView.{AreBooted, SetupView};
+    ghost use Rattle.network_setup.specs.Code.Setups.{AreBooted};
+    ghost use Rattle.network_setup.specs.SetupView.{SetupView};
 
     ghost Value = { SetupView };
 
@@ -147,7 +148,7 @@ fn take_words(
 
 /// The words before `calls` and the list after it, where a text has one.
 fn cut_at_calls(text: &str) -> Result<(&str, Option<&str>), LineFault>
-    ensures cut { IfOk result (λ parts. mote_line text.now ≡ with_calls parts.0.now (option_map (λ calls. calls.now) parts.1)) }
+    ensures cut { IfOk result (λ parts. mote_line text.now ≡ with_calls (words_of parts.0.now) (option_map (λ calls. calls.now) parts.1)) }
     ensures malformed { IfMalformed result (mote_line text.now ≡ None) }
 {
     let Some((words, rest)) = text.split_once(" calls") else {
@@ -281,8 +282,8 @@ impl Setup {
     ///
     /// `Malformed` exactly where the line says nothing that can be set up, and `Memory` where memory is refused.
     pub fn take_line(&mut self, alloc: Global, line: &str) -> Result<(), LineFault>
-        ensures done { IfOk result (λ _. DoesSaid (argument_of (codes "mote ") line.now) line.now self.old self.new) }
-        ensures malformed { IfMalformed result (SaysNothing (argument_of (codes "mote ") line.now) line.now self.old) }
+        ensures done { IfOk result (λ _. DoesSaid line.now self.old self.new) }
+        ensures malformed { IsErrOf result LineFault.Malformed → SaysNothing line.now self.old }
     {
         match line.strip_prefix("mote ") {
             Some(text) => self.add_motes(alloc, text),
@@ -303,7 +304,7 @@ impl Setup {
 
     /// Does what the words of a line say of links, of the room, or of rounds.
     fn take_said(&mut self, word: &str, rest: &[&str]) -> Result<(), LineFault>
-        ensures { Does result (words_said word.now (map (λ word. word.now) rest.now) self.old) self.new }
+        ensures { Does result (line_said (word.now ∷ map (λ word. word.now) rest.now) self.old) self.new }
     {
         match word {
             "room" => self.set_room(only_number(rest)),
@@ -314,7 +315,7 @@ impl Setup {
 
     /// Adds the links that a line says.
     fn add_links(&mut self, said: Option<(Shape, Carriage)>) -> Result<(), LineFault>
-        ensures { Does result (with_links_said said self.old) self.new }
+        ensures { Does result (option_and_then (with_links self.old) said) self.new }
     {
         match said {
             Some((shape, carriage)) => add_shape(self.links.as_mut_slice(), shape, carriage),
@@ -363,7 +364,7 @@ impl Setup {
 
     /// Sets the number of frames that can be in flight.
     fn set_room(&mut self, room: Option<u32>) -> Result<(), LineFault>
-        ensures { Does result (with_room room self.old) self.new }
+        ensures { Does result (option_map (λ room. record self.old { room = room }) room) self.new }
     {
         match room {
             Some(room) => {
@@ -376,7 +377,7 @@ impl Setup {
 
     /// Sets the number of rounds that an input can take.
     fn set_rounds(&mut self, rounds: Option<u32>) -> Result<(), LineFault>
-        ensures { Does result (with_rounds rounds self.old) self.new }
+        ensures { Does result (option_map (λ rounds. record self.old { rounds = rounds }) rounds) self.new }
     {
         match rounds {
             Some(rounds) => {

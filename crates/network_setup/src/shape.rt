@@ -1,7 +1,9 @@
 //! What a line says of links: between which motes they lead, and how they carry frames.
 
 ghost use Rattle.std.specs.Prelude.{◌≡◌, map, option_map};
-ghost use Rattle.network_setup.specs.Lines.{carriage_said, ends_of_link, grid_said, link_said, links_said, motes_said, rows_said, shape_of, span_said, with_carriage};
+ghost use Rattle.std.specs.Option.{option_zip};
+ghost use Rattle.network_setup.specs.Code.Words.{shape_of};
+ghost use Rattle.network_setup.specs.Lines.{carriage_said, ends_said, grid_said, link_said, links_said, motes_said, rows_said, span_said};
 
 use crate::carriage::Carriage;
 use crate::words::{Span, read_span};
@@ -24,7 +26,7 @@ pub(crate) enum Shape {
 
 /// The shape, and how its links carry frames.
 fn with_carriage(shape: Option<Shape>, words: &[&str]) -> Option<(Shape, Carriage)>
-    ensures { result ≡ with_carriage shape (carriage_said (map (λ word. word.now) words.now)) }
+    ensures { result ≡ option_zip shape (carriage_said (map (λ word. word.now) words.now)) }
 {
     let shape = shape?;
     let carriage = Carriage::from_words(words)?;
@@ -33,7 +35,7 @@ fn with_carriage(shape: Option<Shape>, words: &[&str]) -> Option<(Shape, Carriag
 
 /// The numbers of two motes.
 fn read_ends(from: &str, to: &str) -> Option<Shape>
-    ensures { result ≡ ends_of_link from.now to.now }
+    ensures { result ≡ ends_said from.now to.now }
 {
     let from = read_number(from.as_bytes())?;
     let to = read_number(to.as_bytes())?;

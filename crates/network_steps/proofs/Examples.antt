@@ -34,11 +34,11 @@ did to fate = record { to = to; delay = 1; loss = Loss.Never; last = fate }
 
 -- the second and third link of mote 0 didn't carry its frame
 lossy : NetworkView
-lossy = record (opened_net [] 8 9) { air = still_air 8 ((did 1 Fate.Carried ∷ did 2 Fate.Lost ∷ did 3 Fate.Crowded ∷ []) ∷ []) }
+lossy = record (opened_net [] 8 9) { air = still_air 8 ((did 1 Fate.Carried ∷ did 2 Fate.Lost ∷ did 3 Fate.Full ∷ []) ∷ []) }
 
 lines : (came_line (Came.Lost 0 1) lossy ≡ codes "lost 1 2\n") × (came_line (Came.Full 0 1) lossy ≡ codes "full 1 2\n")
     × (came_line (Came.Missed 2 0) lossy ≡ codes "missed 3 1\n") × (came_line (Came.Unheard 2) lossy ≡ codes "missed - 3\n")
-    × (came_line Came.Clock lossy ≡ codes "= 0\n") × (came_line Came.Halt lossy ≡ codes "halt\n") × (came_line Came.Rest lossy ≡ [])
+    × (came_line Came.Clock lossy ≡ codes "= 0\n") × (came_line Came.Exhausted lossy ≡ codes "halt\n") × (came_line Came.Rest lossy ≡ [])
 unfolding line_of digits lossy
 lines = (refl, refl, refl, refl, refl, refl, refl)
 
@@ -50,17 +50,17 @@ unfolding line_of digits lossy did
 left = (refl, refl, refl, refl)
 
 -- rest has no line of its own
-rests : (last_after Came.Rest Came.Clock ≡ Came.Clock) × (last_after Came.Halt Came.Clock ≡ Came.Halt) × (came_of Outcome.Rest ≡ Came.Rest)
+rests : (last_after Came.Rest Came.Clock ≡ Came.Clock) × (last_after Came.Exhausted Came.Clock ≡ Came.Exhausted) × (came_of Outcome.Rest ≡ Came.Rest)
 rests = (refl, refl, refl)
 
-phases : (phase_after Came.Rest ≡ Phase.Resting) × (phase_after Came.Halt ≡ Phase.Spent) × (phase_after Came.Clock ≡ Phase.Working)
+phases : (phase_after Came.Rest ≡ Phase.Resting) × (phase_after Came.Exhausted ≡ Phase.Exhausted) × (phase_after Came.Clock ≡ Phase.Working)
 phases = (refl, refl, refl)
 
 -- inputs are taken at rest alone
 inputs : (tick_refusal 5 (in_phase Phase.Resting) ≡ None)
     × (tick_refusal 5 (in_phase Phase.Working) ≡ Some (StepsFault.Refused SessionRefusal.NotAtRest))
     × (tick_refusal 5 (in_phase Phase.Fresh) ≡ Some (StepsFault.Refused SessionRefusal.NotAtRest))
-    × (tick_refusal 5 (in_phase Phase.Spent) ≡ Some (StepsFault.Refused SessionRefusal.Halted))
+    × (tick_refusal 5 (in_phase Phase.Exhausted) ≡ Some (StepsFault.Refused SessionRefusal.Halted))
 unfolding in_phase empty
 inputs = (refl, refl, refl, refl)
 

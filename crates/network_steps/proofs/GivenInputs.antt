@@ -6,9 +6,9 @@ use Rattle.network_session.specs.Network.{NetworkView}
 use Rattle.network_session.specs.Refusals.{catch_up_refusal}
 use Rattle.network_session.specs.Steps.{IsToldTime}
 use Rattle.network_session.specs.declared.fault.NetworkFault.{NetworkFault}
-use Rattle.network_steps.specs.NetworkRuns.{IsResting, TellsTime}
+use Rattle.network_steps.specs.NetworkRuns.{IsResting, TellsTime, is_halted_in}
 use Rattle.network_steps.specs.Refusals.{fault_if, told_refusal}
-use Rattle.network_steps.specs.Works.{given_refusal, is_behind, is_halted_in}
+use Rattle.network_steps.specs.Works.{given_refusal, is_behind}
 
 pub halted_not_behind : (net : NetworkView) (o : Option SessionView) (one : SessionView) → true ≡ is_halted_in o → o ≡ Some one → false ≡ is_behind net one
 halted_not_behind net None one halted there = absurd (cc)

@@ -15,21 +15,20 @@ use Rattle.network_session.specs.Logs.{happened}
 use Rattle.network_session.specs.Network.{NetworkView}
 use Rattle.network_session.specs.Refusals.{feed_refusal, mote_at_work, step_refusal}
 use Rattle.network_session.specs.Schedule.{due_step}
-use Rattle.network_session.specs.Steps.{IsNetworkFed, Steps, Worked}
-use Rattle.network_session.specs.Time.{is_work}
+use Rattle.network_session.specs.Steps.{IsNetworkFed, Steps, Worked, is_work}
 use Rattle.network_session.specs.declared.fault.NetworkFault.{NetworkFault}
 use Rattle.network_session.specs.declared.outcome.Outcome.{Outcome}
 use Rattle.network_session.proofs.Working.{there_after}
 use Rattle.network_steps.specs.Code.Calls.{IsActiveCall}
-use Rattle.network_steps.specs.Code.Going.{GoesBy, PassesBy, RefusesLeft, StepsIf, StopsBy, came_in, is_end_in, is_open_in, left_to_do}
+use Rattle.network_steps.specs.Code.Going.{GoesBy, MovesSilently, PassesBy, RefusesLeft, StepsIf, StopsBy, came_in, is_end_in, is_open_in, left_to_do}
 use Rattle.network_steps.specs.Code.Turns.{is_end, is_open, is_turn_step, times_of}
-use Rattle.network_steps.specs.NetworkRuns.{DoesStep, IsResting, Leads, Move, inputs_of, moves_text}
+use Rattle.network_steps.specs.NetworkRuns.{DoesStep, IsResting, Leads, Move, is_halted_in, moves_text}
 use Rattle.network_steps.specs.NetworkText.{log_text}
 use Rattle.network_steps.specs.declared.input.NetworkInput.{NetworkInput}
 use Rattle.network_steps.specs.Lines.{losses_left, shown_losses}
 use Rattle.network_steps.specs.Refusals.{awaited_turn, fault_of, turn_of}
 use Rattle.network_steps.specs.StepsView.{StepsView}
-use Rattle.network_steps.specs.Works.{GoesNext, IsCame, IsRefused, RefusesInput, came_lines, came_of, inputs_waiting, is_halted_in, is_reported, last_after, noted, sending_by, sending_of}
+use Rattle.network_steps.specs.Works.{GoesNext, IsCame, IsRefused, RefusesInput, came_lines, came_of, inputs_of, inputs_waiting, is_reported, last_after, noted, sending_by, sending_of}
 use Rattle.network_steps.specs.declared.came.Came.{Came}
 use Rattle.network_steps.specs.declared.came.Phase.{Phase}
 use Rattle.network_steps.specs.declared.came.Sending.{Sending}
@@ -46,21 +45,14 @@ none_sent quiet s none = ap (λ (o : Option Sending). shown_losses quiet o s.net
 
 -- ---- one after the other
 
+-- no moves
+moves_nowhere : (net : NetworkView) (waiting : Option Waiting) (voices : Voices) → MovesSilently net net waiting waiting voices voices
+moves_nowhere net waiting voices =
+    record { moves = []; leads = refl; calls = refl; silent = λ quiet. refl; inputs = refl; untold = refl; answered = refl }
+
 -- nothing happens but that work is to begin
 pub passes_still : (s : StepsView) (voices : Voices) → s.sending ≡ None → PassesBy s (record s { phase = Phase.Working }) voices voices
-passes_still s voices none = record {
-  moves = [];
-  leads = refl;
-  calls = refl;
-  silent = λ quiet. refl;
-  inputs = refl;
-  untold = refl;
-  answered = refl;
-  last = refl;
-  links = refl;
-  sending = none;
-  works = refl;
-}
+passes_still s voices none = record { way = moves_nowhere s.net s.waiting voices; last = refl; links = refl; sending = none; works = refl }
 
 waiting_on : (first second : List Move) (later middle earlier : List NetworkInput) → inputs_of second ++ later ≡ middle → inputs_of first ++ middle ≡ earlier →
     inputs_of (first ++ second) ++ later ≡ earlier
@@ -76,58 +68,50 @@ silent_on : (quiet : Bool) (first second : List Move) (old mid : NetworkView) �
     moves_text quiet mid second ≡ [] → moves_text quiet old (first ++ second) ≡ []
 silent_on quiet first second old mid leads one two = text_on quiet first second old mid leads ∙ rw (one, two) refl
 
-pub passes_on : {old mid new : StepsView} {before between after : Voices} → PassesBy old mid before between → PassesBy mid new between after →
-    PassesBy old new before after
-passes_on {old} {mid} {new} {before} {between} {after} p q = record {
+moves_on : {old mid new : NetworkView} {waiting between left : Option Waiting} {before middle after : Voices} →
+    MovesSilently old mid waiting between before middle → MovesSilently mid new between left middle after →
+    MovesSilently old new waiting left before after
+moves_on {old} {mid} {new} {waiting} {between} {left} {before} {middle} {after} p q = record {
   moves = p.moves ++ q.moves;
-  leads = leads_on p.moves q.moves old.net mid.net new.net p.leads q.leads;
-  calls = speak_on p.moves q.moves old.net mid.net before between after p.leads p.calls q.calls;
-  silent = λ quiet. silent_on quiet p.moves q.moves old.net mid.net p.leads (p.silent quiet) (q.silent quiet);
-  inputs = waiting_on p.moves q.moves (inputs_waiting new.waiting) (inputs_waiting mid.waiting) (inputs_waiting old.waiting) q.inputs p.inputs;
+  leads = leads_on p.moves q.moves old mid new p.leads q.leads;
+  calls = speak_on p.moves q.moves old mid before middle after p.leads p.calls q.calls;
+  silent = λ quiet. silent_on quiet p.moves q.moves old mid p.leads (p.silent quiet) (q.silent quiet);
+  inputs = waiting_on p.moves q.moves (inputs_waiting left) (inputs_waiting between) (inputs_waiting waiting) q.inputs p.inputs;
   untold = untold_on p.moves q.moves p.untold q.untold;
   answered = ends_closed p.moves q.moves p.answered q.answered;
-  last = q.last ∙ p.last;
-  links = q.links ∙ p.links;
-  sending = q.sending;
-  works = q.works;
 }
+
+pub passes_on : {old mid new : StepsView} {before between after : Voices} → PassesBy old mid before between → PassesBy mid new between after →
+    PassesBy old new before after
+passes_on p q =
+    record { way = moves_on p.way q.way; last = q.last ∙ p.last; links = q.links ∙ p.links; sending = q.sending; works = q.works }
 
 pub goes_on : {came : Came} {old mid new : StepsView} {before between after : Voices} → old.sending ≡ None → PassesBy old mid before between →
     GoesBy came mid new between after → GoesBy came old new before after
 goes_on {came} {old} {mid} {new} {before} {between} {after} none p g = record {
   goes = record {
-    moves = p.moves ++ g.goes.moves;
-    leads = leads_on p.moves g.goes.moves old.net mid.net new.net p.leads g.goes.leads;
+    moves = p.way.moves ++ g.goes.moves;
+    leads = leads_on p.way.moves g.goes.moves old.net mid.net new.net p.way.leads g.goes.leads;
     text = λ quiet.
         rw (none_sent quiet old none)
-        (text_on quiet p.moves g.goes.moves old.net mid.net p.leads
-        ∙ (rw (p.silent quiet)
+        (text_on quiet p.way.moves g.goes.moves old.net mid.net p.way.leads
+        ∙ (rw (p.way.silent quiet)
         (ap (λ (lost : List ℕ). lost ++ moves_text quiet mid.net g.goes.moves) (sym (none_sent quiet mid p.sending)) ∙ g.goes.text quiet)));
-    inputs = waiting_on p.moves g.goes.moves (inputs_waiting new.waiting) (inputs_waiting mid.waiting) (inputs_waiting old.waiting) g.goes.inputs p.inputs;
+    inputs = waiting_on p.way.moves g.goes.moves (inputs_waiting new.waiting) (inputs_waiting mid.waiting) (inputs_waiting old.waiting) g.goes.inputs p.way.inputs;
     last = g.goes.last ∙ ap (last_after came) p.last;
     phase = g.goes.phase;
     is_came = g.goes.is_came;
     links = g.goes.links ∙ p.links;
-    untold = untold_on p.moves g.goes.moves p.untold g.goes.untold;
-    answered = λ closed. ends_closed p.moves g.goes.moves p.answered (g.goes.answered closed);
+    untold = untold_on p.way.moves g.goes.moves p.way.untold g.goes.untold;
+    answered = λ closed. ends_closed p.way.moves g.goes.moves p.way.answered (g.goes.answered closed);
   };
-  calls = speak_on p.moves g.goes.moves old.net mid.net before between after p.leads p.calls g.calls;
+  calls = speak_on p.way.moves g.goes.moves old.net mid.net before between after p.way.leads p.way.calls g.calls;
   sending = g.sending;
 }
 
 pub stops_on : {cause : NetworkFault} {old mid : StepsView} {new : NetworkView} {before between after : Voices} → PassesBy old mid before between →
     StopsBy cause mid new between after → StopsBy cause old new before after
-stops_on {cause} {old} {mid} {new} {before} {between} {after} p q = record {
-  moves = p.moves ++ q.moves;
-  leads = leads_on p.moves q.moves old.net mid.net new p.leads q.leads;
-  calls = speak_on p.moves q.moves old.net mid.net before between after p.leads p.calls q.calls;
-  silent = λ quiet. silent_on quiet p.moves q.moves old.net mid.net p.leads (p.silent quiet) (q.silent quiet);
-  left = q.left;
-  inputs = waiting_on p.moves q.moves (inputs_waiting q.left) (inputs_waiting mid.waiting) (inputs_waiting old.waiting) q.inputs p.inputs;
-  untold = untold_on p.moves q.moves p.untold q.untold;
-  answered = ends_closed p.moves q.moves p.answered q.answered;
-  refuses = q.refuses;
-}
+stops_on p q = record { left = q.left; way = moves_on p.way q.way; refuses = q.refuses }
 
 -- ---- one step
 
@@ -141,13 +125,15 @@ pub passes_step : (x : Outcome) (s new : StepsView) (net : NetworkView) (voices 
 passes_step x s new net voices none works does no_turn mute is =
     subst (λ (v : StepsView). PassesBy s v voices voices) (sym is)
     (record {
-      moves = Move.Step x net ∷ [];
-      leads = (does, refl);
-      calls = (voices, refl, refl);
-      silent = λ quiet. step_text quiet x s.net net does ∙ mute quiet;
-      inputs = refl;
-      untold = refl;
-      answered = no_turn;
+      way = record {
+        moves = Move.Step x net ∷ [];
+        leads = (does, refl);
+        calls = (voices, refl, refl);
+        silent = λ quiet. step_text quiet x s.net net does ∙ mute quiet;
+        inputs = refl;
+        untold = refl;
+        answered = no_turn;
+      };
       last = refl;
       links = refl;
       sending = none;
@@ -157,13 +143,13 @@ passes_step x s new net voices none works does no_turn mute is =
 pub unreported : (quiet : Bool) (x : Outcome) (net : NetworkView) → is_reported x ≡ false → came_lines quiet (came_of x) net ≡ []
 unreported quiet (Outcome.Started m) net r = refl
 unreported quiet (Outcome.Rested m) net r = refl
-unreported quiet (Outcome.Stopped m) net r = refl
+unreported quiet (Outcome.Halted m) net r = refl
 unreported quiet (Outcome.Woken m) net r = refl
 unreported quiet (Outcome.Heard m) net r = refl
 unreported quiet (Outcome.Turn m) net r = absurd (cc)
-unreported quiet (Outcome.Made m) net r = absurd (cc)
+unreported quiet (Outcome.Entry m) net r = absurd (cc)
 unreported quiet (Outcome.Missed from to) net r = absurd (cc)
-unreported quiet Outcome.Passed net r = absurd (cc)
+unreported quiet Outcome.Clock net r = absurd (cc)
 unreported quiet Outcome.Rest net r = absurd (cc)
 unreported quiet Outcome.Exhausted net r = absurd (cc)
 
@@ -171,12 +157,12 @@ pub unreported_closed : (x : Outcome) → is_reported x ≡ false → is_turn_st
 unreported_closed (Outcome.Turn m) r = absurd (cc)
 unreported_closed (Outcome.Started m) r = refl
 unreported_closed (Outcome.Rested m) r = refl
-unreported_closed (Outcome.Stopped m) r = refl
+unreported_closed (Outcome.Halted m) r = refl
 unreported_closed (Outcome.Woken m) r = refl
 unreported_closed (Outcome.Heard m) r = refl
-unreported_closed (Outcome.Made m) r = refl
+unreported_closed (Outcome.Entry m) r = refl
 unreported_closed (Outcome.Missed from to) r = refl
-unreported_closed Outcome.Passed r = refl
+unreported_closed Outcome.Clock r = refl
 unreported_closed Outcome.Rest r = refl
 unreported_closed Outcome.Exhausted r = refl
 
@@ -184,12 +170,12 @@ pub opens_turn : (x : Outcome) → is_open (came_of x) ≡ is_turn_step x
 opens_turn (Outcome.Turn m) = refl
 opens_turn (Outcome.Started m) = refl
 opens_turn (Outcome.Rested m) = refl
-opens_turn (Outcome.Stopped m) = refl
+opens_turn (Outcome.Halted m) = refl
 opens_turn (Outcome.Woken m) = refl
 opens_turn (Outcome.Heard m) = refl
-opens_turn (Outcome.Made m) = refl
+opens_turn (Outcome.Entry m) = refl
 opens_turn (Outcome.Missed from to) = refl
-opens_turn Outcome.Passed = refl
+opens_turn Outcome.Clock = refl
 opens_turn Outcome.Rest = refl
 opens_turn Outcome.Exhausted = refl
 
@@ -212,12 +198,12 @@ came_so (Outcome.Turn m) old new s does r e none =
     let awaited : awaited_turn new ≡ Some k.worked.advances.turn =
     ap (λ (o : Option ℕ). turn_of (mote_at_work new o)) active ∙ (ap turn_of there ∙ k.worked.advances.opened) in
     (ap (λ (v : NetworkView). v.active) e ∙ active, ap (λ (v : NetworkView). is_some (awaited_turn v)) e ∙ ap is_some awaited)
-came_so (Outcome.Made m) old new s does r e none = tt
+came_so (Outcome.Entry m) old new s does r e none = tt
 came_so (Outcome.Missed from to) old new s does r e none = tt
-came_so Outcome.Passed old new s does r e none = tt
+came_so Outcome.Clock old new s does r e none = tt
 came_so (Outcome.Started m) old new s does r e none = absurd (cc)
 came_so (Outcome.Rested m) old new s does r e none = absurd (cc)
-came_so (Outcome.Stopped m) old new s does r e none = absurd (cc)
+came_so (Outcome.Halted m) old new s does r e none = absurd (cc)
 came_so (Outcome.Woken m) old new s does r e none = absurd (cc)
 came_so (Outcome.Heard m) old new s does r e none = absurd (cc)
 
@@ -246,14 +232,14 @@ goes_step x s new net voices none does reported waits is =
 -- what was reported is what is noted
 pub noted_is : (x : Outcome) (s : StepsView) → is_reported x ≡ true → came_of x ≡ came_in (noted x s)
 noted_is (Outcome.Turn m) s r = refl
-noted_is (Outcome.Made m) s r = refl
+noted_is (Outcome.Entry m) s r = refl
 noted_is (Outcome.Missed from to) s r = refl
-noted_is Outcome.Passed s r = refl
+noted_is Outcome.Clock s r = refl
 noted_is Outcome.Rest s r = refl
 noted_is Outcome.Exhausted s r = refl
 noted_is (Outcome.Started m) s r = absurd (cc)
 noted_is (Outcome.Rested m) s r = absurd (cc)
-noted_is (Outcome.Stopped m) s r = absurd (cc)
+noted_is (Outcome.Halted m) s r = absurd (cc)
 noted_is (Outcome.Woken m) s r = absurd (cc)
 noted_is (Outcome.Heard m) s r = absurd (cc)
 
@@ -277,14 +263,14 @@ goes_rest s waiting voices rested none taken after =
 
 turns_at_work : (x : Outcome) → is_work x ≡ false → is_turn_step x ≡ false
 turns_at_work (Outcome.Turn m) e = absurd (cc)
-turns_at_work (Outcome.Made m) e = refl
+turns_at_work (Outcome.Entry m) e = refl
 turns_at_work (Outcome.Rested m) e = refl
-turns_at_work (Outcome.Stopped m) e = refl
+turns_at_work (Outcome.Halted m) e = refl
 turns_at_work (Outcome.Started m) e = refl
 turns_at_work (Outcome.Woken m) e = refl
 turns_at_work (Outcome.Heard m) e = refl
 turns_at_work (Outcome.Missed from to) e = refl
-turns_at_work Outcome.Passed e = refl
+turns_at_work Outcome.Clock e = refl
 turns_at_work Outcome.Rest e = refl
 turns_at_work Outcome.Exhausted e = refl
 
@@ -339,7 +325,7 @@ noted_as s net came sending one two = rw (one, two) refl
 -- a turn whose call the caller makes is an entry
 pub goes_turn : (m : ℕ) (s new : StepsView) (net : NetworkView) (before after : Voices) → s.sending ≡ None → (turn : TakesTurn m s.net net) →
     DoesStep (Outcome.Turn m) s.net turn.mid → IsActiveCall turn.mid net before after →
-    new ≡ noted (Outcome.Made m) (record s { net = net }) → GoesBy (Came.Entry m) s new before after
+    new ≡ noted (Outcome.Entry m) (record s { net = net }) → GoesBy (Came.Entry m) s new before after
 goes_turn m s new net before after none turn does spoke is =
     let active : turn.mid.active ≡ Some m = ap (λ (v : NetworkView). v.active) turn.opens.result in
     subst (λ (v : StepsView). GoesBy (Came.Entry m) s v before after) (sym is)
@@ -373,24 +359,24 @@ goes_spoken m s new net before after none works active turn speaks is =
     (is ∙ noted_as s net (Came.Entry m) (sending_by m (slice_get net.motes m))
     (unsent m (slice_get net.motes m) spoke.process spoke.origin spoke.stimulus spoke.call mote there spoke.is_last ∙ sym none) (sym works))
 
-made_noted : (m : ℕ) (s new : StepsView) (net : NetworkView) → s.phase ≡ Phase.Working →
-    new ≡ record s { net = net; last = Came.Entry m; sending = sending_of (Came.Entry m) net } → new ≡ noted (Outcome.Made m) (record s { net = net })
-made_noted m s new net works is = is ∙ noted_phase s net (Came.Entry m) (sending_of (Came.Entry m) net) (sym works)
+entry_noted : (m : ℕ) (s new : StepsView) (net : NetworkView) → s.phase ≡ Phase.Working →
+    new ≡ record s { net = net; last = Came.Entry m; sending = sending_of (Came.Entry m) net } → new ≡ noted (Outcome.Entry m) (record s { net = net })
+entry_noted m s new net works is = is ∙ noted_phase s net (Came.Entry m) (sending_of (Came.Entry m) net) (sym works)
   where
     noted_phase : (s : StepsView) (net : NetworkView) (came : Came) (sending : Option Sending) → Phase.Working ≡ s.phase →
         record s { net = net; last = came; sending = sending } ≡ record s { net = net; last = came; sending = sending; phase = Phase.Working }
     noted_phase s net came sending same = rw same refl
 
 -- another entry
-pub goes_made : (m : ℕ) (s new : StepsView) (net : NetworkView) (before after : Voices) → s.sending ≡ None → s.phase ≡ Phase.Working → s.net.active ≡ Some m →
+pub goes_entry : (m : ℕ) (s new : StepsView) (net : NetworkView) (before after : Voices) → s.sending ≡ None → s.phase ≡ Phase.Working → s.net.active ≡ Some m →
     Worked m Next.Entry s.net net → ((one : SessionView) → slice_get net.motes m ≡ Some one → after ≡ before) →
     new ≡ record s { net = net; last = Came.Entry m; sending = sending_of (Came.Entry m) net } → GoesBy (Came.Entry m) s new before after
-goes_made m s new net before after none works active worked speaks is =
+goes_entry m s new net before after none works active worked speaks is =
     let w = worked.worked in
     let there = there_after m s.net.motes net.motes w.before w.after w.mote w.others in
     subst (λ (later : Voices). GoesBy (Came.Entry m) s new before later) (sym (speaks w.after there))
-    (goes_step (Outcome.Made m) s new net before none (does_work (Outcome.Made m) m s.net net active worked refl) refl (λ e. absurd (cc))
-    (made_noted m s new net works is))
+    (goes_step (Outcome.Entry m) s new net before none (does_work (Outcome.Entry m) m s.net net active worked refl) refl (λ e. absurd (cc))
+    (entry_noted m s new net works is))
 
 -- it comes to rest
 pub passes_rest : (next : Next) (x : Outcome) (m : ℕ) (s new : StepsView) (net : NetworkView) (before after : Voices) → s.sending ≡ None →
@@ -410,13 +396,15 @@ pub passes_hand : (w : Waiting) (s new : StepsView) (net : NetworkView) (voices 
 passes_hand w s new net voices none works taken rested fed is =
     subst (λ (v : StepsView). PassesBy (record s { waiting = Some w }) v voices voices) (sym is)
     (record {
-      moves = Move.Hand w.mote w.input net ∷ [];
-      leads = (record { rested = rested; fed = fed }, refl);
-      calls = (voices, refl, refl);
-      silent = λ quiet. refl;
-      inputs = rw taken refl;
-      untold = refl;
-      answered = refl;
+      way = record {
+        moves = Move.Hand w.mote w.input net ∷ [];
+        leads = (record { rested = rested; fed = fed }, refl);
+        calls = (voices, refl, refl);
+        silent = λ quiet. refl;
+        inputs = rw taken refl;
+        untold = refl;
+        answered = refl;
+      };
       last = refl;
       links = refl;
       sending = none;
@@ -459,34 +447,14 @@ pub stops_step : (cause : NetworkFault) (s : StepsView) (new : NetworkView) (voi
     StopsBy cause s new voices voices
 stops_step cause s new voices refuses same =
     subst (λ (net : NetworkView). StopsBy cause s net voices voices) (sym same)
-    (record {
-      moves = [];
-      leads = refl;
-      calls = refl;
-      silent = λ quiet. refl;
-      left = s.waiting;
-      inputs = refl;
-      untold = refl;
-      answered = refl;
-      refuses = inl refuses;
-    })
+    (record { left = s.waiting; way = moves_nowhere s.net s.waiting voices; refuses = inl refuses })
 
 pub stops_input : (cause : NetworkFault) (w : Waiting) (s : StepsView) (new : NetworkView) (voices : Voices) → IsResting s.net →
     is_halted_in (slice_get s.net.motes w.mote) ≡ false → feed_refusal w.mote w.input s.net ≡ Some cause → new ≡ s.net →
     StopsBy cause (record s { waiting = Some w }) new voices voices
 stops_input cause w s new voices rested up refuses same =
     subst (λ (net : NetworkView). StopsBy cause (record s { waiting = Some w }) net voices voices) (sym same)
-    (record {
-      moves = [];
-      leads = refl;
-      calls = refl;
-      silent = λ quiet. refl;
-      left = Some w;
-      inputs = refl;
-      untold = refl;
-      answered = refl;
-      refuses = inr (rested, up, refuses);
-    })
+    (record { left = Some w; way = moves_nowhere s.net (Some w) voices; refuses = inr (rested, up, refuses) })
 
 -- the input that is left is the one that waited
 
@@ -516,13 +484,13 @@ refuses_as inputs left waiting net cause e (inr input) = inr (refuses_left input
 pub refused_by : {cause : NetworkFault} {s : StepsView} {new : NetworkView} {before after : Voices} → StopsBy cause s new before after →
     IsRefused (fault_of cause) s.net s.waiting new
 refused_by {cause} {s} {new} q = record {
-  moves = q.moves;
-  leads = q.leads;
-  silent = q.silent;
+  moves = q.way.moves;
+  leads = q.way.leads;
+  silent = q.way.silent;
   left = inputs_waiting q.left;
-  inputs = q.inputs;
+  inputs = q.way.inputs;
   cause = cause;
-  refuses = refuses_as (inputs_of q.moves) q.left s.waiting new cause q.inputs q.refuses;
+  refuses = refuses_as (inputs_of q.way.moves) q.left s.waiting new cause q.way.inputs q.refuses;
   reported = refl;
 }
 

@@ -19,11 +19,12 @@ use Rattle.network_session.specs.Promise.{IsLogOf}
 use Rattle.network_session.specs.Steps.{IsNetworkSubmitted, IsNetworkFed, Steps, aired_if}
 use Rattle.network_session.specs.declared.outcome.Outcome.{Outcome}
 use Rattle.network_session.proofs.Working.{there_after}
-use Rattle.network_steps.specs.NetworkRuns.{IsMove, Leads, Move, after_move, input_of, inputs_of, log_of, move_lines, moved, moves_text}
+use Rattle.network_steps.specs.NetworkRuns.{IsMove, Leads, Move, after_move, log_of, move_lines, moved, moves_text}
 use Rattle.network_steps.specs.Code.Calls.{Speak}
 use Rattle.network_steps.specs.Code.Turns.{ends_open, time_of, times_of}
 use Rattle.mote_session.specs.Voices.{Voices}
 use Rattle.network_steps.specs.NetworkText.{happening_lines, log_text}
+use Rattle.network_steps.specs.Works.{input_of, inputs_of}
 
 -- what happens to the medium
 
@@ -58,7 +59,7 @@ aired_sends m (Some bytes) air = refl
 
 made_air : (m : ℕ) (last : Option Entry) (air : Air) → aired_if m (sent_in last) air ≡ all_done (all_deeds (made m last)) air
 made_air m None air = refl
-made_air m (Some entry) air = aired_sends m (sent_by_entry entry) air ∙ sym (one_deed (Happening.Makes m entry) air)
+made_air m (Some entry) air = aired_sends m (sent_by_entry entry) air ∙ sym (one_deed (Happening.Entry m entry) air)
 
 abbrev air_of : NetworkView → Air
 air_of net = net.air
@@ -70,8 +71,8 @@ pub air_step : (outcome : Outcome) (old new : NetworkView) → Steps outcome old
 air_step (Outcome.Started m) old new s = ap air_of s
 air_step (Outcome.Turn m) old new s = ap air_of s.result
 air_step (Outcome.Rested m) old new s = ap air_of s.result
-air_step (Outcome.Stopped m) old new s = ap air_of s.result
-air_step (Outcome.Made m) old new s =
+air_step (Outcome.Halted m) old new s = ap air_of s.result
+air_step (Outcome.Entry m) old new s =
     let w = s.worked in
     let there = there_after m old.motes new.motes w.before w.after w.mote w.others in
     ap air_of s.result ∙ (made_air m w.after.last old.air
@@ -81,7 +82,7 @@ air_step (Outcome.Woken m) old new s =
 air_step (Outcome.Heard m) old new s =
     ap air_of s.result ∙ ap (λ (log : List Happening). all_done (all_deeds log) old.air) (sym (ap (heard_by m) s.arrives))
 air_step (Outcome.Missed from to) old new s = ap air_of s
-air_step Outcome.Passed old new s = ap air_of s
+air_step Outcome.Clock old new s = ap air_of s
 air_step Outcome.Rest old new s = ap air_of s
 air_step Outcome.Exhausted old new s = ap air_of s
 
@@ -140,7 +141,7 @@ SubmitLaw = (configs : ℕ → Config) (room : ℕ) (links : List (List Link)) (
 
 abbrev pub FeedLaw : Type 0
 FeedLaw = (configs : ℕ → Config) (room : ℕ) (links : List (List Link)) (log : List Happening) (m : ℕ) (input : Input) (old new : NetworkView) →
-    IsLogOf configs room links log old → IsNetworkFed m input old new → IsLogOf configs room links (log ++ Happening.Hands m input ∷ []) new
+    IsLogOf configs room links log old → IsNetworkFed m input old new → IsLogOf configs room links (log ++ Happening.Fed m input ∷ []) new
 
 module _ (step : StepLaw) (answer : SubmitLaw) (feed : FeedLaw) (configs : ℕ → Config) (room : ℕ) (links : List (List Link)) where
   -- nothing happens to motes and air

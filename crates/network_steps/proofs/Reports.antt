@@ -49,7 +49,7 @@ loss_by P lost full Came.Clock l = absurd (cc)
 loss_by P lost full (Came.Missed from to) l = absurd (cc)
 loss_by P lost full (Came.Unheard m) l = absurd (cc)
 loss_by P lost full Came.Rest l = absurd (cc)
-loss_by P lost full Came.Halt l = absurd (cc)
+loss_by P lost full Came.Exhausted l = absurd (cc)
 
 pub loss_is_line : (came : Came) (net : NetworkView) → is_loss came ≡ true → loss_line came ≡ came_line came net
 loss_is_line came net l = loss_by (λ (c : Came). loss_line c ≡ came_line c net) (λ from to. refl) (λ from to. refl) came l

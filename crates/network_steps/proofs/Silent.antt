@@ -5,10 +5,9 @@ use Rattle.mote_session.specs.declared.session.Next.{Next}
 use Rattle.network_session.specs.Code.Measures.{IsNearerRest, is_last, left_at_work, most_left_at_work, to_do}
 use Rattle.network_session.specs.Code.Working.{TakesTurn}
 use Rattle.network_session.specs.Network.{NetworkView}
-use Rattle.network_session.specs.Steps.{IsNetworkFed, Steps, Worked}
-use Rattle.network_session.specs.Time.{is_work}
+use Rattle.network_session.specs.Steps.{IsNetworkFed, Steps, Worked, is_work}
 use Rattle.network_session.specs.declared.outcome.Outcome.{Outcome}
-use Rattle.network_session.proofs.Nearer.{fewer_to_do, nearer_made, nearer_turn, nearer_worked}
+use Rattle.network_session.proofs.Nearer.{fewer_to_do, nearer_entry, nearer_turn, nearer_worked}
 use Rattle.network_steps.specs.Code.Going.{left_to_do, rounds_of}
 use Rattle.network_steps.specs.Code.Turns.{is_end, is_turn_step}
 use Rattle.network_steps.specs.NetworkRuns.{DoesStep}
@@ -25,13 +24,13 @@ idle_if (Some m) e = absurd (cc)
 step_bound : (x : Outcome) (old new : NetworkView) → Steps x old new → new.bound ≡ old.bound
 step_bound (Outcome.Started m) old new s = ap (λ (v : NetworkView). v.bound) s
 step_bound (Outcome.Turn m) old new s = ap (λ (v : NetworkView). v.bound) s.result
-step_bound (Outcome.Made m) old new s = ap (λ (v : NetworkView). v.bound) s.result
+step_bound (Outcome.Entry m) old new s = ap (λ (v : NetworkView). v.bound) s.result
 step_bound (Outcome.Rested m) old new s = ap (λ (v : NetworkView). v.bound) s.result
-step_bound (Outcome.Stopped m) old new s = ap (λ (v : NetworkView). v.bound) s.result
+step_bound (Outcome.Halted m) old new s = ap (λ (v : NetworkView). v.bound) s.result
 step_bound (Outcome.Woken m) old new s = ap (λ (v : NetworkView). v.bound) s.result
 step_bound (Outcome.Heard m) old new s = ap (λ (v : NetworkView). v.bound) s.result
 step_bound (Outcome.Missed from to) old new s = ap (λ (v : NetworkView). v.bound) s
-step_bound Outcome.Passed old new s = ap (λ (v : NetworkView). v.bound) s
+step_bound Outcome.Clock old new s = ap (λ (v : NetworkView). v.bound) s
 step_bound Outcome.Rest old new s = ap (λ (v : NetworkView). v.bound) s
 step_bound Outcome.Exhausted old new s = ap (λ (v : NetworkView). v.bound) s
 
@@ -60,14 +59,14 @@ module _ (old new : StepsView) (few : left_at_work new.net ≤ most_left_at_work
 
   pub less : (x : Outcome) → DoesStep x old.net new.net → is_turn_step x ≡ false → is_last x ≡ false → left_to_do new < left_to_do old
   less (Outcome.Turn m) does no_turn on = absurd (cc)
-  less (Outcome.Made m) does no_turn on = less_worked (Outcome.Made m) does refl refl
+  less (Outcome.Entry m) does no_turn on = less_worked (Outcome.Entry m) does refl refl
   less (Outcome.Rested m) does no_turn on = less_worked (Outcome.Rested m) does refl refl
-  less (Outcome.Stopped m) does no_turn on = less_worked (Outcome.Stopped m) does refl refl
+  less (Outcome.Halted m) does no_turn on = less_worked (Outcome.Halted m) does refl refl
   less (Outcome.Started m) does no_turn on = less_due (Outcome.Started m) does refl refl
   less (Outcome.Woken m) does no_turn on = less_due (Outcome.Woken m) does refl refl
   less (Outcome.Heard m) does no_turn on = less_due (Outcome.Heard m) does refl refl
   less (Outcome.Missed from to) does no_turn on = less_due (Outcome.Missed from to) does refl refl
-  less Outcome.Passed does no_turn on = less_due Outcome.Passed does refl refl
+  less Outcome.Clock does no_turn on = less_due Outcome.Clock does refl refl
   less Outcome.Rest does no_turn on = absurd (cc)
   less Outcome.Exhausted does no_turn on = absurd (cc)
 
@@ -82,32 +81,32 @@ pub less_made : (m : ℕ) (old new : StepsView) (net : NetworkView) → Worked m
     left_to_do new < left_to_do old
 less_made m old new net worked is waiting =
     let made : Worked m Next.Entry old.net new.net = rw is worked in
-    less_at_work old new (nearer_made m old.net new.net made) (ap (λ (v : NetworkView). v.bound) made.result) waiting
+    less_at_work old new (nearer_entry m old.net new.net made) (ap (λ (v : NetworkView). v.bound) made.result) waiting
 
 -- the last step is one that ends the work
 pub last_is_end : (x : Outcome) → is_end (came_of x) ≡ false → is_reported x ≡ true → is_last x ≡ false
 last_is_end Outcome.Rest on r = absurd (cc)
 last_is_end Outcome.Exhausted on r = absurd (cc)
-last_is_end Outcome.Passed on r = refl
+last_is_end Outcome.Clock on r = refl
 last_is_end (Outcome.Missed from to) on r = refl
 last_is_end (Outcome.Started m) on r = refl
 last_is_end (Outcome.Turn m) on r = refl
-last_is_end (Outcome.Made m) on r = refl
+last_is_end (Outcome.Entry m) on r = refl
 last_is_end (Outcome.Rested m) on r = refl
-last_is_end (Outcome.Stopped m) on r = refl
+last_is_end (Outcome.Halted m) on r = refl
 last_is_end (Outcome.Woken m) on r = refl
 last_is_end (Outcome.Heard m) on r = refl
 
 pub unreported_goes_on : (x : Outcome) → is_reported x ≡ false → is_last x ≡ false
 unreported_goes_on Outcome.Rest r = absurd (cc)
 unreported_goes_on Outcome.Exhausted r = absurd (cc)
-unreported_goes_on Outcome.Passed r = absurd (cc)
+unreported_goes_on Outcome.Clock r = absurd (cc)
 unreported_goes_on (Outcome.Missed from to) r = absurd (cc)
 unreported_goes_on (Outcome.Turn m) r = absurd (cc)
-unreported_goes_on (Outcome.Made m) r = absurd (cc)
+unreported_goes_on (Outcome.Entry m) r = absurd (cc)
 unreported_goes_on (Outcome.Started m) r = refl
 unreported_goes_on (Outcome.Rested m) r = refl
-unreported_goes_on (Outcome.Stopped m) r = refl
+unreported_goes_on (Outcome.Halted m) r = refl
 unreported_goes_on (Outcome.Woken m) r = refl
 unreported_goes_on (Outcome.Heard m) r = refl
 

@@ -22,10 +22,11 @@ use Rattle.network_session.specs.Happenings.{Happening}
 use Rattle.network_session.specs.Network.{NetworkView}
 use Rattle.network_session.specs.declared.outcome.Outcome.{Outcome}
 use Rattle.network_session.specs.Schedule.{due_step}
-use Rattle.network_steps.specs.NetworkRuns.{DoesStep, HandsInput, MissesInput, Move, PassesTime, TellsTime, inputs_of, moves_text}
+use Rattle.network_steps.specs.NetworkRuns.{DoesStep, HandsInput, MissesInput, Move, PassesTime, TellsTime, moves_text}
 use Rattle.network_steps.specs.NetworkScript.{parted, read_network_input, read_network_line, read_network_lines}
 use Rattle.network_steps.specs.NetworkText.{clock_line, fate_line, last_line, log_text, mote_line, unheard_line}
 use Rattle.network_steps.specs.declared.input.NetworkInput.{NetworkInput}
+use Rattle.network_steps.specs.Works.{inputs_of}
 
 -- ---- lines
 
@@ -39,7 +40,7 @@ unfolding line_of digits
 clocks = (refl, refl)
 
 -- only what isn't carried has a line
-fates : (fate_line 0 1 Fate.Lost ≡ codes "lost 1 2\n") × (fate_line 0 1 Fate.Crowded ≡ codes "full 1 2\n")
+fates : (fate_line 0 1 Fate.Lost ≡ codes "lost 1 2\n") × (fate_line 0 1 Fate.Full ≡ codes "full 1 2\n")
     × (fate_line 0 1 Fate.Carried ≡ []) × (fate_line 0 1 Fate.Unused ≡ [])
 unfolding line_of digits
 fates = (refl, refl, refl, refl)
@@ -59,34 +60,34 @@ abbrev link : ℕ → ℕ → Loss → Link
 link to delay loss = record { to = to; delay = delay; loss = loss; last = Fate.Unused }
 
 abbrev sends : Happening
-sends = Happening.Makes 0 (Entry.Note (Note.Sent (record { items = 10 ∷ 11 ∷ [] })))
+sends = Happening.Entry 0 (Entry.Note (Note.Sent (record { items = 10 ∷ 11 ∷ [] })))
 
 -- the first mote's links: to the second one, and to the third one, which loses each frame
 abbrev links : List (List Link)
 links = (link 1 3 Loss.Never ∷ link 2 1 (Loss.EveryNth 1 0) ∷ []) ∷ []
 
 -- the frame flies to the second mote, where it arrives three ticks later, and nobody hears it
-flown : log_text false (still_air 8 links) (sends ∷ Happening.Passes 9 ∷ Happening.Misses ∷ Happening.Passes 9 ∷ [])
+flown : log_text false (still_air 8 links) (sends ∷ Happening.Clock 9 ∷ Happening.Missed ∷ Happening.Clock 9 ∷ [])
     ≡ codes "1 note sent 0a0b\nlost 1 3\n= 3\nmissed 1 2\n= 9\n"
 unfolding entry_line line_of digits encode_with
 flown = refl
 
 -- where there is no room for it, it is lost
-full : log_text false (still_air 0 links) (sends ∷ Happening.Passes 9 ∷ []) ≡ codes "1 note sent 0a0b\nfull 1 2\nlost 1 3\n= 9\n"
+full : log_text false (still_air 0 links) (sends ∷ Happening.Clock 9 ∷ []) ≡ codes "1 note sent 0a0b\nfull 1 2\nlost 1 3\n= 9\n"
 unfolding entry_line line_of digits encode_with
 full = refl
 
 -- what a mote is handed its own entry says
-handed : log_text false (still_air 8 []) (Happening.Hands 1 (Input.Tick 3) ∷ Happening.Makes 1 (Entry.Input (Input.Tick 3)) ∷ [])
+handed : log_text false (still_air 8 []) (Happening.Fed 1 (Input.Tick 3) ∷ Happening.Entry 1 (Entry.Input (Input.Tick 3)) ∷ [])
     ≡ codes "2 > tick 3\n"
 unfolding entry_line line_of digits
 handed = refl
 
 -- a quiet transcript
 abbrev waits : Happening
-waits = Happening.Makes 0 (Entry.Turn (record { 0 = 4 }) Origin.Answer (Stimulus.Answer Reply.Done) Call.Wait)
+waits = Happening.Entry 0 (Entry.Turn (record { 0 = 4 }) Origin.Answer (Stimulus.Answer Reply.Done) Call.Wait)
 
-quietly : log_text true (still_air 0 links) (waits ∷ sends ∷ Happening.Passes 9 ∷ Happening.Makes 1 Entry.Halt ∷ [])
+quietly : log_text true (still_air 0 links) (waits ∷ sends ∷ Happening.Clock 9 ∷ Happening.Entry 1 Entry.Halt ∷ [])
     ≡ codes "1 note sent 0a0b\n2 halt\n"
 unfolding prints_or_sends entry_line line_of digits encode_with
 quietly = refl
@@ -135,20 +136,20 @@ module _ (net : NetworkView) where
   quiet_miss = refl
 
   -- steps carry out no input
-  inputs : inputs_of (Move.Tick 3 net ∷ Move.Step Outcome.Passed net ∷ Move.Miss 1 (Input.Tick 0) net ∷ [])
+  inputs : inputs_of (Move.Tick 3 net ∷ Move.Step Outcome.Clock net ∷ Move.Miss 1 (Input.Tick 0) net ∷ [])
       ≡ NetworkInput.Tick 3 ∷ NetworkInput.ForMote 2 (Input.Tick 0) ∷ []
   inputs = refl
 
 module _ (old new : NetworkView) where
   -- no step is done that isn't due
-  not_due : due_step old ≡ Outcome.Passed → old.active ≡ None → DoesStep Outcome.Rest old new → ⊥
-  not_due due idle does = let e : Outcome.Rest ≡ Outcome.Passed = does.due idle ∙ due in absurd (cc)
+  not_due : due_step old ≡ Outcome.Clock → old.active ≡ None → DoesStep Outcome.Rest old new → ⊥
+  not_due due idle does = let e : Outcome.Rest ≡ Outcome.Clock = does.due idle ∙ due in absurd (cc)
 
   -- a mote works only where it is at work, and nothing else is done then
-  nobody_at_work : old.active ≡ None → DoesStep (Outcome.Made 0) old new → ⊥
+  nobody_at_work : old.active ≡ None → DoesStep (Outcome.Entry 0) old new → ⊥
   nobody_at_work idle does = let e : true ≡ false = does.work ∙ ap is_some idle in absurd (cc)
 
-  at_work : old.active ≡ Some 0 → DoesStep Outcome.Passed old new → ⊥
+  at_work : old.active ≡ Some 0 → DoesStep Outcome.Clock old new → ⊥
   at_work active does = let e : false ≡ true = does.work ∙ ap is_some active in absurd (cc)
 
   -- no input comes before rest

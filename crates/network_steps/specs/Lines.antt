@@ -18,25 +18,13 @@ line_by m (Some mote) = last_entry_line m mote.last
 abbrev pub is_loss : Came → Bool
 is_loss (Came.Lost from to) = true
 is_loss (Came.Full from to) = true
-is_loss (Came.Turn m) = false
-is_loss (Came.Entry m) = false
-is_loss Came.Clock = false
-is_loss (Came.Missed from to) = false
-is_loss (Came.Unheard m) = false
-is_loss Came.Rest = false
-is_loss Came.Halt = false
+is_loss _ = false
 
 -- of a frame that a link didn't carry
 abbrev pub loss_line : Came → List ℕ
 loss_line (Came.Lost from to) = frame_line (codes "lost") from to
 loss_line (Came.Full from to) = frame_line (codes "full") from to
-loss_line (Came.Turn m) = []
-loss_line (Came.Entry m) = []
-loss_line Came.Clock = []
-loss_line (Came.Missed from to) = []
-loss_line (Came.Unheard m) = []
-loss_line Came.Rest = []
-loss_line Came.Halt = []
+loss_line _ = []
 
 -- the line of what happened last
 abbrev pub came_line : Came → NetworkView → List ℕ
@@ -48,7 +36,7 @@ came_line (Came.Full from to) net = frame_line (codes "full") from to
 came_line (Came.Missed from to) net = frame_line (codes "missed") from to
 came_line (Came.Unheard m) net = unheard_line m
 came_line Came.Rest net = []
-came_line Came.Halt net = last_line End.Halted
+came_line Came.Exhausted net = last_line End.Halted
 
 -- the lines of losses that are still to be reported
 abbrev pub losses_left : Option Sending → NetworkView → List ℕ
@@ -63,15 +51,11 @@ shown_entry quiet m (Some mote) = if_shown (is_last_shown quiet mote.last) (last
 
 -- the line that a move of the network has
 abbrev pub shown_line : Bool → Came → NetworkView → List ℕ
-shown_line quiet (Came.Turn m) net = []
-shown_line quiet Came.Halt net = []
 shown_line quiet (Came.Entry m) net = shown_entry quiet m (slice_get net.motes m)
-shown_line quiet Came.Clock net = if_shown (not quiet) (came_line Came.Clock net)
-shown_line quiet (Came.Lost from to) net = if_shown (not quiet) (came_line (Came.Lost from to) net)
-shown_line quiet (Came.Full from to) net = if_shown (not quiet) (came_line (Came.Full from to) net)
-shown_line quiet (Came.Missed from to) net = if_shown (not quiet) (came_line (Came.Missed from to) net)
-shown_line quiet (Came.Unheard m) net = if_shown (not quiet) (came_line (Came.Unheard m) net)
+shown_line quiet (Came.Turn m) net = []
 shown_line quiet Came.Rest net = []
+shown_line quiet Came.Exhausted net = []
+shown_line quiet came net = if_shown (not quiet) (came_line came net)
 
 abbrev pub shown_losses : Bool → Option Sending → NetworkView → List ℕ
 shown_losses quiet None net = []

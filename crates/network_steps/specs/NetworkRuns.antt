@@ -1,5 +1,5 @@
 -- What a network does from one state to another, what happens on the way, and the text of that.
-use Rattle.std.specs.Prelude.{◌≡◌, ℕ, ◌+◌, ◌<◌, Bool, true, false, not, List, [], ◌∷◌, ◌++◌, slice_get, Option, None, Some, IsSomeAnd, is_some, filter_map}
+use Rattle.std.specs.Prelude.{◌≡◌, ℕ, ◌+◌, ◌<◌, Bool, true, false, not, List, [], ◌∷◌, ◌++◌, slice_get, Option, None, Some, IsSomeAnd, is_some}
 use Rattle.mote_session.specs.SessionView.{SessionView}
 use Rattle.mote_types.specs.declared.call.Call.{Call}
 use Rattle.mote_types.specs.declared.entry.Input.{Input}
@@ -7,11 +7,9 @@ use Rattle.network_session.specs.Happenings.{Happening}
 use Rattle.network_session.specs.Logs.{submitted, happened, told_by}
 use Rattle.network_session.specs.Network.{NetworkView}
 use Rattle.network_session.specs.Schedule.{due_step}
-use Rattle.network_session.specs.Steps.{IsNetworkSubmitted, IsNetworkFed, IsToldTime, Steps}
-use Rattle.network_session.specs.Time.{is_work}
+use Rattle.network_session.specs.Steps.{IsNetworkSubmitted, IsNetworkFed, IsToldTime, Steps, is_work}
 use Rattle.network_session.specs.declared.outcome.Outcome.{Outcome}
 use Rattle.network_steps.specs.NetworkText.{if_shown, log_text, unheard_line}
-use Rattle.network_steps.specs.declared.input.NetworkInput.{NetworkInput}
 
 -- one move of a network, and what it is after it
 pub data Move : Type 0 where
@@ -54,6 +52,11 @@ pub record HandsInput (m : ℕ) (input : Input) (old new : NetworkView) : Type 0
   pub rested : IsResting old
   pub fed : IsNetworkFed m input old new
 
+-- whether there is this mote, and it was halted
+abbrev pub is_halted_in : Option SessionView → Bool
+is_halted_in None = false
+is_halted_in (Some mote) = mote.machine.is_halted
+
 pub record MissesInput (m : ℕ) (old new : NetworkView) : Type 0 where
   pub rested : IsResting old
   pub halted : IsSomeAnd (slice_get old.motes m) (λ (mote : SessionView). mote.machine.is_halted ≡ true)
@@ -80,36 +83,13 @@ abbrev pub Leads : NetworkView → List Move → NetworkView → Type 0
 Leads old [] new = old ≡ new
 Leads old (move ∷ moves) new = IsMove old move × Leads (after_move move) moves new
 
--- an input is missed
-abbrev pub is_missed : Move → Bool
-is_missed (Move.Miss m input new) = true
-is_missed (Move.Step outcome new) = false
-is_missed (Move.Submit call new) = false
-is_missed (Move.Tick ticks new) = false
-is_missed (Move.Tell m new) = false
-is_missed (Move.Hand m input new) = false
-
--- the input from outside that a move executes
-abbrev pub input_of : Move → Option NetworkInput
-input_of (Move.Tick ticks new) = Some (NetworkInput.Tick ticks)
-input_of (Move.Hand m input new) = Some (NetworkInput.ForMote (m + 1) input)
-input_of (Move.Miss m input new) = Some (NetworkInput.ForMote (m + 1) input)
-input_of (Move.Step outcome new) = None
-input_of (Move.Submit call new) = None
-input_of (Move.Tell m new) = None
-
--- the inputs that all of these moves execute
-abbrev pub inputs_of : List Move → List NetworkInput
-inputs_of moves = filter_map input_of moves
-
 -- what happens in a move
 abbrev pub moved : NetworkView → Move → List Happening
 moved old (Move.Step outcome new) = happened outcome old new
 moved old (Move.Submit call new) = submitted old new
-moved old (Move.Tick ticks new) = []
 moved old (Move.Tell m new) = told_by old.air.clock m (slice_get old.motes m)
-moved old (Move.Hand m input new) = Happening.Hands m input ∷ []
-moved old (Move.Miss m input new) = []
+moved old (Move.Hand m input new) = Happening.Fed m input ∷ []
+moved old _ = []
 
 -- what happens in all of these moves
 abbrev pub log_of : NetworkView → List Move → List Happening
@@ -120,10 +100,8 @@ log_of old (move ∷ moves) = moved old move ++ log_of (after_move move) moves
 abbrev pub move_lines : Bool → NetworkView → Move → List ℕ
 move_lines quiet old (Move.Step outcome new) = log_text quiet old.air (happened outcome old new)
 move_lines quiet old (Move.Submit call new) = log_text quiet old.air (submitted old new)
-move_lines quiet old (Move.Tick ticks new) = []
-move_lines quiet old (Move.Tell m new) = []
-move_lines quiet old (Move.Hand m input new) = []
 move_lines quiet old (Move.Miss m input new) = if_shown (not quiet) (unheard_line m)
+move_lines quiet old _ = []
 
 -- the text of all of them
 abbrev pub moves_text : Bool → NetworkView → List Move → List ℕ

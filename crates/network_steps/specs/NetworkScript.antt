@@ -15,18 +15,13 @@ parted (byte ∷ line) =
 -- a tick is for the network
 abbrev pub tick_of : Option (Option Input) → Option NetworkInput
 tick_of (Some (Some (Input.Tick n))) = Some (NetworkInput.Tick n)
-tick_of (Some (Some (Input.Serial bytes))) = None
-tick_of (Some (Some (Input.Frame bytes))) = None
-tick_of (Some None) = None
-tick_of None = None
+tick_of _ = None
 
 -- serial bytes and frames are for the mote of this number
 abbrev pub for_mote : Option (Option Input) → ℕ → Option NetworkInput
 for_mote (Some (Some (Input.Serial bytes))) number = Some (NetworkInput.ForMote number (Input.Serial bytes))
 for_mote (Some (Some (Input.Frame bytes))) number = Some (NetworkInput.ForMote number (Input.Frame bytes))
-for_mote (Some (Some (Input.Tick n))) number = None
-for_mote (Some None) number = None
-for_mote None number = None
+for_mote _ number = None
 
 -- a number, and what follows the space after it, as a line of a mote's script
 abbrev pub read_for_mote : List ℕ × List ℕ → Option NetworkInput

@@ -32,9 +32,8 @@ frame_line word from to = line_of (word ∷ mote_number from ∷ mote_number to 
 -- `lost 1 2`, where the link's rule lost the frame; `full 1 2`, where it found no room in flight
 abbrev pub fate_line : ℕ → ℕ → Fate → List ℕ
 fate_line from to Fate.Lost = frame_line (codes "lost") from to
-fate_line from to Fate.Crowded = frame_line (codes "full") from to
-fate_line from to Fate.Carried = []
-fate_line from to Fate.Unused = []
+fate_line from to Fate.Full = frame_line (codes "full") from to
+fate_line from to _ = []
 
 -- a line for each of the sender's links that didn't carry the frame that was sent last
 abbrev pub fate_lines : ℕ → List Link → List ℕ
@@ -57,9 +56,7 @@ unheard_line m = line_of (codes "missed" ∷ codes "-" ∷ mote_number m ∷ [])
 -- the last line: `halt` if an input has used up its rounds; otherwise as that of a mote
 abbrev pub last_line : End → List ℕ
 last_line End.Halted = line_of (codes "halt" ∷ [])
-last_line End.Finished = []
-last_line (End.BadLine n) = final_line (End.BadLine n)
-last_line End.TooLong = final_line End.TooLong
+last_line end = final_line end
 
 -- this text, where it is shown
 abbrev pub if_shown : Bool → List ℕ → List ℕ
@@ -69,13 +66,12 @@ if_shown false text = []
 -- The lines of one thing that happens in this air. An input of a mote has no line here: the mote's own entry shows it. A quiet
 -- transcript shows the entries that a mote's quiet transcript shows, and no lines of the network's own
 abbrev pub happening_lines : Bool → Air → Happening → List ℕ
-happening_lines quiet air (Happening.Hands m input) = []
-happening_lines quiet air (Happening.Hears m bytes) = []
-happening_lines quiet air Happening.Misses = if_shown (not quiet) (missed_line (arrival air))
-happening_lines quiet air (Happening.Makes m entry) =
+happening_lines quiet air Happening.Missed = if_shown (not quiet) (missed_line (arrival air))
+happening_lines quiet air (Happening.Entry m entry) =
     if_shown (is_shown entry quiet) (mote_line m entry)
-    ++ if_shown (not quiet) (sent_lines m (sent_by_entry entry) (all_done (deeds_of (Happening.Makes m entry)) air))
-happening_lines quiet air (Happening.Passes moment) = if_shown (not quiet) (clock_line (gone_on moment air).clock)
+    ++ if_shown (not quiet) (sent_lines m (sent_by_entry entry) (all_done (deeds_of (Happening.Entry m entry)) air))
+happening_lines quiet air (Happening.Clock moment) = if_shown (not quiet) (clock_line (gone_on moment air).clock)
+happening_lines quiet air _ = []
 
 -- the text of a log: the lines of all that happens, from this air on
 abbrev pub log_text : Bool → Air → List Happening → List ℕ

@@ -37,9 +37,8 @@ awaited_turn net = turn_of (mote_at_work net net.active)
 
 abbrev pub unrest_in : Phase → Option StepsFault
 unrest_in Phase.Resting = None
-unrest_in Phase.Spent = Some (StepsFault.Refused SessionRefusal.Halted)
-unrest_in Phase.Fresh = Some (StepsFault.Refused SessionRefusal.NotAtRest)
-unrest_in Phase.Working = Some (StepsFault.Refused SessionRefusal.NotAtRest)
+unrest_in Phase.Exhausted = Some (StepsFault.Refused SessionRefusal.Halted)
+unrest_in _ = Some (StepsFault.Refused SessionRefusal.NotAtRest)
 
 -- why no input is taken
 abbrev pub unrest : StepsView → Option StepsFault
@@ -73,9 +72,7 @@ feed_refusal m input s = if is_some (unrest s) then unrest s else outside_refusa
 
 abbrev pub is_fresh : Phase → Bool
 is_fresh Phase.Fresh = true
-is_fresh Phase.Working = false
-is_fresh Phase.Resting = false
-is_fresh Phase.Spent = false
+is_fresh _ = false
 
 -- of a link of mote `from`, but for memory
 abbrev pub link_refusal : ℕ → Link → StepsView → Option StepsFault

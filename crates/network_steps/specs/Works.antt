@@ -1,5 +1,5 @@
 -- What a network does until something is reported.
-use Rattle.std.specs.Prelude.{◌≡◌, ◌⊎◌, ℕ, ◌+◌, Bool, true, false, not, ◌&&◌, List, [], ◌∷◌, ◌++◌, slice_get, Option, None, Some, is_some, if◌then◌else◌, nat_lt}
+use Rattle.std.specs.Prelude.{◌≡◌, ◌⊎◌, ℕ, ◌+◌, Bool, true, false, not, ◌&&◌, List, [], ◌∷◌, ◌++◌, slice_get, Option, None, Some, is_some, if◌then◌else◌, nat_lt, filter_map}
 use Rattle.medium_core.specs.Air.{with_link}
 use Rattle.medium_core.specs.declared.link.Link.{Link}
 use Rattle.mote_session.specs.Sent.{sent_in}
@@ -10,7 +10,7 @@ use Rattle.network_session.specs.Refusals.{catch_up_refusal, feed_refusal, step_
 use Rattle.network_session.specs.Schedule.{due_step}
 use Rattle.network_session.specs.declared.fault.NetworkFault.{NetworkFault}
 use Rattle.network_session.specs.declared.outcome.Outcome.{Outcome}
-use Rattle.network_steps.specs.NetworkRuns.{IsResting, Leads, Move, PassesTime, TellsTime, inputs_of, moves_text}
+use Rattle.network_steps.specs.NetworkRuns.{IsResting, Leads, Move, PassesTime, TellsTime, is_halted_in, moves_text}
 use Rattle.network_steps.specs.Code.Turns.{ends_open, is_open, times_of}
 use Rattle.network_steps.specs.declared.input.NetworkInput.{NetworkInput}
 use Rattle.network_steps.specs.Lines.{shown_line, shown_losses}
@@ -24,62 +24,37 @@ use Rattle.network_steps.specs.declared.fault.StepsFault.{StepsFault}
 
 -- a step that has a line, awaits a call, or is the last one
 abbrev pub is_reported : Outcome → Bool
-is_reported (Outcome.Turn m) = true
-is_reported (Outcome.Made m) = true
-is_reported (Outcome.Missed from to) = true
-is_reported Outcome.Passed = true
-is_reported Outcome.Rest = true
-is_reported Outcome.Exhausted = true
 is_reported (Outcome.Started m) = false
 is_reported (Outcome.Rested m) = false
-is_reported (Outcome.Stopped m) = false
+is_reported (Outcome.Halted m) = false
 is_reported (Outcome.Woken m) = false
 is_reported (Outcome.Heard m) = false
+is_reported _ = true
 
 -- of a network that rests
 abbrev pub RestsIf : Phase → NetworkView → Type 0
 RestsIf Phase.Resting net = IsResting net
-RestsIf Phase.Fresh net = Unit {0}
-RestsIf Phase.Working net = Unit {0}
-RestsIf Phase.Spent net = Unit {0}
+RestsIf _ net = Unit {0}
 
 -- what a step comes to, if it is reported
 abbrev pub came_of : Outcome → Came
 came_of (Outcome.Turn m) = Came.Turn m
-came_of (Outcome.Made m) = Came.Entry m
+came_of (Outcome.Entry m) = Came.Entry m
 came_of (Outcome.Missed from to) = Came.Missed from to
-came_of Outcome.Passed = Came.Clock
-came_of Outcome.Exhausted = Came.Halt
-came_of Outcome.Rest = Came.Rest
-came_of (Outcome.Started m) = Came.Rest
-came_of (Outcome.Rested m) = Came.Rest
-came_of (Outcome.Stopped m) = Came.Rest
-came_of (Outcome.Woken m) = Came.Rest
-came_of (Outcome.Heard m) = Came.Rest
+came_of Outcome.Clock = Came.Clock
+came_of Outcome.Exhausted = Came.Exhausted
+came_of _ = Came.Rest
 
 -- what happened last that has a line; rest has none
 abbrev pub last_after : Came → Came → Came
 last_after Came.Rest before = before
-last_after (Came.Turn m) before = Came.Turn m
-last_after (Came.Entry m) before = Came.Entry m
-last_after Came.Clock before = Came.Clock
-last_after (Came.Lost from to) before = Came.Lost from to
-last_after (Came.Full from to) before = Came.Full from to
-last_after (Came.Missed from to) before = Came.Missed from to
-last_after (Came.Unheard m) before = Came.Unheard m
-last_after Came.Halt before = Came.Halt
+last_after came before = came
 
 -- how far the network is after that
 abbrev pub phase_after : Came → Phase
 phase_after Came.Rest = Phase.Resting
-phase_after Came.Halt = Phase.Spent
-phase_after (Came.Turn m) = Phase.Working
-phase_after (Came.Entry m) = Phase.Working
-phase_after Came.Clock = Phase.Working
-phase_after (Came.Lost from to) = Phase.Working
-phase_after (Came.Full from to) = Phase.Working
-phase_after (Came.Missed from to) = Phase.Working
-phase_after (Came.Unheard m) = Phase.Working
+phase_after Came.Exhausted = Phase.Exhausted
+phase_after _ = Phase.Working
 
 -- the frame that mote m has just sent, if it has sent one
 abbrev pub sending_by : ℕ → Option SessionView → Option Sending
@@ -89,14 +64,7 @@ sending_by m (Some mote) = if is_some (sent_in mote.last) then Some (record { fr
 -- the frame that was sent in what came
 abbrev pub sending_of : Came → NetworkView → Option Sending
 sending_of (Came.Entry m) net = sending_by m (slice_get net.motes m)
-sending_of (Came.Turn m) net = None
-sending_of Came.Clock net = None
-sending_of (Came.Lost from to) net = None
-sending_of (Came.Full from to) net = None
-sending_of (Came.Missed from to) net = None
-sending_of (Came.Unheard m) net = None
-sending_of Came.Rest net = None
-sending_of Came.Halt net = None
+sending_of _ net = None
 
 -- the lines of what came, which left the network so
 abbrev pub came_lines : Bool → Came → NetworkView → List ℕ
@@ -111,6 +79,17 @@ noted outcome s =
       phase = phase_after (came_of outcome);
     }
 
+-- the input from outside that a move executes
+abbrev pub input_of : Move → Option NetworkInput
+input_of (Move.Tick ticks new) = Some (NetworkInput.Tick ticks)
+input_of (Move.Hand m input new) = Some (NetworkInput.ForMote (m + 1) input)
+input_of (Move.Miss m input new) = Some (NetworkInput.ForMote (m + 1) input)
+input_of _ = None
+
+-- the inputs that all of these moves execute
+abbrev pub inputs_of : List Move → List NetworkInput
+inputs_of moves = filter_map input_of moves
+
 -- the input that waits
 abbrev pub inputs_waiting : Option Waiting → List NetworkInput
 inputs_waiting None = []
@@ -120,13 +99,8 @@ inputs_waiting (Some waiting) = NetworkInput.ForMote (waiting.mote + 1) waiting.
 abbrev pub IsCame : Came → StepsView → Type 0
 IsCame (Came.Turn m) new = (new.net.active ≡ Some m) × (is_some (awaited_turn new.net) ≡ true)
 IsCame Came.Rest new = IsResting new.net × (new.waiting ≡ None)
-IsCame Came.Halt new = (new.net.active ≡ None) × (due_step new.net ≡ Outcome.Exhausted)
-IsCame (Came.Entry m) new = Unit {0}
-IsCame Came.Clock new = Unit {0}
-IsCame (Came.Lost from to) new = Unit {0}
-IsCame (Came.Full from to) new = Unit {0}
-IsCame (Came.Missed from to) new = Unit {0}
-IsCame (Came.Unheard m) new = Unit {0}
+IsCame Came.Exhausted new = (new.net.active ≡ None) × (due_step new.net ≡ Outcome.Exhausted)
+IsCame _ new = Unit {0}
 
 -- Some moves lead from old to new. What was still to be reported, and then their lines, are the line of what came and what is still to be
 -- reported; the input that waited is handed over, or waits
@@ -164,10 +138,6 @@ pub record IsRefused (fault : StepsFault) (old : NetworkView) (waiting : Option 
 pub record TakesTicks (ticks : ℕ) (old new : StepsView) : Type 0 where
   pub passes : PassesTime ticks old.net new.net
   pub result : new ≡ record old { net = new.net; phase = Phase.Working }
-
-abbrev pub is_halted_in : Option SessionView → Bool
-is_halted_in None = false
-is_halted_in (Some mote) = mote.machine.is_halted
 
 -- a mote that isn't halted, and is behind
 abbrev pub is_behind : NetworkView → SessionView → Bool

@@ -22,7 +22,7 @@ pub enum Came {
     /// Nothing is left to do without an input.
     Rest,
     /// Something is left to do, but the input has taken all its rounds: nothing follows.
-    Halt,
+    Exhausted,
 }
 
 /// How far a network is.
@@ -35,7 +35,7 @@ pub enum Phase {
     /// Nothing is left to do: an input can be submitted.
     Resting,
     /// The last input has taken all its rounds.
-    Spent,
+    Exhausted,
 }
 
 /// A frame that was just sent: what became of it over its sender's links from this position on is still to be reported.

@@ -38,7 +38,7 @@ pub fn push_came(came: Came, network: &Network, text: &mut OutputBuffer)
         Came::Full(from, to) => push_frame_line(b"full", from, to, text),
         Came::Missed(from, to) => push_frame_line(b"missed", from, to, text),
         Came::Unheard(mote) => push_unheard_line(mote, text),
-        Came::Halt => push_last_line(End::Halted, text),
+        Came::Exhausted => push_last_line(End::Halted, text),
         Came::Rest => {}
     }
 }

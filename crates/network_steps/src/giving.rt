@@ -4,14 +4,15 @@ ghost use Rattle.std.specs.Prelude.{◌≡◌, not, true, false, slice_get, None
 ghost use Rattle.mote_session.specs.SessionView.{SessionView};
 ghost use Rattle.network_session.specs.Refusals.{feed_refusal};
 ghost use Rattle.network_session.specs.Steps.{IsNetworkFed, IsToldTime};
-ghost use Rattle.network_steps.specs.Works.{given_refusal, is_behind, is_halted_in};
+ghost use Rattle.network_steps.specs.Works.{given_refusal, is_behind};
+ghost use Rattle.network_steps.specs.NetworkRuns.{is_halted_in};
 
 use mote_types::entry::Input;
 use network_session::fault::NetworkFault;
 use network_session::network::Network;
 
 /// Whether there is this mote, and it was halted.
-pub fn is_halted(network: &Network, mote: usize) -> bool
+pub(crate) fn is_halted(network: &Network, mote: usize) -> bool
     ensures { result ≡ is_halted_in (slice_get network.now.motes mote) }
 {
     match network.mote(mote) {
@@ -25,7 +26,7 @@ pub fn is_halted(network: &Network, mote: usize) -> bool
 /// # Errors
 ///
 /// As `Network::catch_up`.
-pub fn give_time(network: &mut Network, mote: usize) -> Result<bool, NetworkFault>
+pub(crate) fn give_time(network: &mut Network, mote: usize) -> Result<bool, NetworkFault>
     ensures given { IfOk result (λ given. given ≡ true → IsToldTime mote network.old network.new) }
     ensures kept { IfOk result (λ given. given ≡ false → network.new ≡ network.old) }
     ensures behind { IfOk result (λ given. (one : SessionView) → slice_get network.old.motes mote ≡ Some one → given ≡ is_behind network.old one) }
@@ -43,7 +44,11 @@ pub fn give_time(network: &mut Network, mote: usize) -> Result<bool, NetworkFaul
 /// # Errors
 ///
 /// As `Network::feed`.
-pub fn give_input(network: &mut Network, mote: usize, input: Input) -> Result<bool, NetworkFault>
+pub(crate) fn give_input(
+    network: &mut Network,
+    mote: usize,
+    input: Input,
+) -> Result<bool, NetworkFault>
     ensures given { IfOk result (λ given. given ≡ true → IsNetworkFed mote input network.old network.new) }
     ensures missed { IfOk result (λ given. given ≡ false → network.new ≡ network.old) }
     ensures halted { IfOk result (λ given. given ≡ not (is_halted_in (slice_get network.old.motes mote))) }

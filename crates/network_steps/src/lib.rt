@@ -4,9 +4,9 @@
 
 pub mod came;
 pub mod came_lines;
-pub mod fates;
+mod fates;
 pub mod fault;
-pub mod giving;
+mod giving;
 pub mod input;
 pub mod laws;
 pub mod lines;

@@ -301,7 +301,7 @@ impl NetworkSteps {
     {
         match self.phase {
             Phase::Resting => Came::Rest,
-            Phase::Fresh | Phase::Working | Phase::Spent => self.last,
+            Phase::Fresh | Phase::Working | Phase::Exhausted => self.last,
         }
     }
 
@@ -414,20 +414,20 @@ impl NetworkSteps {
     {
         match outcome {
             Outcome::Turn(mote) => self.last = Came::Turn(mote),
-            Outcome::Made(mote) => {
+            Outcome::Entry(mote) => {
                 self.last = Came::Entry(mote);
                 self.note_sent(mote);
             }
             Outcome::Missed(from, to) => self.last = Came::Missed(from, to),
-            Outcome::Passed => self.last = Came::Clock,
+            Outcome::Clock => self.last = Came::Clock,
             Outcome::Exhausted => {
-                self.last = Came::Halt;
-                self.phase = Phase::Spent;
+                self.last = Came::Exhausted;
+                self.phase = Phase::Exhausted;
             }
             Outcome::Rest
             | Outcome::Started(_)
             | Outcome::Rested(_)
-            | Outcome::Stopped(_)
+            | Outcome::Halted(_)
             | Outcome::Woken(_)
             | Outcome::Heard(_) => return false,
         }
@@ -460,7 +460,7 @@ impl NetworkSteps {
         }
         match self.phase {
             Phase::Resting => Ok(()),
-            Phase::Spent => Err(StepsFault::Refused(SessionRefusal::Halted)),
+            Phase::Exhausted => Err(StepsFault::Refused(SessionRefusal::Halted)),
             Phase::Fresh | Phase::Working => Err(StepsFault::Refused(SessionRefusal::NotAtRest)),
         }
     }

@@ -11,7 +11,7 @@ use mote_kit::script::Script;
 use mote_kit::transcript::Transcript;
 use mote_run::End;
 use mote_types::app::App;
-use network_run::fault::RunFault;
+use network_run::fault::NetworkRunFault;
 use network_setup::fault::SetUpRunFault;
 use network_setup::script_run::run_script;
 use std::alloc::{AllocError, Global};
@@ -159,7 +159,7 @@ fn run_network(
     match run_script(alloc, scenario.script(), sink, scenario.quiet, None) {
         Ok(end) => Ok(RunEnd::Ended(end)),
         // The sink fails only where memory is refused.
-        Err(SetUpRunFault::Memory | SetUpRunFault::Run(RunFault::Write)) => Err(AllocError),
+        Err(SetUpRunFault::Memory | SetUpRunFault::Run(NetworkRunFault::Write)) => Err(AllocError),
         Err(_) => Ok(RunEnd::TooLong),
     }
 }

@@ -13,7 +13,7 @@ use Rattle.network_steps.specs.declared.came.Phase.{Phase}
 use Rattle.network_steps.specs.declared.came.Waiting.{Waiting}
 use Rattle.network_steps.specs.declared.input.NetworkInput.{NetworkInput}
 use Rattle.network_run.specs.NetworkRunText.{AwaitsNone, IsTooMuch}
-use Rattle.network_run.specs.declared.fault.RunFault.{RunFault}
+use Rattle.network_run.specs.declared.fault.NetworkRunFault.{NetworkRunFault}
 
 -- only the mote at work may await a call
 abbrev pub AwaitsAtWork : NetworkView → Type 0
@@ -51,16 +51,12 @@ IsWithin net = net.target ≤ 2 ^ 62
 -- ticks let it go no further
 abbrev pub StaysWithin : NetworkView → Move → Type 0
 StaysWithin old (Move.Tick ticks new) = old.target + ticks ≤ 2 ^ 62
-StaysWithin old (Move.Step outcome new) = ⊤
-StaysWithin old (Move.Submit call new) = ⊤
-StaysWithin old (Move.Tell m new) = ⊤
-StaysWithin old (Move.Hand m input new) = ⊤
-StaysWithin old (Move.Miss m input new) = ⊤
+StaysWithin old _ = ⊤
 
 -- what a network refuses that is ready, and where no mote awaits a call
-abbrev pub IsRefusedOf : RunFault → NetworkView → Type 0
-IsRefusedOf RunFault.Write net = ⊤
-IsRefusedOf (RunFault.Refused fault) net = IsReady net → AwaitsNone net → IsWithin net → IsTooMuch fault
+abbrev pub IsRefusedOf : NetworkRunFault → NetworkView → Type 0
+IsRefusedOf NetworkRunFault.Write net = ⊤
+IsRefusedOf (NetworkRunFault.Refused fault) net = IsReady net → AwaitsNone net → IsWithin net → IsTooMuch fault
 
 abbrev pub ComesFromOutside : NetworkInput → Type 0
 ComesFromOutside (NetworkInput.Tick ticks) = ⊤

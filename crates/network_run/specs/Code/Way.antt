@@ -2,14 +2,14 @@
 use Rattle.std.specs.Prelude.{◌≡◌, ⊤, ◌+◌, ◌⊎◌, ℕ, Bool, true, false, List, [], ◌∷◌, ◌++◌, map, Option, None, Some, Result, MatchResult, if◌then◌else◌}
 use Rattle.mote_text.specs.declared.script.End.{End}
 use Rattle.network_session.specs.Network.{NetworkView}
-use Rattle.network_run.specs.NetworkRunText.{CanEnd, IsSpent, Refuses}
+use Rattle.network_run.specs.NetworkRunText.{CanEnd, IsExhausted, Refuses}
 use Rattle.mote_session.specs.Voices.{Voices}
 use Rattle.network_steps.specs.Code.Calls.{Speak}
 use Rattle.network_steps.specs.Code.Turns.{ends_open}
 use Rattle.network_run.specs.Code.Ready.{IsRefusedOf, IsWithin}
 use Rattle.mote_text.specs.Code.Writing.{WritesOn}
 use Rattle.network_run.specs.Outside.{AreInTurn, IsFor, Outside, all_outside, givens}
-use Rattle.network_run.specs.declared.fault.RunFault.{RunFault}
+use Rattle.network_run.specs.declared.fault.NetworkRunFault.{NetworkRunFault}
 use Rattle.network_steps.specs.NetworkRuns.{IsResting, Leads, Move, moves_text}
 use Rattle.network_steps.specs.StepsView.{StepsView}
 use Rattle.network_steps.specs.Works.{inputs_waiting}
@@ -37,9 +37,9 @@ pub record Went (quiet : Bool) (outside : List Outside) (from to : Moment) : Typ
   pub within : IsWithin from.net → IsWithin to.net
   pub writes : WritesOn from.given from.due to.given to.due (moves_text quiet from.net moves)
 
-abbrev pub is_write : RunFault → Bool
-is_write RunFault.Write = true
-is_write (RunFault.Refused fault) = false
+abbrev pub is_write : NetworkRunFault → Bool
+is_write NetworkRunFault.Write = true
+is_write (NetworkRunFault.Refused fault) = false
 
 -- some of this came, and the rest is left; if writing failed, some text is lost
 pub record Stopped (quiet : Bool) (outside : List Outside) (left : List Outside) (lost : List ℕ) (from to : Moment) : Type 0 where
@@ -48,12 +48,12 @@ pub record Stopped (quiet : Bool) (outside : List Outside) (left : List Outside)
   pub went : Went quiet carried from (record to { due = lost })
 
 -- the network refuses its next step or what comes next, unless writing failed
-abbrev pub IsReason : RunFault → NetworkView → List Outside → Type 0
-IsReason RunFault.Write net left = ⊤
-IsReason (RunFault.Refused fault) net left = Refuses net left fault
+abbrev pub IsReason : NetworkRunFault → NetworkView → List Outside → Type 0
+IsReason NetworkRunFault.Write net left = ⊤
+IsReason (NetworkRunFault.Refused fault) net left = Refuses net left fault
 
 -- a fault: text is lost only if writing failed. A refused call is no move
-pub record Faulted (quiet : Bool) (outside : List Outside) (fault : RunFault) (from to : Moment) : Type 0 where
+pub record Faulted (quiet : Bool) (outside : List Outside) (fault : NetworkRunFault) (from to : Moment) : Type 0 where
   pub left : List Outside
   pub why : IsReason fault to.net left
   pub much : IsRefusedOf fault from.net
@@ -72,7 +72,7 @@ pub record IsAtRest (s : StepsView) : Type 0 where
 -- the network rests; or it has used up its rounds
 abbrev pub RestsIf : Bool → StepsView → Type 0
 RestsIf true s = IsAtRest s
-RestsIf false s = IsSpent s.net
+RestsIf false s = IsExhausted s.net
 
 -- the input that waits comes later
 abbrev pub outside_waiting : Option Waiting → List Outside
@@ -84,7 +84,7 @@ pub record Takes (quiet : Bool) (outside : List Outside) (rests : Bool) (from to
   pub all : rests ≡ true → left ≡ []
   pub stopped : Stopped quiet outside left to.due from to
 
-abbrev pub TakesIf : Result Bool RunFault → Bool → List Outside → Moment → Moment → Type 0
+abbrev pub TakesIf : Result Bool NetworkRunFault → Bool → List Outside → Moment → Moment → Type 0
 TakesIf result quiet outside from to =
     MatchResult result (λ rests. Takes quiet outside rests from to) (λ fault. Faulted quiet outside fault from to)
 
@@ -93,16 +93,16 @@ abbrev pub IsWithTime : NetworkInput → List Outside → Type 0
 IsWithTime input outside = (times : List Outside) × (outside ≡ times ++ Outside.Given input ∷ [])
     × ((times ≡ []) ⊎ ((m : ℕ) × (times ≡ Outside.Time m ∷ []) × IsFor m input))
 
-abbrev pub TakesInputIf : Result Bool RunFault → Bool → NetworkInput → Moment → Moment → Type 0
+abbrev pub TakesInputIf : Result Bool NetworkRunFault → Bool → NetworkInput → Moment → Moment → Type 0
 TakesInputIf result quiet input from to = (outside : List Outside) × IsWithTime input outside × TakesIf result quiet outside from to
 
 -- an input was submitted, and waits, or the network refuses it
-abbrev pub SubmitsIf : {T : Type 0} → Result T RunFault → Bool → NetworkInput → Option Waiting → Moment → Moment → Type 0
+abbrev pub SubmitsIf : {T : Type 0} → Result T NetworkRunFault → Bool → NetworkInput → Option Waiting → Moment → Moment → Type 0
 SubmitsIf result quiet input waiting from to = (outside : List Outside) × IsWithTime input outside
     × MatchResult result (λ _. Stopped quiet outside (outside_waiting waiting) to.due from to) (λ fault. Faulted quiet outside fault from to)
 
 -- the sink's failure count before and after
-abbrev pub CountsFaults : {T : Type 0} → Result T RunFault → ℕ → ℕ → Type 0
+abbrev pub CountsFaults : {T : Type 0} → Result T NetworkRunFault → ℕ → ℕ → Type 0
 CountsFaults result old new = MatchResult result (λ _. new ≡ old) (λ fault. new ≡ (if is_write fault then old + 1 else old))
 
 -- the inputs of a script, and how it ends
@@ -115,7 +115,7 @@ pub record ComesWith (inputs : List NetworkInput) (outside : List Outside) : Typ
   pub in_turn : AreInTurn outside
 
 -- some of what comes with these inputs came, and then there was a fault
-pub record RunFaulted (quiet : Bool) (inputs : List NetworkInput) (fault : RunFault) (from to : Moment) : Type 0 where
+pub record RunFaulted (quiet : Bool) (inputs : List NetworkInput) (fault : NetworkRunFault) (from to : Moment) : Type 0 where
   pub outside : List Outside
   pub comes : ComesWith inputs outside
   pub faulted : Faulted quiet outside fault from to
@@ -128,7 +128,7 @@ pub record Ends (quiet : Bool) (script : Reading) (end : End) (from to : Moment)
   pub can : CanEnd to.net left script.1 end
   pub stopped : Stopped quiet outside left to.due from to
 
-abbrev pub RunsIf : Result End RunFault → Bool → Reading → Moment → Moment → Type 0
+abbrev pub RunsIf : Result End NetworkRunFault → Bool → Reading → Moment → Moment → Type 0
 RunsIf result quiet script from to =
     MatchResult result (λ end. Ends quiet script end from to) (λ fault. RunFaulted quiet script.0 fault from to)
 
@@ -145,6 +145,6 @@ abbrev pub LineEnds : Option End → Bool → Reading → Reading → Moment →
 LineEnds None quiet script later from to = HasCome quiet script later from to
 LineEnds (Some end) quiet script later from to = Ends quiet script end from to
 
-abbrev pub LineRuns : Result (Option End) RunFault → Bool → Reading → Reading → Moment → Moment → Type 0
+abbrev pub LineRuns : Result (Option End) NetworkRunFault → Bool → Reading → Reading → Moment → Moment → Type 0
 LineRuns result quiet script later from to =
     MatchResult result (λ ending. LineEnds ending quiet script later from to) (λ fault. RunFaulted quiet script.0 fault from to)

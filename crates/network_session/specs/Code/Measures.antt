@@ -32,12 +32,4 @@ pub record IsNearerRest (old new : NetworkView) : Type 0 where
 abbrev pub is_last : Outcome → Bool
 is_last Outcome.Rest = true
 is_last Outcome.Exhausted = true
-is_last Outcome.Passed = false
-is_last (Outcome.Missed from to) = false
-is_last (Outcome.Started m) = false
-is_last (Outcome.Turn m) = false
-is_last (Outcome.Made m) = false
-is_last (Outcome.Rested m) = false
-is_last (Outcome.Stopped m) = false
-is_last (Outcome.Woken m) = false
-is_last (Outcome.Heard m) = false
+is_last _ = false

@@ -16,9 +16,7 @@ pub record TurnIn (m : ℕ) (old new : List SessionView) : Type 0 where
 -- one mote worked
 abbrev pub WorksIn : ℕ → Next → List SessionView → List SessionView → Type 0
 WorksIn m Next.Turn old new = TurnIn m old new
-WorksIn m Next.Entry old new = WorkedIn m Next.Entry old new
-WorksIn m Next.Rest old new = WorkedIn m Next.Rest old new
-WorksIn m Next.Halted old new = WorkedIn m Next.Halted old new
+WorksIn m next old new = WorkedIn m next old new
 
 -- the mote that is at work took a turn
 pub record TakesTurn (m : ℕ) (old new : NetworkView) : Type 0 where
@@ -29,6 +27,4 @@ pub record TakesTurn (m : ℕ) (old new : NetworkView) : Type 0 where
 
 abbrev pub Works : ℕ → Next → NetworkView → NetworkView → Type 0
 Works m Next.Turn old new = TakesTurn m old new
-Works m Next.Entry old new = Worked m Next.Entry old new
-Works m Next.Rest old new = Worked m Next.Rest old new
-Works m Next.Halted old new = Worked m Next.Halted old new
+Works m next old new = Worked m next old new

@@ -1,14 +1,27 @@
 -- Words of a mote's line, and lines, that are taken.
 use denote.Ref.{Bor}
-use Rattle.std.specs.Prelude.{◌≡◌, ◌⊎◌, ℕ, List, [], ◌∷◌, Option, None, Some, MatchOption}
+use Rattle.std.specs.Prelude.{◌≡◌, ◌⊎◌, ℕ, List, [], ◌∷◌, ◌++◌, Option, None, Some, MatchOption}
 use Rattle.call_lists.specs.Faults.{IsNoList}
 use Rattle.call_lists.specs.declared.applications.Application.{Application}
 use Rattle.kernel_core.specs.declared.config.Config.{Config}
 use Rattle.network_setup.specs.FirstLines.{IsText}
 use Rattle.network_setup.specs.Lines.{words_of}
-use Rattle.network_setup.specs.MoteLines.{AreNamed, AreSaid, OneIsUnknown, count_said, names_said, sizes_said}
+use Rattle.network_setup.specs.MoteLines.{AreSaid, HasCalls, HasName, OneIsUnknown, count_said, names_said, sizes_said}
 use Rattle.network_setup.specs.SetupView.{default_config}
 use Rattle.network_setup.specs.declared.mote_app.MoteApp.{MoteApp}
+use Rattle.network_setup.specs.declared.shape.Kind.{Kind}
+use Rattle.network_setup.specs.declared.shape.Shape.{Shape}
+use Rattle.network_setup.specs.declared.words.Span.{Span}
+
+-- after these applications those of the names, in their order, are all
+abbrev pub AreNamed : List (List ℕ) → List MoteApp → List MoteApp → Type 0
+AreNamed [] before all = all ≡ before
+AreNamed (name ∷ names) before all = (next : MoteApp) × HasName name next × AreNamed names (before ++ next ∷ []) all
+
+-- and after them the one of the list of calls, if there is a list
+abbrev pub IsListLast : Option (List ℕ) → List MoteApp → List MoteApp → Type 0
+IsListLast None named all = all ≡ named
+IsListLast (Some text) named all = (last : MoteApp) × HasCalls text last × (all ≡ named ++ last ∷ [])
 
 -- the word was taken after this option, and the next option is left for the words after it
 pub record TakesWord (option next : Option (List ℕ)) (word : List ℕ) (before after : Config) (old new : List MoteApp) : Type 0 where
@@ -36,7 +49,7 @@ pub record IsMoteSaid (words : List (List ℕ)) (calls : Option (List ℕ)) (con
   pub sizes : Config
   pub said : sizes_said None words default_config ≡ Some sizes
   pub is : config ≡ record sizes { apps = count_said words calls }
-  pub applications : AreSaid words calls own
+  pub applications : AreSaid (names_said None words) calls own
 
 -- if there is a list of calls, it isn't one
 abbrev pub IsBadList : Option (List ℕ) → Type 0
@@ -51,6 +64,12 @@ IsBoxed application (MoteApp.Boxed boxed) = boxed.value ≡ application
 abbrev pub words_in : Option (List ℕ) → List (List ℕ)
 words_in None = []
 words_in (Some text) = words_of text
+
+-- the shape of these motes
+abbrev pub shape_of : Kind → Span → Shape
+shape_of Kind.Line span = Shape.Line span
+shape_of Kind.Ring span = Shape.Ring span
+shape_of Kind.Mesh span = Shape.Mesh span
 
 -- of these lines the first one is taken; it may be no text
 pub record IsNextLine (text : Option (Bor (List ℕ))) (lines rest : List (List ℕ)) : Type 0 where

@@ -16,11 +16,7 @@ pub record IsActiveCall (before after : NetworkView) (old new : Voices) : Type 0
 -- what the applications say before and after a move
 abbrev pub Speaks : NetworkView → Move → Voices → Voices → Type 0
 Speaks net (Move.Submit call after) old new = IsActiveCall net after old new
-Speaks net (Move.Step outcome after) old new = new ≡ old
-Speaks net (Move.Tick ticks after) old new = new ≡ old
-Speaks net (Move.Tell m after) old new = new ≡ old
-Speaks net (Move.Hand m input after) old new = new ≡ old
-Speaks net (Move.Miss m input after) old new = new ≡ old
+Speaks net _ old new = new ≡ old
 
 -- before and after all of them
 abbrev pub Speak : NetworkView → List Move → Voices → Voices → Type 0

@@ -8,29 +8,33 @@ use Rattle.network_session.specs.Refusals.{feed_refusal, step_refusal}
 use Rattle.network_session.specs.declared.fault.NetworkFault.{NetworkFault}
 use Rattle.network_steps.specs.Code.Calls.{Speak}
 use Rattle.network_steps.specs.Code.Turns.{ends_open, is_end, is_open, times_of}
-use Rattle.network_steps.specs.NetworkRuns.{IsResting, Leads, Move, inputs_of, moves_text}
+use Rattle.network_steps.specs.NetworkRuns.{IsResting, Leads, Move, is_halted_in, moves_text}
 use Rattle.network_steps.specs.StepsView.{StepsView}
-use Rattle.network_steps.specs.Works.{GoesNext, inputs_waiting, is_halted_in, sending_of}
+use Rattle.network_steps.specs.Works.{GoesNext, inputs_of, inputs_waiting, sending_of}
 use Rattle.network_steps.specs.declared.came.Came.{Came}
 use Rattle.network_steps.specs.declared.came.Phase.{Phase}
 use Rattle.network_steps.specs.declared.came.Sending.{Sending}
 use Rattle.network_steps.specs.declared.came.Waiting.{Waiting}
 
--- moves that aren't reported lead from old to new
-pub record PassesBy (old new : StepsView) (before after : Voices) : Type 0 where
+-- moves that aren't reported lead from old to new; the input that waited comes in them, or is left
+pub record MovesSilently (old new : NetworkView) (waiting left : Option Waiting) (before after : Voices) : Type 0 where
   pub moves : List Move
-  pub leads : Leads old.net moves new.net
-  pub calls : Speak old.net moves before after
-  pub silent : (quiet : Bool) → moves_text quiet old.net moves ≡ []
-  pub inputs : inputs_of moves ++ inputs_waiting new.waiting ≡ inputs_waiting old.waiting
+  pub leads : Leads old moves new
+  pub calls : Speak old moves before after
+  pub silent : (quiet : Bool) → moves_text quiet old moves ≡ []
+  pub inputs : inputs_of moves ++ inputs_waiting left ≡ inputs_waiting waiting
   pub untold : times_of moves ≡ []
   pub answered : ends_open moves ≡ false
+
+-- and work goes on
+pub record PassesBy (old new : StepsView) (before after : Voices) : Type 0 where
+  pub way : MovesSilently old.net new.net old.waiting new.waiting before after
   pub last : new.last ≡ old.last
   pub links : new.free_links ≡ old.free_links
   pub sending : new.sending ≡ None
   pub works : new.phase ≡ Phase.Working
 
--- and then one that is reported
+-- moves up to one that is reported
 pub record GoesBy (came : Came) (old new : StepsView) (before after : Voices) : Type 0 where
   pub goes : GoesNext came old new
   pub calls : Speak old.net goes.moves before after
@@ -39,9 +43,7 @@ pub record GoesBy (came : Came) (old new : StepsView) (before after : Voices) : 
 -- what is reported, where rest isn't noted
 abbrev pub came_by : Phase → Came → Came
 came_by Phase.Resting last = Came.Rest
-came_by Phase.Fresh last = last
-came_by Phase.Working last = last
-came_by Phase.Spent last = last
+came_by _ last = last
 
 abbrev pub came_in : StepsView → Came
 came_in s = came_by s.phase s.last
@@ -71,14 +73,8 @@ RefusesLeft (Some waiting) net cause =
 
 -- moves that aren't reported lead from old to a network that refuses its next step, or the input that is left
 pub record StopsBy (cause : NetworkFault) (old : StepsView) (new : NetworkView) (before after : Voices) : Type 0 where
-  pub moves : List Move
-  pub leads : Leads old.net moves new
-  pub calls : Speak old.net moves before after
-  pub silent : (quiet : Bool) → moves_text quiet old.net moves ≡ []
   pub left : Option Waiting
-  pub inputs : inputs_of moves ++ inputs_waiting left ≡ inputs_waiting old.waiting
-  pub untold : times_of moves ≡ []
-  pub answered : ends_open moves ≡ false
+  pub way : MovesSilently old.net new old.waiting left before after
   pub refuses : (step_refusal new ≡ Some cause) ⊎ RefusesLeft left new cause
 
 -- the rounds that an input that waits can take, and one to hand it over

@@ -1,6 +1,6 @@
 use Rattle.network_run.specs.Code.Way.{moment}
 use Rattle.mote_text.specs.Script.{script_lines}
-use Rattle.network_run.proofs.Closing.{fault_at_start, spent_at_start, started}
+use Rattle.network_run.proofs.Closing.{fault_at_start, exhausted_at_start, started}
 use Rattle.network_run.proofs.Running.{none_carried}
 use Rattle.network_run.proofs.Ways.{fault_on}
 use Rattle.network_run.proofs.run.carry_out.Goals as goal
@@ -17,4 +17,4 @@ returns-then-branch-clause-runs g c = λ named.
 
 pub returns-else-branch-clause-runs : goal.returns-else-branch-clause-runs
 returns-else-branch-clause-runs g c = λ named.
-    spent_at_start c.args.quiet _ _ _ (none_carried (rw c.requires.none at (c.in_ok-run_to_rest.ensures.takes named))) (rw c.if-branch.false at c.in_ok-run_to_rest.ensures.rests)
+    exhausted_at_start c.args.quiet _ _ _ (none_carried (rw c.requires.none at (c.in_ok-run_to_rest.ensures.takes named))) (rw c.if-branch.false at c.in_ok-run_to_rest.ensures.rests)

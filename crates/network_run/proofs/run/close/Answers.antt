@@ -1,5 +1,5 @@
 use Rattle.std.proofs.Common.{append-nil, refl}
-use Rattle.network_run.specs.declared.fault.RunFault.{RunFault}
+use Rattle.network_run.specs.declared.fault.NetworkRunFault.{NetworkRunFault}
 use Rattle.network_steps.specs.NetworkText.{last_line}
 use Rattle.network_run.proofs.Closing.{at_write, closed, cut_off, emptied}
 use Rattle.mote_text.proofs.Writing.{then_written, written_as}
@@ -14,7 +14,7 @@ returns-in_err-put_end-clause-ran g c = λ named quiet script start net voices l
 pub returns-in_err-flush-clause-ran : goal.returns-in_err-flush-clause-ran
 returns-in_err-flush-clause-ran g c = λ named quiet script start net voices later given ends.
     let cut = c.in_err-flush.ensures.writes named in
-    at_write quiet script start voices given _ c.from_residual-in_err-flush.result RunFault.Write c.from_residual-in_err-flush.ensures.1 refl
+    at_write quiet script start voices given _ c.from_residual-in_err-flush.result NetworkRunFault.Write c.from_residual-in_err-flush.ensures.1 refl
     (cut_off c.texts_go_on.ensures.promise quiet script start net voices later c.args.end given _ _ _ cut.0 ends
     (written_as (append-nil (last_line c.args.end)) (then_written (c.in_ok-put_end.ensures.puts named) cut.1)))
 

@@ -1,6 +1,6 @@
 use Rattle.std.proofs.Common.{◌≡◌, ◌+◌, ◌-◌, ◌∙◌, ℕ, List, ap, arith, inr, map, option_map, rules, subst}
 use Rattle.network_setup.proofs.Malformed.{is_said, no_motes, passed_on}
-use Rattle.network_setup.proofs.MoteWords.{one_more_mote}
+use Rattle.network_setup.proofs.MoteWords.{is_setup, one_more_mote}
 use Rattle.network_setup.specs.MoteLines.{HaveMotes, SaysNoMote}
 use Rattle.network_setup.proofs.setup.Setup.add_motes.Goals as goal
 
@@ -12,10 +12,12 @@ loop-mote-preserved c =
     one_more_mote c.loop-mote._mote (c.loop-mote._mote + 1) words calls _ c.loop-mote.self _ (omega arith) c.loop-mote.invariant
     (record {
       config = c.in_ok-config.config;
+      mote = c.in_ok-add_mote.ensures.added.motes.mote;
       own = c.in_ok-config.applications;
       sizes = is_said words calls c.in_ok-config.config c.in_ok-config.applications.items mote c.in_ok-add_mote.ensures.bootable;
+      booted = c.in_ok-add_mote.ensures.added.motes.booted;
       applications = mote.applications;
-      added = c.in_ok-add_mote.ensures.added;
+      added = is_setup _ _ _ _ c.in_ok-add_mote.ensures.added;
     })
 
 pub returns-in_err-config-clause-malformed : goal.returns-in_err-config-clause-malformed

@@ -6,7 +6,7 @@ use Rattle.network_session.specs.declared.outcome.Outcome.{Outcome}
 use Rattle.network_steps.specs.StepsView.{StepsView}
 use Rattle.network_steps.specs.declared.came.Came.{Came}
 use Rattle.network_steps.specs.contracts.steps.NetworkSteps.{the_view}
-use Rattle.network_steps.proofs.Going.{err_on, goes_made, goes_spoken, passes_rest, stops_step}
+use Rattle.network_steps.proofs.Going.{err_on, goes_entry, goes_spoken, passes_rest, stops_step}
 use Rattle.network_steps.proofs.Silent.{less_by_turn, less_made}
 use Rattle.network_steps.proofs.steps.NetworkSteps.work_by.Goals as goal
 
@@ -43,7 +43,7 @@ returns-in-Entry-clause-steps g c =
     let works = rw (← c.self.view_is) at c.requires.works in
     let reported = rw (← c.self.view_is) at c.requires.reported in
     rw (← c.self.view_is)
-    (goes_made m (the_view c.self.inside) c.note_sent.new.self net _ _ reported works active made
+    (goes_entry m (the_view c.self.inside) c.note_sent.new.self net _ _ reported works active made
     (λ one there. rw c.in-Entry.is at (c.in_ok-work_by.ensures.speaks one there)) c.note_sent.ensures)
 
 pub returns-in-Entry-clause-nearer : goal.returns-in-Entry-clause-nearer
@@ -76,5 +76,5 @@ returns-in-Halted-clause-steps g c =
     let works = rw (← c.self.view_is) at c.requires.works in
     let reported = rw (← c.self.view_is) at c.requires.reported in
     rw (← c.self.view_is)
-    (passes_rest Next.Halted (Outcome.Stopped m) m (the_view c.self.inside) _ net _ _ reported works active rested rested refl refl
+    (passes_rest Next.Halted (Outcome.Halted m) m (the_view c.self.inside) _ net _ _ reported works active rested rested refl refl
     (λ one there. rw c.in-Halted.is at (c.in_ok-work_by.ensures.speaks one there)) refl)
