@@ -43,7 +43,7 @@ fn last_line_begins(text: &[u8]) -> usize
 }
 
 /// The number of line ends in a text.
-fn line_ends(text: &[u8]) -> usize
+pub(crate) fn line_ends(text: &[u8]) -> usize
     ensures { result ≡ length (filter (λ byte. byte == 10) text.now) }
 {
     text.iter().filter(|byte| **byte == b'\n').count()

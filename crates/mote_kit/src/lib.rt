@@ -1,9 +1,14 @@
-//! For authors of applications: scripts and transcripts in memory, whole runs, and where two transcripts differ.
+//! For authors of applications: scripts and transcripts in memory, whole runs, where two transcripts differ, and files with runs.
 #![tactic(auto)]
 
+mod alignment;
+pub mod changes;
 pub mod difference;
+pub mod gaps;
 pub mod mote;
+pub mod run_file;
 pub mod script;
+pub mod text_file;
 pub mod transcript;
 
 pub use mote_run::fault;

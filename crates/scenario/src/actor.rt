@@ -2,7 +2,7 @@
 
 ghost use Rattle.scenario.specs.Actors.{actor_says};
 
-use crate::program::Acts;
+use crate::acts::Acts;
 use call_lists::{Application, Reactions};
 use mote_types::app::App;
 use mote_types::call::Call;

@@ -1,91 +1,63 @@
 //! Why a line of a file is malformed.
 
 use call_lists::{CallFault, RowFault};
+use mote_kit::run_file::{self, WordFault};
 use std::alloc::{AllocError, AllocFailed};
 use std::fmt;
-
-/// What is wrong with a word.
-#[derive(Clone, Copy, Drop)]
-pub(crate) enum WordFault {
-    Unknown,
-    TakesNoWord,
-    NoScriptLine,
-    NoTranscriptLine,
-    NoClock,
-    /// It sets a network up, and is below an input.
-    AfterInput,
-    NoEnd,
-    Twice,
-    /// Two runs have this name.
-    SameName,
-}
-
-impl WordFault {
-    /// What a person reads before the word and after it.
-    fn around(self) -> (&'static str, &'static str) {
-        match self {
-            WordFault::Unknown => ("unknown word ", ""),
-            WordFault::TakesNoWord => ("", " takes no word"),
-            WordFault::NoScriptLine => ("", " is no line of a script"),
-            WordFault::NoTranscriptLine => ("", " is no line of a transcript"),
-            WordFault::NoClock => ("", " is no clock"),
-            WordFault::AfterInput => ("", " sets a network up, and is below an input"),
-            WordFault::NoEnd => ("no end of a run: ", ""),
-            WordFault::Twice => ("", " is given twice"),
-            WordFault::SameName => ("two runs have the name ", ""),
-        }
-    }
-}
 
 /// Why a line of a file is malformed.
 #[derive(Clone, Copy, Drop)]
 pub(crate) enum Fault<'a> {
-    Word(WordFault, &'a str),
-    /// It breaks a rule of files, or something is wrong with its letters.
-    Rule(&'static str),
-    /// It should be another line, which a typing mistake may have spoilt.
-    Form(&'static str),
-    /// A text is no application, no call or no number.
+    /// As a file of runs it is malformed.
+    File(run_file::Fault<'a>),
+    /// A text is no application, or no call.
     Call(CallFault<'a>),
     Row(RowFault<'a>),
-    /// `at` names a clock that has passed: it is this one.
-    ClockIsPast(u64),
-    NoMote(u32),
-    BadSize { name: &'static str, least: u32 },
-    OutOfMemory,
 }
 
-impl Fault<'_> {
+impl<'a> Fault<'a> {
+    /// What is wrong with a word.
+    pub(crate) fn of_word(fault: WordFault, word: &'a str) -> Self {
+        Fault::File(run_file::Fault::Word(fault, word))
+    }
+
+    /// The rule that the line breaks.
+    pub(crate) fn of_rule(rule: &'static str) -> Self {
+        Fault::File(run_file::Fault::Rule(rule))
+    }
+
+    /// The form that the line should have.
+    pub(crate) fn of_form(form: &'static str) -> Self {
+        Fault::File(run_file::Fault::Form(form))
+    }
+
+    /// Whether memory was refused.
+    pub(crate) fn is_out_of_memory(&self) -> bool {
+        matches!(self, Fault::File(run_file::Fault::OutOfMemory))
+    }
+
     /// Whether a word is at fault that a typing mistake may have spoilt.
     pub(crate) fn is_of_words(&self) -> bool {
         match self {
-            Fault::Word(fault, _) => !matches!(
-                fault,
-                WordFault::AfterInput | WordFault::Twice | WordFault::SameName
-            ),
-            _ => matches!(self, Fault::Call(_) | Fault::Row(_) | Fault::Form(_)),
+            Fault::File(fault) => fault.is_of_words(),
+            Fault::Call(_) | Fault::Row(_) => true,
         }
     }
 }
 
 impl fmt::Display for Fault<'_> {
     fn fmt<W: fmt::Write>(&self, f: &mut fmt::Formatter<W>) -> fmt::Result {
-        let text = match self {
-            Fault::Word(fault, word) => {
-                let (before, after) = fault.around();
-                return write!(f, "{before}{word}{after}");
-            }
-            Fault::Call(fault) => return fault.fmt(f),
-            Fault::Row(fault) => return fault.fmt(f),
-            Fault::ClockIsPast(clock) => return write!(f, "the clock is at {clock} already"),
-            Fault::NoMote(number) => return write!(f, "there is no mote {number}"),
-            Fault::BadSize { name, least } => {
-                return write!(f, "{name} takes a multiple of 4 from {least} to 65536");
-            }
-            Fault::Rule(text) | Fault::Form(text) => text,
-            Fault::OutOfMemory => "out of memory",
-        };
-        f.write_str(text)
+        match self {
+            Fault::File(fault) => fault.fmt(f),
+            Fault::Call(fault) => fault.fmt(f),
+            Fault::Row(fault) => fault.fmt(f),
+        }
+    }
+}
+
+impl<'a> From<run_file::Fault<'a>> for Fault<'a> {
+    fn from(fault: run_file::Fault<'a>) -> Self {
+        Fault::File(fault)
     }
 }
 
@@ -103,12 +75,12 @@ impl<'a> From<RowFault<'a>> for Fault<'a> {
 
 impl From<AllocError> for Fault<'_> {
     fn from(_error: AllocError) -> Self {
-        Fault::OutOfMemory
+        Fault::File(run_file::Fault::OutOfMemory)
     }
 }
 
 impl<T: Drop> From<AllocFailed<T>> for Fault<'_> {
     fn from(_error: AllocFailed<T>) -> Self {
-        Fault::OutOfMemory
+        Fault::File(run_file::Fault::OutOfMemory)
     }
 }

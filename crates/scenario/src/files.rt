@@ -1,17 +1,15 @@
 //! The files that arguments name: reads them, and checks whether they are well-formed.
 
 use crate::fault::Fault;
-use crate::flaw::flaw_of;
 use crate::options::Wish;
-use crate::parts::{line_ends_in, parts_of};
-use crate::reader::{Misread, read_scenario};
-use crate::record::write_records;
+use crate::reader::{Misread, read_scenario, reread_scenario};
 use crate::runs::execute_runs;
-use crate::spelled::plain_text;
 use crate::writing::write_in_place;
+use mote_kit::run_file::{Part, flaw_at, json_of, parts_of, plain_text};
+use mote_kit::text_file::{TextFault, read_text};
 use std::alloc::Global;
+use std::io;
 use std::rt::Files;
-use std::{fs, io};
 
 /// A file that was read, and is well-formed.
 #[derive(Drop)]
@@ -22,36 +20,13 @@ pub(crate) struct ScenarioFile<'a> {
     plain: String,
 }
 
-/// Why a file can't be read.
-fn reason(kind: io::ErrorKind) -> &'static str {
-    match kind {
-        io::ErrorKind::NotFound => "no such file",
-        io::ErrorKind::IsADirectory => "a folder",
-        _ => "it can't be read",
-    }
-}
-
-/// The number of the line in which a byte of a file is.
-fn line_at(bytes: &[u8], offset: usize) -> usize {
-    let before = bytes.get(..offset).unwrap_or(&[]);
-    line_ends_in(before).saturating_add(1)
-}
-
 /// The text of the file of this path, or nothing where it can't be read or isn't UTF-8: the reason is reported on standard error.
 fn text_at<R: AllocGlobal + Files + Eprint>(rt: &R, path: &str) -> io::Result<Option<String>> {
-    let bytes = match fs::read(rt, path) {
-        Ok(bytes) => bytes,
-        Err(error) if error.kind() == io::ErrorKind::OutOfMemory => return Err(error),
-        Err(error) => {
-            let _ = eprintln!(rt; "scenario: {path}: {}", reason(error.kind()));
-            return Ok(None);
-        }
-    };
-    match String::from_utf8(bytes) {
+    match read_text(rt, path) {
         Ok(text) => Ok(Some(text)),
-        Err(error) => {
-            let line = line_at(error.as_bytes(), error.utf8_error().valid_up_to());
-            let _ = eprintln!(rt; "scenario: {path}: line {line}: not text");
+        Err(TextFault::OutOfMemory) => Err(io::Error::from(io::ErrorKind::OutOfMemory)),
+        Err(fault) => {
+            let _ = eprintln!(rt; "scenario: {path}: {fault}");
             Ok(None)
         }
     }
@@ -68,9 +43,8 @@ fn check<'a>(alloc: Global, path: &'a str, plain: &'a str) -> Result<(), Misread
 
 /// A fault of a line, or of its letters, where something is wrong with those.
 fn sooner_seen<'a>(plain: &str, misread: Misread<'a>) -> Fault<'a> {
-    let line = plain.split('\n').nth(misread.line.saturating_sub(1));
-    match flaw_of(line.unwrap_or("")) {
-        Some(flaw) if misread.fault.is_of_words() => Fault::Rule(flaw),
+    match flaw_at(plain, misread.line) {
+        Some(flaw) if misread.fault.is_of_words() => Fault::of_rule(flaw),
         _ => misread.fault,
     }
 }
@@ -79,7 +53,7 @@ fn sooner_seen<'a>(plain: &str, misread: Misread<'a>) -> Fault<'a> {
 fn is_well_formed<R: AllocGlobal + Eprint>(rt: &R, path: &str, plain: &str) -> io::Result<bool> {
     match check(rt.alloc(), path, plain) {
         Ok(()) => Ok(true),
-        Err(misread) if matches!(misread.fault, Fault::OutOfMemory) => {
+        Err(misread) if misread.fault.is_out_of_memory() => {
             Err(io::Error::from(io::ErrorKind::OutOfMemory))
         }
         Err(misread) => {
@@ -88,6 +62,16 @@ fn is_well_formed<R: AllocGlobal + Eprint>(rt: &R, path: &str, plain: &str) -> i
             Ok(false)
         }
     }
+}
+
+/// Writes what the file says of its runs, as JSON, a line for each. Returns true.
+fn write_records<R: AllocGlobal + Print>(rt: &R, parts: &[Part<'_>]) -> io::Result<bool> {
+    for part in parts {
+        let scenario = reread_scenario(rt.alloc(), *part)?;
+        let json = json_of(rt.alloc(), *part, &scenario.run)?;
+        println!(rt; "{}", json.as_str())?;
+    }
+    Ok(true)
 }
 
 impl<'a> ScenarioFile<'a> {

@@ -3,28 +3,15 @@
 #![tactic(auto)]
 
 mod actor;
-mod alignment;
-mod change;
-mod comparison;
+mod acts;
 mod fault;
 mod files;
-mod flaw;
-mod forms;
-mod gaps;
-mod inputs;
-mod line;
 mod network;
 mod options;
-mod parts;
-mod program;
 mod reader;
-mod record;
-mod rule;
 mod run;
 mod runs;
 mod scenario;
-mod sizes;
-mod spelled;
 mod writing;
 
 use command_line::{Failure, exit_code, finish, texts_of, words_of};

@@ -1,15 +1,16 @@
 //! The lines of a run of a network.
 
-use crate::fault::{Fault, WordFault};
-use crate::forms::{FORM_WITH_LOSSES, form_of, says_losses};
-use crate::line::{Line, begins_with_digit};
-use crate::rule;
+use crate::fault::Fault;
 use call_lists::{Application, CallFault};
+use mote_kit::run_file::{self, Line, WordFault, begins_with_digit, setup_form};
 use mote_text::script::LINE_LIMIT;
 use network_setup::fault::LineFault;
 use network_setup::setup::Setup;
 use network_steps::input::{NetworkInput, read_network_input};
-use std::alloc::Global;
+use std::alloc::{AllocError, Global};
+
+/// A line breaks this rule that has more bytes than `network` reads.
+const LONGEST_LINE: &str = "a line of a network's script has at most 1024 bytes";
 
 /// The network that the lines of a script have set up so far.
 #[derive(Drop)]
@@ -17,25 +18,6 @@ pub(crate) struct NetworkLines {
     setup: Setup,
     /// Whether there is an input: after it no line sets anything up.
     has_input: bool,
-}
-
-/// Whether a line begins as those of a network's transcript do. A mote's input has `serial` or `frame` after the number, its entries never.
-pub(crate) fn is_of_transcript(line: Line<'_>) -> bool {
-    let (second, _) = line.rest.split_once(' ').unwrap_or((line.rest, ""));
-    matches!(
-        line.word,
-        "=" | "lost" | "full" | "missed" | "halt" | "bad" | "too"
-    ) || begins_with_digit(line.text) && !matches!(second, "serial" | "frame")
-}
-
-/// What a malformed line should be: another text where it says which frames are lost.
-fn form_with_losses(form: &'static str, line: Line<'_>) -> &'static str {
-    let has_links = matches!(line.word, "link" | "line" | "mesh" | "ring" | "grid");
-    if has_links && says_losses(line.text) {
-        FORM_WITH_LOSSES
-    } else {
-        form
-    }
 }
 
 /// Whether a text begins with a letter of ASCII.
@@ -59,11 +41,11 @@ fn fault_of_mote(text: &str) -> Option<CallFault<'_>> {
 /// What is wrong with a malformed line that sets something up, and should have this form.
 fn fault_of_form<'a>(line: Line<'a>, form: &'static str) -> Fault<'a> {
     if line.word != "mote" {
-        return Fault::Form(form_with_losses(form, line));
+        return Fault::of_form(form);
     }
     match fault_of_mote(line.rest) {
         Some(fault) => Fault::Call(fault),
-        None => Fault::Form(form),
+        None => Fault::of_form(form),
     }
 }
 
@@ -94,9 +76,9 @@ impl NetworkLines {
     }
 
     fn take<'a>(&mut self, alloc: Global, line: Line<'a>) -> Result<(), Fault<'a>> {
-        match form_of(line.word) {
-            Some(_) if self.has_input => Err(Fault::Word(WordFault::AfterInput, line.word)),
-            Some(_) if line.text.len() > LINE_LIMIT => Err(Fault::Rule(rule::LONGEST_LINE)),
+        match setup_form(line) {
+            Some(_) if self.has_input => Err(Fault::of_word(WordFault::AfterInput, line.word)),
+            Some(_) if line.text.len() > LINE_LIMIT => Err(Fault::of_rule(LONGEST_LINE)),
             Some(form) => self.set_up(alloc, line, form),
             None => self.take_input(line),
         }
@@ -112,7 +94,7 @@ impl NetworkLines {
         for _ in 0..line.count {
             match self.setup.take_line(alloc, line.text) {
                 Ok(()) => {}
-                Err(LineFault::Memory) => return Err(Fault::OutOfMemory),
+                Err(LineFault::Memory) => return Err(Fault::from(AllocError)),
                 Err(LineFault::Malformed) => return Err(fault_of_form(line, form)),
             }
         }
@@ -122,16 +104,16 @@ impl NetworkLines {
     fn take_input<'a>(&mut self, line: Line<'a>) -> Result<(), Fault<'a>> {
         match read_network_input(line.text.as_bytes()) {
             Some(NetworkInput::ForMote(number, _)) if !self.has_mote(number) => {
-                Err(Fault::NoMote(number))
+                Err(Fault::File(run_file::Fault::NoMote(number)))
             }
             Some(_) => {
                 self.has_input = true;
                 Ok(())
             }
             None if line.word == "tick" || begins_with_digit(line.word) => {
-                Err(Fault::Word(WordFault::NoScriptLine, line.text))
+                Err(Fault::of_word(WordFault::NoScriptLine, line.text))
             }
-            None => Err(Fault::Word(WordFault::Unknown, line.word)),
+            None => Err(Fault::of_word(WordFault::Unknown, line.word)),
         }
     }
 

@@ -1,10 +1,10 @@
 //! Reads the run of a part of a file.
 
 use crate::fault::Fault;
-use crate::line::Line;
-use crate::parts::Part;
+use crate::network::NetworkLines;
 use crate::scenario::Scenario;
-use std::alloc::{AllocError, AllocFailed, Global};
+use mote_kit::run_file::{self, Line, Part};
+use std::alloc::{AllocError, Global};
 
 /// A malformed line of a file.
 #[derive(Clone, Copy, Drop)]
@@ -14,11 +14,11 @@ pub(crate) struct Misread<'a> {
     pub(crate) fault: Fault<'a>,
 }
 
-impl<T: Drop> From<AllocFailed<T>> for Misread<'_> {
-    fn from(_error: AllocFailed<T>) -> Self {
+impl<'a> From<run_file::Misread<'a>> for Misread<'a> {
+    fn from(misread: run_file::Misread<'a>) -> Self {
         Misread {
-            line: 0,
-            fault: Fault::OutOfMemory,
+            line: misread.line,
+            fault: Fault::File(misread.fault),
         }
     }
 }
@@ -28,16 +28,17 @@ fn read_lines<'a>(
     alloc: Global,
     part: Part<'a>,
     scenario: &mut Scenario<'a>,
+    network: &mut NetworkLines,
 ) -> Result<(), Misread<'a>> {
     let mut line = part.first_line;
     for text in part.lines.split('\n') {
-        if let Err(fault) = scenario.read_line(alloc, Line::of(line, 1, text)) {
+        if let Err(fault) = scenario.read_line(alloc, network, Line::of(line, 1, text)) {
             return Err(Misread { line, fault });
         }
         line = line.saturating_add(1);
     }
-    match scenario.misread_size() {
-        Some(misread) => Err(misread),
+    match scenario.run.misread_size() {
+        Some(misread) => Err(Misread::from(misread)),
         None => Ok(()),
     }
 }
@@ -53,7 +54,8 @@ pub(crate) fn read_scenario<'a>(
     part: Part<'a>,
 ) -> Result<Scenario<'a>, Misread<'a>> {
     let mut scenario = Scenario::new(alloc, part.first_line);
-    match read_lines(alloc, part, &mut scenario) {
+    let mut network = NetworkLines::new(alloc);
+    match read_lines(alloc, part, &mut scenario, &mut network) {
         Ok(()) => Ok(scenario),
         Err(misread) => Err(misread),
     }

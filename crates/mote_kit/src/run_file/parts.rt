@@ -1,8 +1,8 @@
 //! The runs of a file: where the text of each begins.
 
-use crate::fault::{Fault, WordFault};
-use crate::reader::Misread;
-use crate::rule;
+use crate::difference::line_ends;
+use crate::run_file::fault::{Fault, Misread, WordFault};
+use crate::run_file::rule;
 use std::alloc::Global;
 use std::fmt;
 
@@ -11,14 +11,14 @@ const HEAD: &str = "== ";
 
 /// The part of a file with one run.
 #[derive(Clone, Copy, Drop)]
-pub(crate) struct Part<'a> {
+pub struct Part<'a> {
     /// The file's path.
-    pub(crate) path: &'a str,
+    pub path: &'a str,
     /// The run's name, where the file has one.
-    pub(crate) name: Option<&'a str>,
+    pub name: Option<&'a str>,
     /// The number of the first line below the name.
-    pub(crate) first_line: usize,
-    pub(crate) lines: &'a str,
+    pub first_line: usize,
+    pub lines: &'a str,
 }
 
 impl fmt::Display for Part<'_> {
@@ -36,7 +36,7 @@ impl fmt::Display for Part<'_> {
 /// # Errors
 ///
 /// A line above the first run that is neither empty nor a comment, and a run with no name, or with one that another has.
-pub(crate) fn parts_of<'a>(
+pub fn parts_of<'a>(
     alloc: Global,
     path: &'a str,
     text: &'a str,
@@ -68,17 +68,14 @@ fn text_with_heads(text: &str) -> Option<(&str, &str)> {
 
 /// The number of the line in which the rest of a text begins.
 fn line_of(text: &str, rest: &str) -> usize {
-    let lines = line_ends_in(text.as_bytes()).saturating_sub(line_ends_in(rest.as_bytes()));
+    let lines = line_ends(text.as_bytes()).saturating_sub(line_ends(rest.as_bytes()));
     lines.saturating_add(1)
 }
 
-/// The number of line ends in a text.
-pub(crate) fn line_ends_in(text: &[u8]) -> usize {
-    let mut count = 0usize;
-    for byte in text {
-        count = count.saturating_add(usize::from(*byte == b'\n'));
-    }
-    count
+/// The number of the line of a file in which a byte is.
+pub fn line_at(bytes: &[u8], offset: usize) -> usize {
+    let before = bytes.get(..offset).unwrap_or(&[]);
+    line_ends(before).saturating_add(1)
 }
 
 /// Above the first run a file has only comments and empty lines.
@@ -115,7 +112,7 @@ fn push_parts<'a>(
             first_line,
             lines,
         })?;
-        line = first_line.saturating_add(line_ends_in(part.as_bytes()));
+        line = first_line.saturating_add(line_ends(part.as_bytes()));
     }
     Ok(())
 }

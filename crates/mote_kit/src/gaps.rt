@@ -1,7 +1,7 @@
 //! Texts of which parts are left out.
 
 /// The line that matches any lines.
-pub(crate) const GAP: &str = "...";
+pub const GAP: &str = "...";
 
 /// What is after these lines where they are first in a text, if they are there.
 fn rest_after<'x>(lines: &'x [&'x str], text: &'x [&'x str]) -> Option<&'x [&'x str]> {
@@ -14,7 +14,7 @@ fn rest_after<'x>(lines: &'x [&'x str], text: &'x [&'x str]) -> Option<&'x [&'x 
 }
 
 /// Whether a text is as expected, where a line `...` of the expected one matches any lines, none included.
-pub(crate) fn fits<'x>(wanted: &'x [&'x str], found: &'x [&'x str]) -> bool {
+pub fn fits<'x>(wanted: &'x [&'x str], found: &'x [&'x str]) -> bool {
     let mut parts = wanted.split(|line| *line == GAP);
     let front = parts.next().unwrap_or(&[]);
     let Some(mut rest) = found.strip_prefix(front) else {

@@ -1,12 +1,9 @@
 //! The sizes that a file states, with the lines that state them.
 
-use crate::fault::{Fault, WordFault};
-use crate::line::Line;
-use crate::reader::Misread;
-use crate::rule;
-use call_lists::number_of;
-use mote_kit::mote::DEFAULT_SIZES;
-use node_memory::Sizes;
+use crate::mote::{DEFAULT_SIZES, Sizes};
+use crate::run_file::fault::{Fault, Misread, WordFault, number_of};
+use crate::run_file::line::Line;
+use crate::run_file::rule;
 
 /// The most that a size may be.
 const MOST: u32 = 65_536;

@@ -1,44 +1,31 @@
 //! Compares the result of a run with what its file says.
 
-ghost use Rattle.std.specs.Prelude.{◌<◌};
-
-use crate::change::changes;
+use crate::changes::changes;
+use crate::difference::compare;
 use crate::gaps::fits;
-use crate::parts::Part;
-use crate::run::{Outcome, Widths, outcome_of};
-use crate::scenario::Scenario;
-use mote_kit::difference::compare;
+use crate::run_file::outcome::Outcome;
+use crate::run_file::parts::Part;
+use crate::run_file::written_run::WrittenRun;
 use std::alloc::{AllocError, Global};
 use std::io;
 
-/// Whether a run comes out as its file says. Where it does not, reports what differs: the first difference, or all.
-pub(crate) fn comes_out<R: AllocGlobal + Print>(
+/// Whether a run came out as its file says. Where it did not, prints what differs: the first difference, or all.
+pub fn comes_out<R: AllocGlobal + Print>(
     rt: &R,
     part: Part<'_>,
-    scenario: &mut Scenario<'_>,
-    widths: Widths,
-    reports_all: bool,
-) -> io::Result<bool> {
-    let outcome = outcome_of(rt.alloc(), scenario, widths)?;
-    compare_outcome(rt, part, scenario, &outcome, reports_all)
-}
-
-fn compare_outcome<R: AllocGlobal + Print>(
-    rt: &R,
-    part: Part<'_>,
-    scenario: &Scenario<'_>,
+    run: &WrittenRun<'_>,
     outcome: &Outcome,
     reports_all: bool,
 ) -> io::Result<bool> {
-    let is_same = outcome.ended_as_said(scenario);
+    let is_same = outcome.ended_as_said(run);
     if !is_same {
         println!(rt;
             "{part}: ended with: {}, and not: {}",
             outcome.end,
-            scenario.end().unwrap_or("")
+            run.end().unwrap_or("")
         )?;
     }
-    let fits = compare_texts(rt, part, scenario, outcome, reports_all)?;
+    let fits = compare_texts(rt, part, run, outcome, reports_all)?;
     Ok(is_same && fits)
 }
 
@@ -46,22 +33,18 @@ fn compare_outcome<R: AllocGlobal + Print>(
 fn compare_texts<R: AllocGlobal + Print>(
     rt: &R,
     part: Part<'_>,
-    scenario: &Scenario<'_>,
+    run: &WrittenRun<'_>,
     outcome: &Outcome,
     reports_all: bool,
 ) -> io::Result<bool> {
-    let difference = compare(
-        scenario.transcript.as_bytes(),
-        outcome.transcript.as_slice(),
-    );
-    match difference {
+    match compare(run.transcript().as_bytes(), outcome.transcript.as_slice()) {
         Ok(()) => Ok(true),
-        Err(difference) if !scenario.has_gaps && !reports_all => {
+        Err(difference) if !run.has_gaps() && !reports_all => {
             println!(rt; "{part}: {difference}")?;
             Ok(false)
         }
         Err(_) => {
-            let wanted = lines_of(rt.alloc(), scenario.transcript.as_str())?;
+            let wanted = lines_of(rt.alloc(), run.transcript())?;
             let found = lines_of(rt.alloc(), outcome.text())?;
             compare_lines(rt, part, wanted.as_slice(), found.as_slice(), reports_all)
         }
@@ -93,10 +76,10 @@ fn compare_lines<'x, R: AllocGlobal + Print>(
 /// Whether the transcript is the expected one.
 pub(crate) fn is_shown(
     alloc: Global,
-    scenario: &Scenario<'_>,
+    run: &WrittenRun<'_>,
     found: &str,
 ) -> Result<bool, AllocError> {
-    let wanted = lines_of(alloc, scenario.transcript.as_str())?;
+    let wanted = lines_of(alloc, run.transcript())?;
     let found = lines_of(alloc, found)?;
     Ok(fits(wanted.as_slice(), found.as_slice()))
 }

@@ -2,21 +2,21 @@
 
 /// A line of a run.
 #[derive(Clone, Copy, Drop)]
-pub(crate) struct Line<'a> {
+pub struct Line<'a> {
     /// Its number in the file.
-    pub(crate) number: usize,
+    pub number: usize,
     /// How often it is there.
-    pub(crate) count: u32,
-    pub(crate) text: &'a str,
+    pub count: u32,
+    pub text: &'a str,
     /// Its first word.
-    pub(crate) word: &'a str,
+    pub word: &'a str,
     /// What is after that word and a space.
-    pub(crate) rest: &'a str,
+    pub rest: &'a str,
 }
 
 impl<'a> Line<'a> {
     /// The line with this number and text, so many times.
-    pub(crate) fn of(number: usize, count: u32, text: &'a str) -> Self {
+    pub fn of(number: usize, count: u32, text: &'a str) -> Self {
         let (word, rest) = text.split_once(' ').unwrap_or((text, ""));
         Line {
             number,
@@ -29,6 +29,6 @@ impl<'a> Line<'a> {
 }
 
 /// Whether a text begins with a digit.
-pub(crate) fn begins_with_digit(text: &str) -> bool {
+pub fn begins_with_digit(text: &str) -> bool {
     matches!(text.as_bytes().first(), Some(b'0'..=b'9'))
 }

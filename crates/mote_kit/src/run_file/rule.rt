@@ -1,14 +1,10 @@
 //! The rules of files that a line may break, whatever its words are: what a person reads.
 
-pub(crate) const ROWS_ABOVE: &str = "a row comes after a line rows, or after another row";
-
-pub(crate) const ONE_ROW: &str = "the row's stimulus has a row above";
+pub const ROWS_ABOVE: &str = "a row comes after a line rows, or after another row";
 
 pub(crate) const LONGEST_TEXT: &str = "a text has at most 255 bytes";
 /// `at` advances the clock by so many ticks.
 pub(crate) const MOST_TICKS: &str = "the clock goes on by at most 4294967295 ticks at once";
-
-pub(crate) const LONGEST_LINE: &str = "a line of a network's script has at most 1024 bytes";
 
 pub(crate) const NETWORK_ABOVE: &str = "a run with a line mote begins with a line network";
 

@@ -1,9 +1,9 @@
 //! What a file says of a run, as JSON, so that other programs needn't parse the format.
 
-use crate::parts::Part;
-use crate::reader::reread_scenario;
-use crate::scenario::Scenario;
-use std::{fmt, io};
+use crate::run_file::parts::Part;
+use crate::run_file::written_run::WrittenRun;
+use std::alloc::{AllocError, Global};
+use std::fmt;
 
 /// A text in JSON; null where there is none.
 #[derive(Clone, Copy, Drop)]
@@ -44,30 +44,28 @@ fn write_char<W: fmt::Write>(f: &mut fmt::Formatter<W>, c: char) -> fmt::Result 
 #[derive(Drop)]
 struct Record<'s, 'a> {
     part: Part<'a>,
-    scenario: &'s Scenario<'a>,
+    run: &'s WrittenRun<'a>,
 }
 
 impl fmt::Display for Record<'_, '_> {
     /// An object of JSON.
     fn fmt<W: fmt::Write>(&self, f: &mut fmt::Formatter<W>) -> fmt::Result {
-        let scenario = self.scenario;
+        let run = self.run;
         f.write_str("{\"applications\":[")?;
         self.write_applications(f)?;
-        let ends = Text {
-            text: scenario.end(),
-        };
+        let ends = Text { text: run.end() };
         let file = Text {
             text: Some(self.part.path),
         };
         let name = Text {
             text: self.part.name,
         };
-        let network = scenario.is_network();
+        let network = run.is_network();
         let script = Text {
-            text: Some(scenario.inputs.script.as_str()),
+            text: Some(run.script()),
         };
         let transcript = Text {
-            text: scenario.transcript_shown(),
+            text: run.transcript_shown(),
         };
         write!(
             f,
@@ -86,9 +84,9 @@ impl Record<'_, '_> {
     /// Writes the applications of the run, each as a list of its lines.
     fn write_applications<W: fmt::Write>(&self, f: &mut fmt::Formatter<W>) -> fmt::Result {
         let mut before = "";
-        for program in &self.scenario.programs {
+        for application in &self.run.applications {
             f.write_str(before)?;
-            write_list(f, program.text.as_slice())?;
+            write_list(f, application.lines.as_slice())?;
             before = ",";
         }
         Ok(())
@@ -96,8 +94,8 @@ impl Record<'_, '_> {
 
     /// Writes the arguments of `mote` and `mote-picture` for the sizes of the run, and `--quiet`; for a network those of `network`.
     fn write_words<W: fmt::Write>(&self, f: &mut fmt::Formatter<W>) -> fmt::Result {
-        let sizes = self.scenario.sizes();
-        if !self.scenario.is_network() {
+        let sizes = self.run.sizes();
+        if !self.run.is_network() {
             write!(
                 f,
                 "\"--mmem\",\"{}\",\"--heap\",\"{}\",",
@@ -108,7 +106,7 @@ impl Record<'_, '_> {
             }
             write!(f, "\"--header\",\"{}\"", sizes.header)?;
         }
-        match (self.scenario.quiet, self.scenario.is_network()) {
+        match (self.run.is_quiet(), self.run.is_network()) {
             (true, true) => f.write_str("\"--quiet\""),
             (true, false) => f.write_str(",\"--quiet\""),
             (false, _) => Ok(()),
@@ -126,19 +124,7 @@ fn write_list<W: fmt::Write>(f: &mut fmt::Formatter<W>, texts: &[&str]) -> fmt::
     f.write_str("]")
 }
 
-/// Writes what the file says of its runs, as JSON, a line for each. Returns true.
-pub(crate) fn write_records<R: AllocGlobal + Print>(
-    rt: &R,
-    parts: &[Part<'_>],
-) -> io::Result<bool> {
-    for part in parts {
-        let scenario = reread_scenario(rt.alloc(), *part)?;
-        let record = Record {
-            part: *part,
-            scenario: &scenario,
-        };
-        let json = record.to_string(rt.alloc())?;
-        println!(rt; "{}", json.as_str())?;
-    }
-    Ok(true)
+/// What a file says of the run of one of its parts, as a line of JSON without its end.
+pub fn json_of(alloc: Global, part: Part<'_>, run: &WrittenRun<'_>) -> Result<String, AllocError> {
+    Record { part, run }.to_string(alloc)
 }

@@ -1,6 +1,6 @@
 //! What a person may write instead of numbers and bytes: names of events, and texts in quotes.
 
-use crate::line::begins_with_digit;
+use crate::run_file::line::begins_with_digit;
 use mote_types::event;
 use std::alloc::{AllocError, Global};
 
@@ -65,7 +65,7 @@ enum Quoting {
 
 /// A text of a file in which numbers and hex have replaced all names and quotes, line by line. A line with malformed quotes
 /// stays as it is.
-pub(crate) fn plain_text(alloc: Global, text: &str) -> Result<String, AllocError> {
+pub fn plain_text(alloc: Global, text: &str) -> Result<String, AllocError> {
     let mut plain = PlainText {
         text: String::new(alloc),
         line: String::new(alloc),

@@ -1,8 +1,8 @@
 //! The script of a run, line by line, and the clock that it reaches.
 
-use crate::fault::{Fault, WordFault};
-use crate::line::Line;
-use crate::rule;
+use crate::run_file::fault::{Fault, WordFault};
+use crate::run_file::line::Line;
+use crate::run_file::rule;
 use mote_text::by_value::read_input;
 use mote_types::entry::Input;
 use std::alloc::{AllocError, Global};
@@ -13,7 +13,7 @@ const LONGEST_TEXT: usize = 255;
 /// A script that grows.
 #[derive(Drop)]
 pub(crate) struct Inputs {
-    pub(crate) script: String,
+    script: String,
     /// The ticks of its lines in all.
     clock: u64,
     /// Whether it has its last line, which has no line end.
@@ -27,6 +27,11 @@ impl Inputs {
             clock: 0,
             has_ended: false,
         }
+    }
+
+    /// The script so far.
+    pub(crate) fn script(&self) -> &str {
+        self.script.as_str()
     }
 
     /// Appends the line of the script that a line of a file says.

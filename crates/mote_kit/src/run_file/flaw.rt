@@ -58,10 +58,15 @@ fn flaw_of_bytes(line: &str) -> Option<&'static str> {
     }
 }
 
-/// What is wrong with the letters of a malformed line: a person finds the mistake sooner by that than by its words. In the
-/// line, hex has replaced all well-formed quotes.
-pub(crate) fn flaw_of(line: &str) -> Option<&'static str> {
+/// What is wrong with the letters of a malformed line.
+fn flaw_of(line: &str) -> Option<&'static str> {
     flaw_of_bytes(line)
         .or(flaw_of_commas(line))
         .or(flaw_of_spaces(line))
+}
+
+/// What is wrong with the letters of the malformed line of this number in a text, from 1 on: a person finds the mistake sooner by that
+/// than by its words. In the text, hex has replaced all well-formed quotes.
+pub fn flaw_at(text: &str, line: usize) -> Option<&'static str> {
+    flaw_of(text.split('\n').nth(line.saturating_sub(1))?)
 }

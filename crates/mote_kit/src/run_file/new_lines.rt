@@ -1,0 +1,175 @@
+//! The lines of a file, with the results of its runs.
+
+use crate::run_file::comparison::is_shown;
+use crate::run_file::outcome::Outcome;
+use crate::run_file::written_run::{ShownLine, WrittenRun};
+use std::alloc::{AllocError, Global};
+
+/// The lines of a file, of which some change.
+#[derive(Drop)]
+pub struct NewLines {
+    /// Each line with its line end, the last one may have none, and what comes after it. First what comes above them all.
+    lines: Vec<String>,
+}
+
+impl NewLines {
+    /// The lines of a text.
+    pub fn of(alloc: Global, text: &str) -> Result<Self, AllocError> {
+        let mut new = NewLines {
+            lines: Vec::new(alloc),
+        };
+        new.push(alloc, "")?;
+        for line in text.split_inclusive('\n') {
+            new.push(alloc, line)?;
+        }
+        Ok(new)
+    }
+
+    fn push(&mut self, alloc: Global, line: &str) -> Result<(), AllocError> {
+        self.lines.push(String::from_str(alloc, line)?)?;
+        Ok(())
+    }
+
+    /// All lines as a text.
+    pub fn text(&self, alloc: Global) -> Result<String, AllocError> {
+        let mut text = String::new(alloc);
+        for line in &self.lines {
+            text.push_str(line.as_str())?;
+        }
+        Ok(text)
+    }
+
+    /// Removes the line of this number.
+    fn remove(&mut self, number: usize) {
+        if number < self.lines.len() {
+            self.lines[number].clear();
+        }
+    }
+
+    /// Appends lines after the line of this number.
+    fn append(&mut self, number: usize, lines: &str) -> Result<(), AllocError> {
+        if number >= self.lines.len() {
+            return Ok(());
+        }
+        let line = &mut self.lines[number];
+        if !lines.is_empty() && !line.is_empty() && !line.ends_with('\n') {
+            line.push('\n')?;
+        }
+        line.push_str(lines)
+    }
+
+    /// Appends the line of a run's end after the line of this number.
+    fn append_end(
+        &mut self,
+        alloc: Global,
+        number: usize,
+        outcome: &Outcome,
+    ) -> Result<(), AllocError> {
+        let end = format!(in alloc; "ends {}\n", outcome.end)?;
+        self.append(number, end.as_str())
+    }
+
+    /// Puts the result of a run into its lines. Returns whether they change.
+    pub fn put(
+        &mut self,
+        alloc: Global,
+        run: &WrittenRun<'_>,
+        outcome: &Outcome,
+    ) -> Result<bool, AllocError> {
+        let is_shown = is_shown(alloc, run, outcome.text())?;
+        if is_shown && run.has_result() && outcome.ended_as_said(run) {
+            return Ok(false);
+        }
+        if let Some((_, number)) = run.said_end {
+            self.remove(number);
+            self.append_end(alloc, number, outcome)?;
+        }
+        let last = if is_shown {
+            run.last_line
+        } else {
+            self.put_transcript(run, outcome.text())?
+        };
+        if run.said_end.is_none() && outcome.transcript.is_empty() {
+            self.append_end(alloc, last, outcome)?;
+        }
+        Ok(true)
+    }
+
+    /// Puts a transcript into the lines of a run in place of the lines that don't match it. Those before them and after them stay.
+    /// Returns the number of the line after which it is.
+    fn put_transcript(&mut self, run: &WrittenRun<'_>, found: &str) -> Result<usize, AllocError> {
+        let wanted = run.transcript();
+        let shown = run.shown.as_slice();
+        let front = common_front(shown, wanted, found);
+        let rest = shown.get(front.lines..).unwrap_or(&[]);
+        let wanted_rest = wanted.get(front.size..).unwrap_or("");
+        let found_rest = found.get(front.size..).unwrap_or("");
+        let back = common_back(rest, wanted_rest, found_rest);
+        let gone = rest
+            .get(..rest.len().saturating_sub(back.lines))
+            .unwrap_or(&[]);
+        let size = found_rest.len().saturating_sub(back.size);
+        let last = line_before(run, front.lines, gone);
+        for line in gone {
+            self.remove(line.line);
+        }
+        self.append(last, found_rest.get(..size).unwrap_or(""))?;
+        Ok(last)
+    }
+}
+
+/// Lines of a file that match a part of a transcript.
+#[derive(Clone, Copy, Drop)]
+struct Common {
+    /// The number of lines.
+    lines: usize,
+    /// The number of bytes of the transcript.
+    size: usize,
+}
+
+/// The lines of a file, from its first on, that match the beginning of the transcript.
+fn common_front(shown: &[ShownLine], wanted: &str, found: &str) -> Common {
+    let mut common = Common { lines: 0, size: 0 };
+    for line in shown {
+        let end = common.size.saturating_add(line.size);
+        if wanted.get(common.size..end) != found.get(common.size..end) {
+            return common;
+        }
+        common.lines = common.lines.saturating_add(1);
+        common.size = end;
+    }
+    common
+}
+
+/// The lines of a file, up to its last, that match the end of the transcript.
+fn common_back(shown: &[ShownLine], wanted: &str, found: &str) -> Common {
+    let mut common = Common { lines: 0, size: 0 };
+    for line in shown.iter().rev() {
+        let size = common.size.saturating_add(line.size);
+        if from_end(wanted, size, common.size) != from_end(found, size, common.size) {
+            return common;
+        }
+        common.lines = common.lines.saturating_add(1);
+        common.size = size;
+    }
+    common
+}
+
+/// The part of a text that begins so many bytes before its end, and ends so many before it.
+fn from_end(text: &str, begin: usize, end: usize) -> Option<&str> {
+    let begin = text.len().checked_sub(begin)?;
+    text.get(begin..text.len().checked_sub(end)?)
+}
+
+/// The number of the line after which new lines of a transcript are put, where these lines are removed, and `front` ones before them
+/// stay.
+fn line_before(run: &WrittenRun<'_>, front: usize, gone: &[ShownLine]) -> usize {
+    if let Some(line) = gone.first() {
+        return line.line.saturating_sub(1);
+    }
+    match run.shown.as_slice().get(front.saturating_sub(1)) {
+        Some(line) if front > 0 => line.line,
+        Some(line) => line.line.saturating_sub(1),
+        None => run.last_line,
+    }
+}
