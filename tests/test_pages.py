@@ -87,7 +87,8 @@ def test_sum_of_types() -> None:
 
 # The crates of a network; and what else its run rests on, each with the words that tell its lines.
 OF_A_NETWORK = ("medium_core", "network_session", "network_steps", "network_run", "network_setup")
-BESIDE_IT = {"`mote_session/specs`": ("mote_session/specs",), "`call_lists/specs` and `mote_apps/specs`": ("call_lists/specs", "mote_apps/specs"),
+BESIDE_IT = {"`mote_session/specs`": ("mote_session/specs",),
+             "`call_lists/specs` and `mote_apps/specs`": ("call_lists/specs", "mote_apps/specs"),
              "`specs/Code` of lower crates": ("mote_types/specs/Code", "process_core/specs/Code", "kernel_core/specs/Code")}
 
 

@@ -94,7 +94,7 @@ clock_time net h = clock_now net (first_come net.air.clock (wakes_of net.motes))
 -- ---- mote m keeps the time
 
 module _ (m : ℕ) (old new : NetworkView) (caught : IsCaught m old) where
-  caught_with : (k : ℕ) (before after : SessionView) → slice_get old.motes k ≡ Some before → new.motes ≡ set old.motes k after →
+  pub caught_with : (k : ℕ) (before after : SessionView) → slice_get old.motes k ≡ Some before → new.motes ≡ set old.motes k after →
       new.air.clock ≡ old.air.clock → new.target ≡ old.target → (before.machine.clock ≡ old.air.clock → after.machine.clock ≡ old.air.clock) → IsCaught m new
   caught_with k before after there is clock target own = record {
     up = omega (arith, clock, target, caught.up);
@@ -116,7 +116,7 @@ module _ (m : ℕ) (old new : NetworkView) (caught : IsCaught m old) where
       caught_with k h.before h.after h.mote h.others (ap (λ (v : NetworkView). v.air.clock) w.result ∙ aired_clock k next h.after old.air)
       (ap (λ (v : NetworkView). v.target) w.result) (λ same. h.same.1 ∙ same)
 
-  caught_told : (k : ℕ) → IsToldTime k old new → IsCaught m new
+  pub caught_told : (k : ℕ) → IsToldTime k old new → IsCaught m new
   caught_told k s =
       let h = s.told in
       let clock : h.after.machine.clock ≡ h.before.machine.clock + due_ticks old.air.clock h.before.machine.clock =
@@ -124,7 +124,7 @@ module _ (m : ℕ) (old new : NetworkView) (caught : IsCaught m old) where
       caught_with k h.before h.after h.mote h.others (ap (λ (v : NetworkView). v.air.clock) s.result) (ap (λ (v : NetworkView). v.target) s.result)
       (λ same. omega (arith, clock, same))
 
-step_caught : (m : ℕ) (x : Outcome) (old new : NetworkView) → IsCaught m old → DoesStep x old new → IsCaught m new
+pub step_caught : (m : ℕ) (x : Outcome) (old new : NetworkView) → IsCaught m old → DoesStep x old new → IsCaught m new
 step_caught m (Outcome.Started k) old new caught does = rw does.steps (record { up = caught.up; on_time = caught.on_time })
 step_caught m (Outcome.Turn k) old new caught does = caught_worked m old new caught Next.Turn k does.steps
 step_caught m (Outcome.Entry k) old new caught does = caught_worked m old new caught Next.Entry k does.steps
@@ -191,7 +191,7 @@ rest_leads (Move.Tell m mid ∷ moves) old new rests own leads = absurd (cc)
 rest_leads (Move.Hand m input mid ∷ moves) old new rests own leads = absurd (cc)
 rest_leads (Move.Miss m input mid ∷ moves) old new rests own leads = absurd (cc)
 
-caught_on_time : (m : ℕ) (net : NetworkView) → IsCaught m net → IsOnTime m net
+pub caught_on_time : (m : ℕ) (net : NetworkView) → IsCaught m net → IsOnTime m net
 caught_on_time m net caught mote there up = let same = caught.on_time mote there in grind (arith, nat_tests)
 
 pub on_time_by : (m : ℕ) (net : NetworkView) → IsCaughtAtRest m net → IsOnTime m net

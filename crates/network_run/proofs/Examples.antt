@@ -1,6 +1,6 @@
 -- Worked examples: the lines of a script, and how a run can end.
 use Rattle.std.specs.Fmt.{digits}
-use Rattle.std.proofs.Common.{◌≡◌, ◌^◌, [], ◌∷◌, ◌∙◌, ℕ, Bool, List, codes, inl, inr, refl, sym, Err, None, Ok, Option, Result, Some, slice_get}
+use Rattle.std.proofs.Common.{◌≡◌, ◌^◌, [], ◌∷◌, ◌∙◌, ℕ, Bool, List, codes, inl, inr, refl, subst, sym, Err, None, Ok, Option, Result, Some, slice_get}
 use Rattle.mote_text.specs.declared.script.End.{End}
 use Rattle.mote_text.specs.EntryText.{line_of}
 use Rattle.mote_text.specs.Script.{read_line}
@@ -24,6 +24,11 @@ use Rattle.network_run.specs.declared.fault.NetworkRunFault.{NetworkRunFault}
 use Rattle.network_steps.specs.NetworkRuns.{IsResting}
 use Rattle.network_run.specs.Outside.{AreInTurn, Outside, next_refusal}
 use Rattle.network_steps.specs.NetworkScript.{read_network_lines}
+use Rattle.network_run.specs.Stepper.{AwaitsOrIsFull, IsReadyStepper, NoneWaits}
+use Rattle.network_steps.specs.StepsView.{StepsView}
+use Rattle.network_steps.specs.declared.came.Phase.{Phase}
+use Rattle.network_steps.specs.declared.came.Waiting.{Waiting}
+use Rattle.network_steps.specs.declared.fault.StepsFault.{StepsFault}
 use Rattle.network_steps.specs.declared.input.NetworkInput.{NetworkInput}
 
 -- a newline ends a line, and the last line may have none
@@ -58,7 +63,7 @@ module _ (input : Input) where
   for_another turn = let e = turn.0 in absurd (cc)
 
   for_all : AreInTurn (Outside.Time 0 ∷ Outside.Given (NetworkInput.Tick 3) ∷ []) → ⊥
-  for_all turn = turn.0
+  for_all turn = turn
 
   twice : AreInTurn (Outside.Time 0 ∷ Outside.Time 0 ∷ []) → ⊥
   twice turn = turn
@@ -115,3 +120,13 @@ module _ (voices : Voices) (pid : Pid) (origin : Origin) (stimulus : Stimulus) (
   another_call : voices 0 pid.0 (stimulus ∷ []) ≡ other → (other ≡ call → ⊥) →
       MakeTheCalls voices (Happening.Entry 0 (Entry.Turn pid origin stimulus call) ∷ []) → ⊥
   another_call says apart calls = apart (sym says ∙ calls 0 [] [] pid origin stimulus call refl)
+
+-- at rest no input waits for a network that is ready; and it doesn't refuse because there is no such mote
+at_rest : (s : StepsView) (waiting : Waiting) → IsReadyStepper s → s.phase ≡ Phase.Resting → s.waiting ≡ Some waiting → ⊥
+at_rest s waiting ready rests waits =
+    let none = (subst (λ (p : Phase). NoneWaits p s) rests ready.waits).1 in
+    absurd (let e : None ≡ Some waiting = sym none ∙ waits in cc)
+
+no_mote : AwaitsOrIsFull StepsFault.NoMote → ⊥
+no_mote (inl e) = absurd (cc)
+no_mote (inr e) = absurd (cc)

@@ -13,3 +13,4 @@ pub mod Scripts
 pub mod Submitting
 pub mod Running
 pub mod Closing
+pub mod Steppers

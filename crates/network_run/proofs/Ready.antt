@@ -73,7 +73,7 @@ gone_within target wakes air within =
 
 -- ---- who awaits a call
 
-none_awaits : (net : NetworkView) → AwaitsAtWork net → net.active ≡ None → AwaitsNone net
+pub none_awaits : (net : NetworkView) → AwaitsAtWork net → net.active ≡ None → AwaitsNone net
 none_awaits net awaits idle m mote there = awaits m mote there (unlike net.active m idle)
 
 same_await : (old new : NetworkView) → AwaitsNone old → new.motes ≡ old.motes → AwaitsNone new

@@ -6,7 +6,7 @@ use Rattle.mote_text.specs.Script.{line_limit}
 use Rattle.mote_text.specs.Script.{script_lines}
 use Rattle.mote_text.specs.declared.script.End.{End}
 use Rattle.mote_types.specs.declared.entry.Input.{Input}
-use Rattle.network_run.specs.Code.Way.{ComesWith, Ends, Faulted, HasCome, IsWithTime, Moment, RunFaulted, Takes, Went}
+use Rattle.network_run.specs.Code.Way.{ComesWith, Ends, Faulted, HasCome, IsFor, IsWithTime, Moment, RunFaulted, Takes, Went}
 use Rattle.network_run.specs.NetworkRunText.{CanEnd, IsExhausted}
 use Rattle.network_run.specs.declared.fault.NetworkRunFault.{NetworkRunFault}
 use Rattle.network_run.specs.Outside.{AreInTurn, Outside, given_of, givens}
@@ -58,12 +58,16 @@ pub given_in_turn : (inputs : List NetworkInput) → AreInTurn (all_given inputs
 given_in_turn [] = tt
 given_in_turn (input ∷ inputs) = given_in_turn inputs
 
+in_turn_with : (m : ℕ) (input : NetworkInput) (more : List Outside) → IsFor m input → AreInTurn more → AreInTurn (Outside.Time m ∷ Outside.Given input ∷ more)
+in_turn_with m (NetworkInput.ForMote number input) more is turn = (is, turn)
+in_turn_with m (NetworkInput.Tick ticks) more is turn = absurd is
+
 -- an input with the time before it, and more
 with_more : (input : NetworkInput) (outside more : List Outside) → IsWithTime input outside → AreInTurn more → AreInTurn (outside ++ more)
 with_more input outside more is turn =
     elim is.2 [
       | inl none ↦ rw (is.1, none) turn
-      | inr told ↦ rw (is.1, told.1) (told.2, turn)
+      | inr told ↦ rw (is.1, told.1) (in_turn_with told.0 input more told.2 turn)
     ]
 
 given_with_time : (input : NetworkInput) (outside : List Outside) → IsWithTime input outside → givens outside ≡ input ∷ []

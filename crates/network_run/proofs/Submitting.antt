@@ -32,7 +32,7 @@ use Rattle.network_run.proofs.Ways.{all_carried, faulted_same, went_mute, went_n
 tick_why : (ticks : ℕ) (s : StepsView) → IsAtRest s → tick_refusal ticks s ≡ fault_if (pass_refusal ticks s.net)
 tick_why ticks s rest = rw (rest.rests.idle, rest.phase) refl
 
-no_fault : (o : Option NetworkFault) → fault_if o ≡ None → o ≡ None
+pub no_fault : (o : Option NetworkFault) → fault_if o ≡ None → o ≡ None
 no_fault None e = refl
 no_fault (Some fault) e = absurd (cc)
 

@@ -50,16 +50,16 @@ fault_on (Err handed) P Q fault is q = subst Q (sym is) q
 -- ---- the moves of a step
 
 -- nothing waits after the input that waited
-later_none : (first : NetworkInput) (later : List NetworkInput) (waiting : Option Waiting) → first ∷ later ≡ inputs_waiting waiting → later ≡ inputs_waiting None
+pub later_none : (first : NetworkInput) (later : List NetworkInput) (waiting : Option Waiting) → first ∷ later ≡ inputs_waiting waiting → later ≡ inputs_waiting None
 later_none first later None e = absurd (cc)
 later_none first later (Some w) e = cc
 
-no_tick : (ticks : ℕ) (later : List NetworkInput) (waiting : Option Waiting) → NetworkInput.Tick ticks ∷ later ≡ inputs_waiting waiting → ⊥
+pub no_tick : (ticks : ℕ) (later : List NetworkInput) (waiting : Option Waiting) → NetworkInput.Tick ticks ∷ later ≡ inputs_waiting waiting → ⊥
 no_tick ticks later None e = absurd (cc)
 no_tick ticks later (Some w) e = absurd (cc)
 
 -- time may go no further than before
-leads_within : (moves : List Move) (old new : NetworkView) (later : List NetworkInput) (waiting : Option Waiting) →
+pub leads_within : (moves : List Move) (old new : NetworkView) (later : List NetworkInput) (waiting : Option Waiting) →
     inputs_of moves ++ later ≡ inputs_waiting waiting → Leads old moves new → IsWithin old → IsWithin new
 leads_within [] old new later waiting e leads within = subst IsWithin leads within
 leads_within (Move.Step x mid ∷ moves) old new later waiting e leads within =

@@ -2,5 +2,6 @@
 pub mod Outside
 pub mod NetworkRunText
 pub mod Voices
+pub mod Stepper
 -- The code's invariants.
 pub mod Code

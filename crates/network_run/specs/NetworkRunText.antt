@@ -63,9 +63,8 @@ IsTooMuch fault = (fault ≡ NetworkFault.TooLong) ⊎ (fault ≡ NetworkFault.R
 
 -- the last line, once the run has ended
 abbrev pub ending_text : Option (Result End NetworkFault) → List ℕ
-ending_text None = []
 ending_text (Some (Ok end)) = last_line end
-ending_text (Some (Err fault)) = []
+ending_text _ = []
 
 -- Moves of a network from its start on, with the calls of these applications. What comes in them, and what is left, are the script's
 -- inputs, in order; a mote gets the time only before an input. The text of the moves was written but for the rest

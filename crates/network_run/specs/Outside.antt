@@ -31,15 +31,11 @@ given_of (Outside.Given input) = Some input
 abbrev pub givens : List Outside → List NetworkInput
 givens outside = filter_map given_of outside
 
-abbrev pub IsFor : ℕ → NetworkInput → Type 0
-IsFor m (NetworkInput.ForMote number input) = number ≡ m + 1
-IsFor m _ = ⊥
-
 -- a mote gets the time only right before an input of its own
 abbrev pub AreInTurn : List Outside → Type 0
 AreInTurn [] = ⊤
 AreInTurn (Outside.Given input ∷ later) = AreInTurn later
-AreInTurn (Outside.Time m ∷ Outside.Given input ∷ later) = IsFor m input × AreInTurn later
+AreInTurn (Outside.Time m ∷ Outside.Given (NetworkInput.ForMote number input) ∷ later) = (number ≡ m + 1) × AreInTurn later
 AreInTurn _ = ⊥
 
 -- why this is refused. A halted mote misses it

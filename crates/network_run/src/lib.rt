@@ -3,6 +3,7 @@
 
 pub mod fault;
 mod input;
+pub mod laws;
 mod reports;
 pub mod run;
 mod script;

@@ -1,9 +1,13 @@
 -- The first lines of a script, taken one after the other.
-use Rattle.std.proofs.Common.{◌≡◌, ◌+◌, ℕ, suc, true, false, List, [], ◌∷◌, length, ap, arith, Bor, Option, None, Some, Err, IsErrOf, inl, inr, subst, sym, refl}
+use Rattle.std.proofs.Common.{◌≡◌, ◌+◌, ℕ, suc, true, false, List, [], ◌∷◌, length, ap, arith, Bor, Option, None, Some, MatchBool, Err, IsErrOf, inl, inr, subst, sym, refl}
 use Rattle.network_setup.specs.Code.Words.{IsNextLine}
-use Rattle.network_setup.specs.FirstLines.{AreCarriedOut, DoesLine, IsBadLine, IsExecuted, IsMalformed, IsText, SaysNothing, is_blank, is_input}
+use Rattle.network_setup.specs.FirstLines.{AreCarriedOut, DoesSaid, IsBadLine, IsExecuted, IsMalformed, IsText, SaysNothing, is_blank, is_input}
 use Rattle.network_setup.specs.SetupView.{SetupView}
 use Rattle.network_setup.specs.declared.fault.LineFault.{LineFault}
+
+-- what a line that is no input does
+abbrev DoesLine : List ℕ → SetupView → SetupView → Type 0
+DoesLine line old new = MatchBool (is_blank line) (new ≡ old) (DoesSaid line old new)
 
 -- Of all lines these are left after the n first ones: what they do from now on, all do from the old setup on
 pub record IsOnTheWay (n : ℕ) (all lines : List (List ℕ)) (old now : SetupView) : Type 0 where

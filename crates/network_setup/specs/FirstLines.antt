@@ -31,13 +31,9 @@ SaysNothing line setup =
 abbrev pub IsMalformed : List ℕ → SetupView → Type 0
 IsMalformed line setup = ¬ IsText line ⊎ ((is_input line ≡ false) × (is_blank line ≡ false) × SaysNothing line setup)
 
--- a blank line changes nothing
-abbrev pub DoesLine : List ℕ → SetupView → SetupView → Type 0
-DoesLine line old new = MatchBool (is_blank line) (new ≡ old) (DoesSaid line old new)
-
--- a line that is no input was executed
+-- a line that is no input was executed. A blank line changes nothing
 abbrev pub IsExecuted : List ℕ → SetupView → SetupView → Type 0
-IsExecuted line old new = IsText line × (is_input line ≡ false) × DoesLine line old new
+IsExecuted line old new = IsText line × (is_input line ≡ false) × MatchBool (is_blank line) (new ≡ old) (DoesSaid line old new)
 
 -- the lines up to the first input were executed. Those from there on are left
 abbrev pub AreCarriedOut : List (List ℕ) → List (List ℕ) → SetupView → SetupView → Type 0

@@ -26,21 +26,17 @@ with_size name size config =
 abbrev pub with_option : List ℕ → List ℕ → Config → Option Config
 with_option name number config = option_and_then (λ size. with_size name size config) (read_number number)
 
--- the name of an option
-abbrev pub option_of : List ℕ → Option (List ℕ)
-option_of word = argument_of (codes "--") word
-
 -- the sizes that words say: options, each before its number. The first argument is an option whose number comes next
 abbrev pub sizes_said : Option (List ℕ) → List (List ℕ) → Config → Option Config
 sizes_said None [] config = Some config
-sizes_said None (word ∷ words) config = sizes_said (option_of word) words config
+sizes_said None (word ∷ words) config = sizes_said (argument_of (codes "--") word) words config
 sizes_said (Some name) [] config = None
 sizes_said (Some name) (word ∷ words) config = option_and_then (λ c. sizes_said None words c) (with_option name word config)
 
 -- the other words, which are names of applications
 abbrev pub names_said : Option (List ℕ) → List (List ℕ) → List (List ℕ)
 names_said option [] = []
-names_said None (word ∷ words) = (if is_some (option_of word) then [] else word ∷ []) ++ names_said (option_of word) words
+names_said None (word ∷ words) = let key = argument_of (codes "--") word in (if is_some key then [] else word ∷ []) ++ names_said key words
 names_said (Some name) (word ∷ words) = names_said None words
 
 -- the application of this name, as it begins

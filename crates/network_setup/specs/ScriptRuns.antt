@@ -1,9 +1,8 @@
 -- The run of a whole script, from its first line on.
 use Rattle.std.specs.Prelude.{◌≡◌, ◌≤◌, ◌<◌, ◌+◌, ℕ, Bool, true, false, List, [], ◌++◌, length, Option, Result, Ok, Err}
 use Rattle.std.specs.Option.{option_map_or}
-use Rattle.mote_text.specs.Script.{script_limit}
 use Rattle.mote_text.specs.declared.script.End.{End}
-use Rattle.mote_text.specs.Script.{script_lines}
+use Rattle.mote_text.specs.Script.{script_limit, script_lines}
 use Rattle.network_run.specs.declared.fault.NetworkRunFault.{NetworkRunFault}
 use Rattle.network_setup.specs.FirstLines.{AreCarriedOut, IsBadLine}
 use Rattle.network_setup.specs.MoteApps.{voices_of}
@@ -17,8 +16,7 @@ use Rattle.network_steps.specs.NetworkText.{last_line}
 -- only the last line was written, or a prefix of it where writing failed
 abbrev pub EndsAtOnce : End → List ℕ → Result End SetUpRunFault → Type 0
 EndsAtOnce end written (Ok told) = (told ≡ end) × (written ≡ last_line end)
-EndsAtOnce end written (Err fault) =
-    (fault ≡ SetUpRunFault.Run NetworkRunFault.Write) × ((rest : List ℕ) × (written ++ rest ≡ last_line end))
+EndsAtOnce end written (Err fault) = (fault ≡ SetUpRunFault.Run NetworkRunFault.Write) × (rest : List ℕ) × (written ++ rest ≡ last_line end)
 
 -- the mote that is asked for, if one is, is one of this many
 abbrev pub is_there : Option ℕ → ℕ → Bool

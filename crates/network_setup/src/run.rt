@@ -1,10 +1,10 @@
 //! Sets networks up, and runs them.
 
-ghost use Rattle.std.specs.Prelude.{◌≡◌, ◌≤◌, ◌<◌, ◌+◌, ◌-◌, ◌^◌, ◌↔◌, false, length, IfErr, IfOk, IsErrOf};
+ghost use Rattle.std.specs.Prelude.{◌≡◌, ◌≤◌, ◌<◌, ◌+◌, ◌-◌, ◌^◌, ◌↔◌, false, length, IfErr, IfOk, IsErrOf, MatchBool};
 ghost use Rattle.mote_text.specs.Script.{script_lines};
 ghost use Rattle.network_run.specs.NetworkRunText.{Gives};
 ghost use Rattle.network_run.specs.declared.fault.NetworkRunFault.{NetworkRunFault};
-ghost use Rattle.network_setup.specs.FirstLines.{AreCarriedOut, DoesLine, IsBadLine, SaysNothing, is_blank};
+ghost use Rattle.network_setup.specs.FirstLines.{AreCarriedOut, DoesSaid, IsBadLine, SaysNothing, is_blank};
 ghost use Rattle.network_setup.specs.MoteApps.{voices_of};
 ghost use Rattle.network_setup.specs.SetUpRuns.{HasBooted, HasRunSetUp, start_of};
 ghost use Rattle.network_setup.specs.declared.fault.LineFault.{LineFault};
@@ -32,7 +32,7 @@ fn is_blank(text: &str) -> bool
 
 /// Takes one of the first lines.
 fn take_setup_line(alloc: Global, text: &str, setup: &mut Setup) -> Result<(), LineFault>
-    ensures done { IfOk result (λ _. DoesLine text.now setup.old setup.new) }
+    ensures done { IfOk result (λ _. MatchBool (is_blank text.now) (setup.new ≡ setup.old) (DoesSaid text.now setup.old setup.new)) }
     ensures malformed { IsErrOf result LineFault.Malformed → (is_blank text.now ≡ false) × SaysNothing text.now setup.old }
 {
     if is_blank(text) {

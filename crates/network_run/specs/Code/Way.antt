@@ -8,7 +8,7 @@ use Rattle.network_steps.specs.Code.Calls.{Speak}
 use Rattle.network_steps.specs.Code.Turns.{ends_open}
 use Rattle.network_run.specs.Code.Ready.{IsRefusedOf, IsWithin}
 use Rattle.mote_text.specs.Code.Writing.{WritesOn}
-use Rattle.network_run.specs.Outside.{AreInTurn, IsFor, Outside, all_outside, givens}
+use Rattle.network_run.specs.Outside.{AreInTurn, Outside, all_outside, givens}
 use Rattle.network_run.specs.declared.fault.NetworkRunFault.{NetworkRunFault}
 use Rattle.network_steps.specs.NetworkRuns.{IsResting, Leads, Move, moves_text}
 use Rattle.network_steps.specs.StepsView.{StepsView}
@@ -87,6 +87,10 @@ pub record Takes (quiet : Bool) (outside : List Outside) (rests : Bool) (from to
 abbrev pub TakesIf : Result Bool NetworkRunFault → Bool → List Outside → Moment → Moment → Type 0
 TakesIf result quiet outside from to =
     MatchResult result (λ rests. Takes quiet outside rests from to) (λ fault. Faulted quiet outside fault from to)
+
+abbrev pub IsFor : ℕ → NetworkInput → Type 0
+IsFor m (NetworkInput.ForMote number input) = number ≡ m + 1
+IsFor m _ = ⊥
 
 -- an input, and before it the time for its mote, or nothing
 abbrev pub IsWithTime : NetworkInput → List Outside → Type 0
