@@ -20,7 +20,7 @@ page = record { lanes = 4; rows = 10; strip = 0; top = 100; lane = 64; columns =
 abbrev column : Column
 column = record { left = 826; width = 180; bytes = 64 }
 
--- 32 bytes from 16 on, from row 1 to row 3
+-- 32 bytes from 16 on: from the second row to the fourth
 abbrev block : Stay
 block = record { pid = 4; name = 2; at = 16; taken = 32; size = 20; first = 1; last = Some 3 }
 

@@ -58,7 +58,7 @@ module _ (rows : ℕ) (marks : Marks) (are : AreMarks rows marks) where
   late_in_each_row : marks.lateness.items ≡ [] → rows ≡ 0
   late_in_each_row none = sym are.lateness ∙ ap length none
 
--- a block that reaches beyond 10 bytes, in row 3
+-- a block that reaches beyond 10 bytes, in the third row of them
 another_row : IsFirstExceeding 10 (ended ∷ []) (Some 2) → ⊥
 another_row is =
     let first : is.0.0 ≡ 0 = omega (arith, is.0.2) in
