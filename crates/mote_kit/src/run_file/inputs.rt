@@ -1,5 +1,7 @@
 //! The script of a run, line by line, and the clock that it reaches.
 
+ghost use Rattle.std.specs.Prelude.{◌≡◌, string_bytes};
+
 use crate::run_file::fault::{Fault, WordFault};
 use crate::run_file::line::Line;
 use crate::run_file::rule;
@@ -30,7 +32,9 @@ impl Inputs {
     }
 
     /// The script so far.
-    pub(crate) fn script(&self) -> &str {
+    pub(crate) fn script(&self) -> &str
+        ensures { result.now ≡ string_bytes self.now.script }
+    {
         self.script.as_str()
     }
 

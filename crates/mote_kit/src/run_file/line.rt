@@ -1,5 +1,7 @@
 //! A line of a run.
 
+ghost use Rattle.std.specs.Prelude.{◌≡◌};
+
 /// A line of a run.
 #[derive(Clone, Copy, Drop)]
 pub struct Line<'a> {
@@ -16,7 +18,11 @@ pub struct Line<'a> {
 
 impl<'a> Line<'a> {
     /// The line with this number and text, so many times.
-    pub fn of(number: usize, count: u32, text: &'a str) -> Self {
+    pub fn of(number: usize, count: u32, text: &'a str) -> Self
+        ensures number { result.number ≡ number }
+        ensures count { result.count ≡ count }
+        ensures text { result.text.now ≡ text.now }
+    {
         let (word, rest) = text.split_once(' ').unwrap_or((text, ""));
         Line {
             number,

@@ -1,6 +1,6 @@
 //! The result of a run.
 
-ghost use Rattle.std.specs.Prelude.{◌<◌, ◌-◌, ◌^◌, false};
+ghost use Rattle.std.specs.Prelude.{◌≡◌, ◌<◌, ◌-◌, ◌^◌, false, IfOk};
 
 use crate::fault::MoteFault;
 use crate::mote::run_boxes;
@@ -49,7 +49,9 @@ pub struct Outcome {
 
 impl Outcome {
     /// The result of a run that ended so and wrote this transcript.
-    pub fn of(alloc: Global, end: RunEnd, transcript: Vec<u8>) -> Result<Self, AllocError> {
+    pub fn of(alloc: Global, end: RunEnd, transcript: Vec<u8>) -> Result<Self, AllocError>
+        ensures transcript { IfOk result (λ outcome. outcome.transcript ≡ transcript) }
+    {
         match end.to_string(alloc) {
             Ok(text) => Ok(Outcome {
                 end: text,

@@ -1,5 +1,7 @@
 //! The results of a file's runs, and what is printed of them.
 
+ghost use Rattle.std.specs.Prelude.{◌≡◌, ◌<◌, ◌+◌, ◌-◌, ◌^◌, true, false};
+
 use crate::run_file::outcome::Outcome;
 use crate::run_file::parts::Part;
 use std::io;
@@ -21,7 +23,14 @@ pub struct Results {
 
 impl Results {
     /// No results. Where the file is one of several, its path is printed above the first transcript.
-    pub fn new(is_of_several: bool) -> Self {
+    pub fn new(is_of_several: bool) -> Self
+        ensures none { result.expected ≡ 0 }
+        ensures as_expected { result.as_expected ≡ 0 }
+        ensures cut { result.cut ≡ 0 }
+        ensures in_pieces { result.in_pieces ≡ 0 }
+        ensures failed { result.failed ≡ 0 }
+        ensures title { result.lacks_title ≡ is_of_several }
+    {
         Results {
             expected: 0,
             as_expected: 0,
@@ -33,13 +42,23 @@ impl Results {
     }
 
     /// Counts a run with an expected outcome, and whether it had it.
-    pub fn count(&mut self, comes_out: bool) {
+    pub fn count(&mut self, comes_out: bool)
+        ensures expected { self.old.expected < 2 ^ 32 - 1 → self.new.expected ≡ self.old.expected + 1 }
+        ensures not { comes_out ≡ false → self.new.as_expected ≡ self.old.as_expected }
+        ensures as_expected { comes_out ≡ true → self.old.as_expected < 2 ^ 32 - 1 → self.new.as_expected ≡ self.old.as_expected + 1 }
+        ensures others { self.new ≡ record self.old { expected = self.new.expected; as_expected = self.new.as_expected } }
+    {
         self.expected = self.expected.saturating_add(1);
         self.as_expected = self.as_expected.saturating_add(u32::from(comes_out));
     }
 
     /// Counts the same of a run in pieces.
-    pub fn count_in_pieces(&mut self, comes_out: bool) {
+    pub fn count_in_pieces(&mut self, comes_out: bool)
+        ensures cut { self.old.cut < 2 ^ 32 - 1 → self.new.cut ≡ self.old.cut + 1 }
+        ensures not { comes_out ≡ false → self.new.in_pieces ≡ self.old.in_pieces }
+        ensures in_pieces { comes_out ≡ true → self.old.in_pieces < 2 ^ 32 - 1 → self.new.in_pieces ≡ self.old.in_pieces + 1 }
+        ensures others { self.new ≡ record self.old { cut = self.new.cut; in_pieces = self.new.in_pieces } }
+    {
         self.cut = self.cut.saturating_add(1);
         self.in_pieces = self.in_pieces.saturating_add(u32::from(comes_out));
     }

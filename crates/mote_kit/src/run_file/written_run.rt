@@ -1,5 +1,7 @@
 //! A run of a file, and what the file says of its outcome.
 
+ghost use Rattle.std.specs.Prelude.{◌≡◌, ◌==◌, ◌||◌, [], None, false, is_some, length, not, string_bytes};
+
 use crate::gaps::GAP;
 use crate::mote::Sizes;
 use crate::run_file::fault::{Fault, Misread, WordFault, number_of};
@@ -67,7 +69,13 @@ pub struct WrittenRun<'a> {
 
 impl<'a> WrittenRun<'a> {
     /// A run whose first line has this number, and of which no line was read.
-    pub fn new(alloc: Global, first_line: usize) -> Self {
+    pub fn new(alloc: Global, first_line: usize) -> Self
+        ensures network { result.is_network ≡ false }
+        ensures quiet { result.is_quiet ≡ false }
+        ensures end { result.said_end ≡ None }
+        ensures applications { result.applications.items ≡ [] }
+        ensures shown { result.shown.items ≡ [] }
+    {
         WrittenRun {
             is_network: false,
             is_quiet: false,
@@ -84,27 +92,37 @@ impl<'a> WrittenRun<'a> {
     }
 
     /// Whether it is a run of a network.
-    pub fn is_network(&self) -> bool {
+    pub fn is_network(&self) -> bool
+        ensures { result ≡ self.now.is_network }
+    {
         self.is_network
     }
 
     /// Whether its transcript is a quiet one.
-    pub fn is_quiet(&self) -> bool {
+    pub fn is_quiet(&self) -> bool
+        ensures { result ≡ self.now.is_quiet }
+    {
         self.is_quiet
     }
 
     /// The sizes of its mote.
-    pub fn sizes(&self) -> Sizes {
+    pub fn sizes(&self) -> Sizes
+        ensures { result ≡ self.now.sizes.sizes }
+    {
         self.sizes.sizes
     }
 
     /// Its script, as far as it was read.
-    pub fn script(&self) -> &str {
+    pub fn script(&self) -> &str
+        ensures { result.now ≡ string_bytes self.now.inputs.script }
+    {
         self.inputs.script()
     }
 
     /// Whether the file has an expected result of the run.
-    pub fn has_result(&self) -> bool {
+    pub fn has_result(&self) -> bool
+        ensures { result ≡ (is_some self.now.said_end || not (length (string_bytes self.now.transcript) == 0)) }
+    {
         self.said_end.is_some() || !self.transcript.is_empty()
     }
 
