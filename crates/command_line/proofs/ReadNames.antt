@@ -1,5 +1,5 @@
 -- What is known while the names are read, and what their refusal says.
-use Rattle.std.proofs.Common.{arith, rules, ◌≡◌, ◌≤◌, ◌++◌, ℕ, refl, sym, List, ◌∷◌, length, drop, min, Option, Some, None, find, filter_map, option_map, []}
+use Rattle.std.proofs.Common.{arith, ◌≡◌, ◌≤◌, ◌++◌, ℕ, refl, sym, List, ◌∷◌, length, drop, min, Option, Some, None, find, filter_map, option_map, []}
 use Rattle.std.proofs.lemmas.List.{length-map}
 use Rattle.command_line.proofs.Common.{nat_tests, texts, find-map, RefusesNames, applications_of, is_unknown}
 use Rattle.command_line.specs.Code.Names.{Name, application_of, refusal_of, is_strange}

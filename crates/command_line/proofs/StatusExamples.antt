@@ -5,21 +5,21 @@ use denote.Ref.{Bor}
 use Rattle.mote_text.specs.declared.script.End.{End}
 use Rattle.command_line.specs.declared.refusal.ParserText.{ParserText}
 use Rattle.command_line.specs.declared.refusal.Refusal.{Refusal}
-use Rattle.command_line.specs.Statuses.{IsShown, IsStatusOf, failure_in_words, failure_text, reported_text, status_of_outcome, stream_of_failure}
+use Rattle.command_line.specs.Statuses.{IsShown, IsStatusOf, bad_sizes, failure_in_words, failure_text, out_of_memory, read_failed, reported_text, status_of_outcome, stream_of_failure, write_failed}
 use Rattle.command_line.specs.declared.failure.Failure.{Failure}
 use Rattle.command_line.specs.declared.report.Stream.{Stream}
 
 statuses : map status_of_outcome (
-    Ok End.Finished ∷ Ok (End.BadLine 7) ∷ Ok End.Halted ∷ Ok End.TooLong ∷ Err Failure.Read ∷ Err Failure.Write ∷ Err Failure.BadSizes
-    ∷ Err Failure.OutOfMemory ∷ Err Failure.TooManyApplications ∷ Err Failure.NotText ∷ [])
+    Ok End.Finished ∷ Ok (End.BadLine 7) ∷ Ok End.Halted ∷ Ok End.TooLong ∷ Err read_failed ∷ Err write_failed ∷ Err bad_sizes
+    ∷ Err out_of_memory ∷ Err Failure.TooManyApplications ∷ Err Failure.NotText ∷ [])
     ≡ 0 ∷ 2 ∷ 3 ∷ 4 ∷ 5 ∷ 6 ∷ 64 ∷ 70 ∷ 64 ∷ 64 ∷ []
 statuses = refl
 
-bad_sizes_text : reported_text (codes "mote") Failure.BadSizes ≡ Some (codes "mote: bad sizes\n")
+bad_sizes_text : reported_text (codes "mote") bad_sizes ≡ Some (codes "mote: bad sizes\n")
 bad_sizes_text = refl
 
 -- the parser writes its own texts
-failure_texts : map failure_text (Failure.Read ∷ Failure.Write ∷ Failure.NotText ∷ Failure.TooManyApplications ∷ Failure.OutOfMemory ∷ [])
+failure_texts : map failure_text (read_failed ∷ write_failed ∷ Failure.NotText ∷ Failure.TooManyApplications ∷ out_of_memory ∷ [])
     ≡ map (λ text. Some text) (codes "read failed" ∷ codes "write failed" ∷ codes "a word is not text" ∷ codes "too many applications"
     ∷ codes "out of memory" ∷ [])
 failure_texts = refl
@@ -28,7 +28,7 @@ name_text : (name : Bor (List ℕ)) → name.now ≡ codes "hullo"
     → failure_text (Failure.NoApplication name) ≡ Some (codes "no application hullo")
 name_text name is = grind arith
 
-halt_stays : IsShown (Ok End.Halted) (Err Failure.Write) ⊎ IsStatusOf (Ok End.Halted) 0 → ⊥
+halt_stays : IsShown (Ok End.Halted) (Err write_failed) ⊎ IsStatusOf (Ok End.Halted) 0 → ⊥
 halt_stays is = grind arith
 
 module _ (text : ParserText) where
@@ -36,13 +36,13 @@ module _ (text : ParserText) where
   no_text = refl
 
   -- only a requested text goes to standard output
-  streams : map stream_of_failure (Failure.Request text ∷ Failure.Words text ∷ Failure.BadSizes ∷ Failure.OutOfMemory ∷ [])
+  streams : map stream_of_failure (Failure.Request text ∷ Failure.Words text ∷ bad_sizes ∷ out_of_memory ∷ [])
       ≡ Stream.Output ∷ Stream.Error ∷ Stream.Error ∷ Stream.Error ∷ []
   streams = refl
 
   -- a requested text that can't be written is a failed write; no other outcome changes
   not_shown : IsStatusOf (Err (Failure.Request text)) 6
-  not_shown = record { shown = Err Failure.Write; is_shown = inr refl; is_status = refl }
+  not_shown = record { shown = Err write_failed; is_shown = inr refl; is_status = refl }
 
   shown : IsStatusOf (Err (Failure.Request text)) 0
   shown = record { shown = Err (Failure.Request text); is_shown = inl refl; is_status = refl }

@@ -7,6 +7,7 @@ ghost use Rattle.command_line.specs.Statuses.{status_of_failure, status_of_outco
 use crate::refusal::{ParserText, Refusal};
 use clap::Error;
 use mote_text::script::End;
+use mote_types::fault::{BootFault, MoteFault, RunFault};
 use std::alloc::{AllocError, AllocFailed};
 use std::fmt;
 
@@ -23,11 +24,20 @@ pub enum Failure<'a> {
     /// No application has this name.
     NoApplication(&'a str),
     TooManyApplications,
-    /// A size is out of its range or no multiple of 4.
-    BadSizes,
-    OutOfMemory,
-    Read,
-    Write,
+    /// What ends a mote's run, or the same of the program itself: memory was refused, standard input or output failed.
+    Mote(MoteFault),
+}
+
+/// The status that the program exits with after this fault.
+fn status_of_fault(fault: MoteFault) -> u8
+    ensures { result ≡ statuses.status_of_fault fault }
+{
+    match fault {
+        MoteFault::Boot(BootFault::BadSizes) => 64,
+        MoteFault::Boot(BootFault::Memory) => 70,
+        MoteFault::Run(RunFault::Read) => 5,
+        MoteFault::Run(RunFault::Write) => 6,
+    }
 }
 
 impl Failure<'_> {
@@ -38,14 +48,11 @@ impl Failure<'_> {
     {
         match self {
             Failure::Request(_) => 0,
-            Failure::Read => 5,
-            Failure::Write => 6,
             Failure::NotText
             | Failure::Words(_)
             | Failure::NoApplication(_)
-            | Failure::TooManyApplications
-            | Failure::BadSizes => 64,
-            Failure::OutOfMemory => 70,
+            | Failure::TooManyApplications => 64,
+            Failure::Mote(fault) => status_of_fault(*fault),
         }
     }
 }
@@ -61,31 +68,63 @@ impl fmt::Display for Failure<'_> {
             Failure::Request(text) | Failure::Words(text) => write!(f, "{text}"),
             Failure::NoApplication(name) => write!(f, "no application {name}"),
             Failure::TooManyApplications => f.write_str("too many applications"),
-            Failure::BadSizes => f.write_str("bad sizes"),
-            Failure::OutOfMemory => f.write_str("out of memory"),
-            Failure::Read => f.write_str("read failed"),
-            Failure::Write => f.write_str("write failed"),
+            Failure::Mote(MoteFault::Boot(BootFault::BadSizes)) => f.write_str("bad sizes"),
+            Failure::Mote(MoteFault::Boot(BootFault::Memory)) => f.write_str("out of memory"),
+            Failure::Mote(MoteFault::Run(RunFault::Read)) => f.write_str("read failed"),
+            Failure::Mote(MoteFault::Run(RunFault::Write)) => f.write_str("write failed"),
         }
     }
 }
 
-impl<T: Drop> From<AllocFailed<T>> for Failure<'_> {
-    ghost use Rattle.command_line.specs.declared.failure.Failure.TheVariants.{OutOfMemory};
+impl From<MoteFault> for Failure<'_> {
+    ghost use Rattle.command_line.specs.declared.failure.Failure.TheVariants.{Mote};
 
-    ghost from_gives = { λ _ failure. failure ≡ OutOfMemory };
+    ghost from_gives = { λ fault failure. failure ≡ Mote fault };
+
+    fn from(fault: MoteFault) -> Self {
+        Failure::Mote(fault)
+    }
+}
+
+impl From<BootFault> for Failure<'_> {
+    ghost use Rattle.command_line.specs.declared.failure.Failure.TheVariants.{Mote};
+    ghost use Rattle.mote_types.specs.declared.fault.MoteFault.TheVariants.{Boot};
+
+    ghost from_gives = { λ fault failure. failure ≡ Mote (Boot fault) };
+
+    fn from(fault: BootFault) -> Self {
+        Failure::Mote(MoteFault::Boot(fault))
+    }
+}
+
+impl From<RunFault> for Failure<'_> {
+    ghost use Rattle.command_line.specs.declared.failure.Failure.TheVariants.{Mote};
+    ghost use Rattle.mote_types.specs.declared.fault.MoteFault.TheVariants.{Run};
+
+    ghost from_gives = { λ fault failure. failure ≡ Mote (Run fault) };
+
+    fn from(fault: RunFault) -> Self {
+        Failure::Mote(MoteFault::Run(fault))
+    }
+}
+
+impl<T: Drop> From<AllocFailed<T>> for Failure<'_> {
+    ghost use Rattle.command_line.specs.Statuses.{out_of_memory};
+
+    ghost from_gives = { λ _ failure. failure ≡ out_of_memory };
 
     fn from(_error: AllocFailed<T>) -> Self {
-        Failure::OutOfMemory
+        Failure::from(BootFault::Memory)
     }
 }
 
 impl From<AllocError> for Failure<'_> {
-    ghost use Rattle.command_line.specs.declared.failure.Failure.TheVariants.{OutOfMemory};
+    ghost use Rattle.command_line.specs.Statuses.{out_of_memory};
 
-    ghost from_gives = { λ _ failure. failure ≡ OutOfMemory };
+    ghost from_gives = { λ _ failure. failure ≡ out_of_memory };
 
     fn from(_error: AllocError) -> Self {
-        Failure::OutOfMemory
+        Failure::from(BootFault::Memory)
     }
 }
 
@@ -100,7 +139,7 @@ impl<'a> From<Refusal<'a>> for Failure<'a> {
             Refusal::Words(text) => Failure::Words(text),
             Refusal::NoApplication(name) => Failure::NoApplication(name),
             Refusal::TooManyApplications => Failure::TooManyApplications,
-            Refusal::OutOfMemory => Failure::OutOfMemory,
+            Refusal::OutOfMemory => Failure::from(BootFault::Memory),
         }
     }
 }

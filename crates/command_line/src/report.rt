@@ -7,6 +7,7 @@ ghost use Rattle.command_line.specs.Statuses.{IsShown, IsStatusOf, status_of_fai
 use crate::failure::{Failure, status_of};
 use crate::program::Program;
 use mote_text::script::End;
+use mote_types::fault::RunFault;
 use std::fmt;
 use std::process::ExitCode;
 
@@ -31,10 +32,7 @@ impl Failure<'_> {
             | Failure::Words(_)
             | Failure::NoApplication(_)
             | Failure::TooManyApplications
-            | Failure::BadSizes
-            | Failure::OutOfMemory
-            | Failure::Read
-            | Failure::Write => Stream::Error,
+            | Failure::Mote(_) => Stream::Error,
         }
     }
 }
@@ -77,7 +75,7 @@ fn show<'a, R: Print>(rt: &R, outcome: Result<End, Failure<'a>>) -> Result<End, 
     ensures { IsShown outcome.entry result }
 {
     if let Err(Failure::Request(text)) = &outcome {
-        print!(rt; "{text}").map_err(|_| Failure::Write)?;
+        print!(rt; "{text}").map_err(|_| RunFault::Write)?;
     }
     outcome
 }

@@ -1,9 +1,11 @@
 //! The arguments.
 
 ghost use Rattle.std.specs.Prelude.{◌≡◌, ◌≢◌, map, string_bytes, IfOk, IfErr};
+ghost use Rattle.command_line.specs.Statuses.{out_of_memory};
 ghost use Rattle.command_line.specs.declared.failure.Failure.{Failure as Refused};
 
 use crate::failure::Failure;
+use mote_types::fault::BootFault;
 use std::alloc::Global;
 use std::{env, io};
 
@@ -11,10 +13,10 @@ use std::{env, io};
 ///
 /// # Errors
 ///
-/// `OutOfMemory` where memory was refused.
+/// `Memory` where memory was refused.
 pub fn texts_of<'a>(alloc: Global, words: &'a [String]) -> Result<Vec<&'a str>, Failure<'static>>
     ensures texts { IfOk result (λ texts. map (λ text. text.now) texts.items ≡ map string_bytes words.now) }
-    ensures failure { IfErr result (λ failure. failure ≡ Refused.OutOfMemory) }
+    ensures failure { IfErr result (λ failure. failure ≡ out_of_memory) }
 {
     let mut texts = Vec::new(alloc);
     for word in words {
@@ -27,12 +29,12 @@ pub fn texts_of<'a>(alloc: Global, words: &'a [String]) -> Result<Vec<&'a str>, 
 ///
 /// # Errors
 ///
-/// `OutOfMemory` where memory was refused, otherwise `NotText`.
+/// `Memory` where memory was refused, otherwise `NotText`.
 pub fn words_of<R: AllocGlobal + env::Env>(rt: &R) -> Result<Vec<String>, Failure<'static>>
-    ensures { IfErr result (λ failure. failure ≢ Refused.OutOfMemory → failure ≡ Refused.NotText) }
+    ensures { IfErr result (λ failure. failure ≢ out_of_memory → failure ≡ Refused.NotText) }
 {
     let arguments = env::args(rt).map_err(|error| match error.kind() {
-        io::ErrorKind::OutOfMemory => Failure::OutOfMemory,
+        io::ErrorKind::OutOfMemory => Failure::from(BootFault::Memory),
         _ => Failure::NotText,
     })?;
     let mut words = Vec::new(rt.alloc());

@@ -11,11 +11,10 @@ pub mod script;
 pub mod text_file;
 pub mod transcript;
 
-pub use mote_run::fault;
 pub use mote_text::script::read_number;
 pub use mote_types::app::App;
 pub use mote_types::{
-    FromName, chunk_of, number_line, push_bytes, push_decimal, push_latest, same_bytes,
+    FromName, chunk_of, fault, number_line, push_bytes, push_decimal, push_latest, same_bytes,
 };
 
 /// A list of boxes with these applications, which are processes 4, 5, .. in this order. Use it in a function that

@@ -9,11 +9,10 @@ ghost use Rattle.mote_run.specs.Code.Runs.{config_of};
 use crate::script::Script;
 use crate::transcript::Transcript;
 use mote_run::End;
-use mote_run::fault::MoteFault;
 pub use mote_run::mote::{DEFAULT_SIZES, Sizes, run_boxes};
 use mote_types::app::App;
 use mote_types::device::ByteSource;
-use mote_types::fault::DeviceFault;
+use mote_types::fault::{BootFault, DeviceFault, MoteFault};
 use std::alloc::Global;
 use std::marker::{Brand, PhantomData};
 
@@ -70,19 +69,19 @@ fn run_fixed<F: Fixed>(
     requires { script.now ≡ F.bytes }
     ensures text { IfOk result (λ ran.
         IsRunText (config_of sizes (length boxes.old)) (says_of says boxes.old) quiet script.now ran.transcript.items ran.end) }
-    ensures bad_sizes { IsErrOf result MoteFault.BadSizes ↔ (is_bootable (config_of sizes (length boxes.old)) ≡ false) }
-    ensures memory { IfErr result (λ fault. fault ≢ MoteFault.BadSizes → fault ≡ MoteFault.Memory) }
+    ensures bad_sizes { IsErrOf result (MoteFault.Boot BootFault.BadSizes) ↔ (is_bootable (config_of sizes (length boxes.old)) ≡ false) }
+    ensures memory { IfErr result (λ fault. fault ≢ MoteFault.Boot BootFault.BadSizes → fault ≡ MoteFault.Boot BootFault.Memory) }
 {
     let mut source = FixedScript::<F> {
         script: Script::new(script),
         of: PhantomData,
     };
     let mut sink = Transcript::new(alloc);
-    // Neither device fails except for lack of memory.
     let end = match run_boxes(alloc, sizes, boxes, &mut source, &mut sink, quiet) {
         Ok(end) => end,
-        Err(MoteFault::BadSizes) => return Err(MoteFault::BadSizes),
-        Err(_) => return Err(MoteFault::Memory),
+        Err(MoteFault::Boot(fault)) => return Err(MoteFault::Boot(fault)),
+        // Neither device fails except for lack of memory.
+        Err(MoteFault::Run(_)) => return Err(MoteFault::Boot(BootFault::Memory)),
     };
     Ok(Ran {
         end,
@@ -106,8 +105,8 @@ pub fn run_script(
 ) -> Result<Ran, MoteFault>
     ensures text { IfOk result (λ ran.
         IsRunText (config_of sizes (length boxes.old)) (says_of says boxes.old) quiet script.now ran.transcript.items ran.end) }
-    ensures bad_sizes { IsErrOf result MoteFault.BadSizes ↔ (is_bootable (config_of sizes (length boxes.old)) ≡ false) }
-    ensures memory { IfErr result (λ fault. fault ≢ MoteFault.BadSizes → fault ≡ MoteFault.Memory) }
+    ensures bad_sizes { IsErrOf result (MoteFault.Boot BootFault.BadSizes) ↔ (is_bootable (config_of sizes (length boxes.old)) ≡ false) }
+    ensures memory { IfErr result (λ fault. fault ≢ MoteFault.Boot BootFault.BadSizes → fault ≡ MoteFault.Boot BootFault.Memory) }
 {
     run_fixed::<Brand>(alloc, sizes, boxes, script, quiet)
 }

@@ -2,6 +2,7 @@
 use Rattle.std.proofs.Common.{◌≡◌, List, ◌∷◌, [], length, true, false, Some, codes, refl, arith}
 use Rattle.clap.specs.Walk.{Row}
 use Rattle.command_line.specs.CommandLine.{names_of}
+use Rattle.command_line.specs.Statuses.{bad_sizes}
 use Rattle.command_line.specs.declared.failure.Failure.{Failure}
 use Rattle.mote_picture.specs.declared.undrawn.Undrawn.{Undrawn}
 use Rattle.mote_picture.specs.Data.{has_no_opening, json_string}
@@ -35,10 +36,10 @@ no_line = refl
 bad_range : status_of (Undrawn.BadRange 9 5) ≡ 64
 bad_range = refl
 
-no_sizes : status_of (Undrawn.Program Failure.BadSizes) ≡ 64
+no_sizes : status_of (Undrawn.Program bad_sizes) ≡ 64
 no_sizes = refl
 
-sizes_reported : text_of (Undrawn.Program Failure.BadSizes) ≡ Some (codes "bad sizes")
+sizes_reported : text_of (Undrawn.Program bad_sizes) ≡ Some (codes "bad sizes")
 sizes_reported = refl
 
 -- the last line may have no end, and may be empty

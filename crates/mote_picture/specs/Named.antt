@@ -4,6 +4,8 @@ use Rattle.std.specs.List.{ends_with}
 use Rattle.clap.specs.Walk.{Row, Text, texts}
 use Rattle.command_line.specs.CommandLine.{names_of, sizes_of}
 use Rattle.command_line.specs.declared.failure.Failure.{Failure}
+use Rattle.mote_types.specs.declared.fault.BootFault.{BootFault}
+use Rattle.mote_types.specs.declared.fault.MoteFault.{MoteFault}
 use Rattle.node_memory.specs.Sizes.{are_sizes}
 use Rattle.node_memory.specs.declared.sizes.Sizes.{Sizes as MemorySizes}
 use Rattle.pictures.specs.declared.memory.Sizes.{Sizes}
@@ -27,8 +29,8 @@ pub record IsNamed (rows : List Row) (named : Named) : Type 0 where
 -- what a number of applications and these sizes may be refused with: each reason only where it holds
 abbrev pub MayRefuse : MemorySizes → ℕ → Failure → Type 0
 MayRefuse sizes applications Failure.TooManyApplications = 16 < applications
-MayRefuse sizes applications Failure.BadSizes = are_sizes sizes applications ≡ false
-MayRefuse sizes applications Failure.OutOfMemory = ⊤
+MayRefuse sizes applications (Failure.Mote (MoteFault.Boot BootFault.BadSizes)) = are_sizes sizes applications ≡ false
+MayRefuse sizes applications (Failure.Mote (MoteFault.Boot BootFault.Memory)) = ⊤
 MayRefuse sizes applications failure = ⊥
 
 -- clocks that go back

@@ -1,11 +1,11 @@
 -- The statuses that the program exits with, and what it tells.
 use Rattle.std.specs.Prelude.{◌≡◌, ℕ, List, ◌++◌, codes, decimal, Option, Some, Err}
+use Rattle.command_line.specs.Statuses as programs
 use Rattle.command_line.specs.Statuses.{IsStatusOf, failure_text, status_of_failure}
-use Rattle.command_line.specs.declared.failure.Failure.{Failure}
 use Rattle.mote_picture.specs.declared.undrawn.Undrawn.{Undrawn}
 
 abbrev pub out_of_memory : Undrawn
-out_of_memory = Undrawn.Program Failure.OutOfMemory
+out_of_memory = Undrawn.Program programs.out_of_memory
 
 -- 2 if the transcript is invalid, 64 if the arguments are, otherwise as for other programs
 abbrev pub status_of : Undrawn → ℕ

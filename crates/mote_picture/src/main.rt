@@ -5,7 +5,7 @@
 #![tactic(auto)]
 
 ghost use Rattle.std.specs.Prelude.{◌≡◌, IfErr};
-ghost use Rattle.command_line.specs.declared.failure.Failure.{Failure as Refused};
+ghost use Rattle.command_line.specs.Statuses.{out_of_memory};
 ghost use Rattle.mote_picture.specs.Named.{is_for_networks};
 ghost use Rattle.mote_picture.specs.Statuses.{IsReportedWith};
 
@@ -156,12 +156,12 @@ fn draw_or_report<R: AllocGlobal + io::Input + Print + Eprint>(rt: &R, words: &[
 ///
 /// # Errors
 ///
-/// `OutOfMemory` where memory was refused for the arguments.
+/// `Memory` where memory was refused for the arguments.
 fn work<R: AllocGlobal + io::Input + Print + Eprint>(
     rt: &R,
     words: &[String],
 ) -> Result<u8, Failure<'static>>
-    ensures { IfErr result (λ failure. failure ≡ Refused.OutOfMemory) }
+    ensures { IfErr result (λ failure. failure ≡ out_of_memory) }
 {
     let texts = texts_of(rt.alloc(), words)?;
     Ok(draw_or_report(rt, texts.as_slice()))

@@ -12,6 +12,7 @@ use crate::options::parse;
 use crate::undrawn::Undrawn;
 use clap::ArgMatches;
 use command_line::{Failure, MOST_APPLICATIONS, sizes_in};
+use mote_types::fault::BootFault;
 use pictures::memory::Sizes;
 use std::alloc::{AllocError, Global};
 
@@ -49,7 +50,7 @@ fn sizes_for(matches: &ArgMatches<'_>, applications: usize) -> Result<Sizes, Fai
     }
     let sizes = sizes_in(matches);
     if !sizes.are_allowed(applications as u8) {
-        return Err(Failure::BadSizes);
+        return Err(BootFault::BadSizes.into());
     }
     Ok(Sizes {
         managed: sizes.mmem,
@@ -107,7 +108,7 @@ fn named_by<'a>(alloc: Global, matches: &ArgMatches<'a>) -> Result<Named<'a>, Un
 /// # Errors
 ///
 /// What the parser finds in the arguments, then more than sixteen names, then invalid sizes, then a range that ends before it
-/// begins. `OutOfMemory` where memory was refused.
+/// begins. `Memory` where memory was refused.
 pub fn read_words<'a>(alloc: Global, words: &'a [&'a str]) -> Result<Named<'a>, Undrawn>
     ensures named { IfOk result IsFit }
     ensures refused { IfErr result IsOfWords }

@@ -94,7 +94,7 @@ fn report<R: Print + Eprint>(rt: &R, undrawn: Undrawn) -> u8 {
 ///
 /// # Errors
 ///
-/// `OutOfMemory` where memory was refused for the words.
+/// `Memory` where memory was refused for the words.
 fn work<R: AllocGlobal + io::Input + Print + Eprint>(
     rt: &R,
     words: &[String],

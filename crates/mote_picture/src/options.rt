@@ -69,7 +69,7 @@ fn command<'a>(alloc: Global, program: Program) -> Result<Command<'a>, AllocErro
 ///
 /// # Errors
 ///
-/// `Request` or `Words` with what the parser finds, or `OutOfMemory` where memory was refused.
+/// `Request` or `Words` with what the parser finds, or `Memory` where memory was refused.
 pub(crate) fn parse<'a>(
     alloc: Global,
     words: &'a [&'a str],

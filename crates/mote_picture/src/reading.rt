@@ -67,7 +67,7 @@ fn texts_of<'a>(alloc: Global, parts: &[&'a [u8]]) -> Result<Vec<&'a str>, Undra
 ///
 /// # Errors
 ///
-/// `NoLine` with the number of the first line that no transcript has, or `OutOfMemory` where memory was refused.
+/// `NoLine` with the number of the first line that no transcript has, or `Memory` where memory was refused.
 pub fn lines_of(alloc: Global, bytes: &[u8]) -> Result<Vec<&str>, Undrawn>
     ensures lines { IfOk result (λ lines. bytes_of lines.items ≡ spec.parts_of bytes.now) }
     ensures read { IfOk result (λ _. All IsLine (spec.parts_of bytes.now)) }

@@ -1,6 +1,7 @@
 //! Standard input and standard output, each as a whole.
 
 use command_line::Failure;
+use mote_types::fault::{BootFault, RunFault};
 use std::io;
 use std::io::{Read, Write};
 
@@ -10,8 +11,8 @@ pub(crate) fn read_all<R: AllocGlobal + io::Input>(rt: &R) -> Result<Vec<u8>, Fa
     let mut reader = rt.reader();
     match reader.read_to_end(&mut bytes) {
         Ok(_) => Ok(bytes),
-        Err(error) if error.kind() == io::ErrorKind::OutOfMemory => Err(Failure::OutOfMemory),
-        Err(_) => Err(Failure::Read),
+        Err(error) if error.kind() == io::ErrorKind::OutOfMemory => Err(BootFault::Memory.into()),
+        Err(_) => Err(RunFault::Read.into()),
     }
 }
 
@@ -20,6 +21,6 @@ pub(crate) fn write_all<R: Print>(rt: &R, bytes: &[u8]) -> Result<(), Failure<'s
     let mut writer = io::writer(rt);
     match writer.write_all(bytes) {
         Ok(()) => Ok(()),
-        Err(_) => Err(Failure::Write),
+        Err(_) => Err(RunFault::Write.into()),
     }
 }

@@ -11,7 +11,7 @@ pub use Rattle.mote_run.specs.Code.Reading.{CanBeFed, IsReady, ReadPart, ReadSoF
 pub use Rattle.mote_run.specs.Code.Way.{Follows, Goes, HasHeard, Moment, Went, end_at, end_of, moment}
 pub use Rattle.mote_run.specs.RunText.{Exchange, Exchanged, HasRead, HasRunTo, IsRunText, OfEachScript, OnWholeLines}
 pub use Rattle.mote_run.specs.Trace.{LawfulRun, ReadsNoFurther, RunPromise}
-pub use Rattle.mote_run.specs.declared.run.RunFault.{RunFault}
+pub use Rattle.mote_types.specs.declared.fault.RunFault.{RunFault}
 pub use Rattle.mote_run.specs.declared.script.Script.{Script}
 pub use Rattle.mote_text.proofs.Reading.{Gives, another_byte, line_of_input, line_of_no_form, line_of_nothing, line_too_long, script_limit_is, script_too_long, start}
 pub use Rattle.mote_text.specs.Code.Writing.{WritesOn}

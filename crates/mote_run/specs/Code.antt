@@ -1,5 +1,4 @@
 -- The code's invariants. Not needed to know what a run writes.
-pub mod Faults
 pub mod Lines
 pub mod LoopInvariant
 pub mod Reading

@@ -6,7 +6,7 @@ use Rattle.mote_types.specs.Entries.{is_halt}
 use Rattle.mote_text.specs.declared.script.End.{End}
 use Rattle.kernel_core.specs.declared.config.Config.{Config}
 use Rattle.kernel_core.specs.Laws.RunLaws.{KeepsLaws}
-use Rattle.mote_run.specs.declared.run.RunFault.{RunFault}
+use Rattle.mote_types.specs.declared.fault.RunFault.{RunFault}
 use Rattle.mote_run.specs.RunText.{Exchange, HasRunTo, IsRunText, OfEachScript, OnWholeLines}
 
 module _ (config : Config) (says : Applications) where

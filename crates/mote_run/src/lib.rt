@@ -1,7 +1,6 @@
 //! The run of a mote: script bytes in, transcript bytes out.
 #![tactic(auto)]
 
-pub mod fault;
 pub mod law;
 mod lines;
 pub mod mote;
@@ -14,3 +13,4 @@ mod script;
 mod take_script;
 
 pub use mote_text::script::End;
+pub use mote_types::fault;

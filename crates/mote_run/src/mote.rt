@@ -2,18 +2,19 @@
 
 ghost use Rattle.std.specs.Prelude.{◌≡◌, ◌<◌, ◌-◌, ◌^◌, ◌↔◌, false, length, IsErrOf};
 ghost use Rattle.mote_types.specs.Applications.{says_of};
+ghost use Rattle.mote_types.specs.declared.fault.RunFault.{RunFault};
 ghost use Rattle.kernel_core.specs.Machine.{is_bootable};
 ghost use Rattle.mote_run.specs.RunText.{Exchanged, HasRunTo};
 ghost use Rattle.mote_run.specs.Code.Runs.{OfRun, config_of};
 ghost use Rattle.mote_run.specs.Trace.{RunPromise};
 
-use crate::fault::MoteFault;
 use crate::run::run;
 use kernel_core::config::Config;
 use kernel_core::kernel::Kernel;
 use mote_text::script::End;
 use mote_types::app::App;
 use mote_types::device::{ByteSink, ByteSource};
+use mote_types::fault::{BootFault, MoteFault};
 pub use node_memory::Sizes;
 use std::alloc::Global;
 
@@ -48,16 +49,16 @@ pub fn run_boxes<S: ByteSource, K: ByteSink>(
     requires countable_writes { K.failure_count sink.old < 2 ^ 64 - 1 }
     ensures ran { S.is_named → K.is_named →
         Exchanged (S.taken source.old) (S.taken source.new) (S.is_ended source.new) (K.given sink.old) (K.given sink.new)
-        (HasRunTo (config_of sizes (length boxes.old)) (says_of says boxes.old) quiet MoteFault.Read result) }
+        (HasRunTo (config_of sizes (length boxes.old)) (says_of says boxes.old) quiet (MoteFault.Run RunFault.Read) result) }
     ensures promise { S.is_named → K.is_named → OfRun result (λ answer.
         Exchanged (S.taken source.old) (S.taken source.new) (S.is_ended source.new) (K.given sink.old) (K.given sink.new)
         (RunPromise (config_of sizes (length boxes.old)) (says_of says boxes.old) quiet answer)) }
-    ensures bad_sizes { IsErrOf result MoteFault.BadSizes ↔ (is_bootable (config_of sizes (length boxes.old)) ≡ false) }
-    ensures read_fault { IsErrOf result MoteFault.Read ↔ (S.failure_count source.old < S.failure_count source.new) }
-    ensures write_fault { IsErrOf result MoteFault.Write ↔ (K.failure_count sink.old < K.failure_count sink.new) }
+    ensures bad_sizes { IsErrOf result (MoteFault.Boot BootFault.BadSizes) ↔ (is_bootable (config_of sizes (length boxes.old)) ≡ false) }
+    ensures read_fault { IsErrOf result (MoteFault.Run RunFault.Read) ↔ (S.failure_count source.old < S.failure_count source.new) }
+    ensures write_fault { IsErrOf result (MoteFault.Run RunFault.Write) ↔ (K.failure_count sink.old < K.failure_count sink.new) }
 {
     let Ok(apps) = u8::try_from(boxes.len()) else {
-        return Err(MoteFault::BadSizes);
+        return Err(MoteFault::Boot(BootFault::BadSizes));
     };
     let config = Config {
         mmem: sizes.mmem,
@@ -69,8 +70,7 @@ pub fn run_boxes<S: ByteSource, K: ByteSink>(
     // No `?`: it would clear and copy the room of a kernel once more.
     let kernel = match Kernel::boot(alloc, config) {
         Ok(kernel) => kernel,
-        Err(fault) => return Err(MoteFault::from(fault)),
+        Err(fault) => return Err(MoteFault::Boot(fault)),
     };
-    let end = run(source, sink, kernel, boxes, quiet)?;
-    Ok(end)
+    run(source, sink, kernel, boxes, quiet).map_err(MoteFault::Run)
 }

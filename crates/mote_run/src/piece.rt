@@ -2,8 +2,8 @@
 
 ghost use Rattle.std.specs.Prelude.{◌≡◌, ◌<◌, ◌≤◌, ◌+◌, ◌-◌, ◌^◌, ◌++◌, ◌==◌, [], false, length, take, drop, IfErr, OnErr, OnOk};
 
-use crate::run::RunFault;
 use mote_types::device::ByteSource;
+use mote_types::fault::RunFault;
 use std::marker::Model;
 
 /// The most bytes that are read at once.

@@ -4,9 +4,9 @@ ghost use Rattle.std.specs.Prelude.{◌≡◌, ◌<◌, ◌≤◌, ◌+◌, ◌-
 ghost use Rattle.mote_text.specs.Code.Writing.{WritesIf, WritesOn};
 
 use crate::piece::Piece;
-use crate::run::RunFault;
 use mote_text::output_buffer::OutputBuffer;
 use mote_types::device::{ByteSink, ByteSource};
+use mote_types::fault::RunFault;
 
 /// If the piece is used up, writes all pending output, and reads the next piece, of at most `most` bytes. If the piece is empty
 /// then, the script has ended.

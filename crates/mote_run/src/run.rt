@@ -15,28 +15,7 @@ use kernel_core::kernel::Kernel;
 use mote_text::script::End;
 use mote_types::app::App;
 use mote_types::device::{ByteSink, ByteSource};
-use mote_types::fault::DeviceFault;
-use thiserror::Error;
-
-/// A device that failed during a run.
-#[derive(Clone, Copy, Debug, PartialEq, Eq, Drop, Error)]
-pub enum RunFault {
-    #[error("read failed")]
-    Read,
-    #[error("write failed")]
-    Write,
-}
-
-/// What `?` makes of a failed write. A failed read is named where the piece is read.
-impl From<DeviceFault> for RunFault {
-    ghost use Rattle.mote_run.specs.declared.run.RunFault.TheVariants.{Write};
-
-    ghost from_gives = { λ _ fault. fault ≡ Write };
-
-    fn from(_fault: DeviceFault) -> Self {
-        RunFault::Write
-    }
-}
+pub use mote_types::fault::RunFault;
 
 /// Runs the applications over a script: reads it in pieces of at most 4,096 bytes, feeds each line's input to the mote, and
 /// writes the text of the run; if `quiet` is true, only the lines of a quiet transcript. All pending output is written

@@ -13,13 +13,13 @@ ghost use Rattle.mote_run.specs.Code.Reading.{IsReady, ReadSoFar};
 ghost use Rattle.mote_run.specs.Code.Way.{Moment, Went, end_at, moment};
 
 use crate::refill::refill;
-use crate::run::RunFault;
 use crate::running_mote::RunningMote;
 use crate::script::{LIMIT, Script};
 use kernel_core::kernel::Kernel;
 use mote_text::script::{BadLine, End};
 use mote_types::app::App;
 use mote_types::device::{ByteSink, ByteSource};
+use mote_types::fault::RunFault;
 
 /// The end of a run whose script has ended.
 fn end_of(kernel: &Kernel) -> End

@@ -9,12 +9,15 @@ use Rattle.mote_run.specs.RunText.{Exchanged}
 use Rattle.mote_shell.proofs.NamedRuns.{ran_nothing}
 use Rattle.command_line.specs.CommandLine as of_words
 use Rattle.mote_shell.specs.NamedRuns.{HasRunAs, HasRunNamed, IsAnswer, IsOutcome, Refuses, config_of}
-use Rattle.command_line.specs.Statuses.{failure_in_words}
+use Rattle.command_line.specs.Statuses.{failure_in_words, out_of_memory}
 use Rattle.command_line.specs.declared.failure.Failure.{Failure}
 use Rattle.command_line.specs.declared.named.Named.{Named}
 use Rattle.command_line.specs.declared.refusal.Refusal.{Refusal}
 use Rattle.mote_text.specs.declared.script.End.{End}
 use Rattle.mote_types.specs.Applications.{Says, says_of}
+use Rattle.mote_types.specs.declared.fault.BootFault.{BootFault}
+use Rattle.mote_types.specs.declared.fault.MoteFault.{MoteFault}
+use Rattle.mote_types.specs.declared.fault.RunFault.{RunFault}
 
 -- what a runner returns, once it has named what the arguments name
 module _ {A : Type 0} (by_name : List ℕ → Option A) (others : A → Says) (words : List (List ℕ)) where
@@ -32,10 +35,10 @@ module _ {A : Type 0} (by_name : List ℕ → Option A) (others : A → Says) (w
   allowed : (result : Result End Failure) → of_words.NamesApplications by_name words
       → IsAnswer (config_of (of_words.named_in by_name words)) result → IsOutcome by_name words result
   allowed (Ok end) names bootable = record { applications = names; bootable = bootable }
-  allowed (Err Failure.Read) names bootable = record { applications = names; bootable = bootable }
-  allowed (Err Failure.Write) names bootable = inl (record { applications = names; bootable = bootable })
-  allowed (Err Failure.BadSizes) names bad = (names, bad)
-  allowed (Err Failure.OutOfMemory) names anything = tt
+  allowed (Err (Failure.Mote (MoteFault.Run RunFault.Read))) names bootable = record { applications = names; bootable = bootable }
+  allowed (Err (Failure.Mote (MoteFault.Run RunFault.Write))) names bootable = inl (record { applications = names; bootable = bootable })
+  allowed (Err (Failure.Mote (MoteFault.Boot BootFault.BadSizes))) names bad = (names, bad)
+  allowed (Err (Failure.Mote (MoteFault.Boot BootFault.Memory))) names anything = tt
   allowed (Err failure) names never = absurd never
 
   pub outcome_of_words : {B : Type 0} {says : B → Says} (named : Named A) (lent : List B) (result : Result End Failure)
@@ -57,7 +60,7 @@ module _ {A : Type 0} (by_name : List ℕ → Option A) (others : A → Says) (w
     nothing_named refusal (Err failure) refused is =
         rw is (ran_nothing by_name others words (failure_in_words refusal) (refused_as refusal refused))
 
-    pub no_memory : (result : Result End Failure) → IsErrAnd result (λ failure. failure ≡ Failure.OutOfMemory)
+    pub no_memory : (result : Result End Failure) → IsErrAnd result (λ failure. failure ≡ out_of_memory)
         → Exchanged taken taken is_ended given given (HasRunNamed by_name others words result)
     no_memory (Ok end) is = absurd is
-    no_memory (Err failure) is = rw is (ran_nothing by_name others words Failure.OutOfMemory tt)
+    no_memory (Err failure) is = rw is (ran_nothing by_name others words out_of_memory tt)

@@ -1,20 +1,19 @@
 -- Examples: the named configuration, and the outcomes that arguments may have.
-use Rattle.std.proofs.Common.{◌≡◌, ◌⊎◌, ◌∙◌, ℕ, List, true, false, map, refl, subst, ap, arith, inl, inr, Option, Some, None, Result, Ok, Err, ◌∷◌, []}
+use Rattle.std.proofs.Common.{◌≡◌, ◌⊎◌, ◌∙◌, ℕ, List, true, false, refl, subst, ap, arith, inl, inr, Option, Some, None, Result, Ok, Err, []}
 use denote.Ref.{Bor}
 use Rattle.kernel_core.specs.Machine.{is_bootable}
 use Rattle.kernel_core.specs.declared.config.Config.{Config}
 use Rattle.mote_run.specs.RunText.{Exchange, HasRunTo}
 use Rattle.mote_run.specs.Trace.{RunPromise}
-use Rattle.mote_run.specs.declared.fault.MoteFault.{MoteFault}
-use Rattle.mote_run.specs.declared.run.RunFault.{RunFault}
 use Rattle.command_line.specs.CommandLine.{AsksForText, NamesApplications, named_in}
-use Rattle.mote_shell.specs.NamedRuns.{HasRunNamed, IsAnswer, IsOutcome, IsStatusFor, NamesMote, Refuses, config_of, failure_in_mote}
-use Rattle.command_line.specs.Statuses.{status_of_outcome}
+use Rattle.mote_shell.specs.NamedRuns.{HasRunNamed, IsAnswer, IsOutcome, IsStatusFor, NamesMote, Refuses, config_of}
+use Rattle.command_line.specs.Statuses.{bad_sizes, read_failed, status_of_outcome, write_failed}
 use Rattle.command_line.specs.declared.failure.Failure.{Failure}
 use Rattle.command_line.specs.declared.named.Named.{Named}
 use Rattle.command_line.specs.declared.refusal.ParserText.{ParserText}
 use Rattle.mote_text.specs.declared.script.End.{End}
 use Rattle.mote_types.specs.Applications.{Says, says_of}
+use Rattle.mote_types.specs.declared.fault.RunFault.{RunFault}
 
 small : config_of {A = ℕ}
     (record { applications = record { items = [] }; sizes = record { mmem = 64; heap = 128; header = 8; quota = None }; quiet = true })
@@ -31,18 +30,18 @@ module _ {A : Type 0} (by_name : List ℕ → Option A) (words : List (List ℕ)
   ran : (end : End) → IsOutcome by_name words (Ok end) → NamesMote by_name words
   ran end is = is
 
-  ran_where_reading_failed : IsOutcome by_name words (Err Failure.Read) → NamesMote by_name words
+  ran_where_reading_failed : IsOutcome by_name words (Err read_failed) → NamesMote by_name words
   ran_where_reading_failed is = is
 
-  ran_where_writing_failed : IsOutcome by_name words (Err Failure.Write) → (AsksForText words → ⊥) → NamesMote by_name words
+  ran_where_writing_failed : IsOutcome by_name words (Err write_failed) → (AsksForText words → ⊥) → NamesMote by_name words
   ran_where_writing_failed (inl is) asks = is
   ran_where_writing_failed (inr text) asks = absurd (asks text)
 
-  bad_sizes : IsOutcome by_name words (Err Failure.BadSizes) → NamesMote by_name words → ⊥
-  bad_sizes is names = let bad = is.1 in let good = names.bootable in absurd (cc)
+  with_bad_sizes : IsOutcome by_name words (Err bad_sizes) → NamesMote by_name words → ⊥
+  with_bad_sizes is names = let bad = is.1 in let good = names.bootable in absurd (cc)
 
-  bad_sizes_of_applications : Refuses by_name words Failure.BadSizes → NamesApplications by_name words
-  bad_sizes_of_applications refused = refused.0
+  with_bad_sizes_of_applications : Refuses by_name words bad_sizes → NamesApplications by_name words
+  with_bad_sizes_of_applications refused = refused.0
 
   no_application : (name : Bor (List ℕ)) → IsOutcome by_name words (Err (Failure.NoApplication name)) → NamesMote by_name words → ⊥
   no_application name is names = let unknown = is.1 in let known = names.applications.known in absurd (cc)
@@ -51,7 +50,7 @@ module _ {A : Type 0} (by_name : List ℕ → Option A) (words : List (List ℕ)
   too_many_applications is names = let many = is.1.1 in let few = names.applications.few in absurd (omega (arith, many, few))
 
   -- a malformed argument is reported before the arguments are read
-  other_failures : Refuses by_name words Failure.NotText ⊎ (Refuses by_name words Failure.Read ⊎ Refuses by_name words Failure.Write) → ⊥
+  other_failures : Refuses by_name words Failure.NotText ⊎ (Refuses by_name words read_failed ⊎ Refuses by_name words write_failed) → ⊥
   other_failures refused = grind arith
 
   -- the status is that of what was done
@@ -92,15 +91,11 @@ module _ {A : Type 0} (by_name : List ℕ → Option A) (says : A → Says) (wor
     keeps_the_promise : (end : End) → Has (Ok end) → Keeps (Ok end)
     keeps_the_promise end has = has.promise names
 
-    keeps_it_where_a_device_failed : (Has (Err Failure.Read) → Keeps (Err RunFault.Read))
-        × (Has (Err Failure.Write) → Keeps (Err RunFault.Write))
+    keeps_it_where_a_device_failed : (Has (Err read_failed) → Keeps (Err RunFault.Read))
+        × (Has (Err write_failed) → Keeps (Err RunFault.Write))
     keeps_it_where_a_device_failed = (λ has. has.promise names, λ has. has.promise names)
 
   -- what was written is the text of such a run
   is_of_what_is_named : (outcome : Result End Failure) → Has outcome
-      → HasRunTo (config_of asked) (says_of says asked.applications.items) asked.quiet Failure.Read outcome exchange
+      → HasRunTo (config_of asked) (says_of says asked.applications.items) asked.quiet read_failed outcome exchange
   is_of_what_is_named outcome has = has.ran
-
-mote_failed : map failure_in_mote (MoteFault.BadSizes ∷ MoteFault.Memory ∷ MoteFault.Read ∷ MoteFault.Write ∷ [])
-    ≡ Failure.BadSizes ∷ Failure.OutOfMemory ∷ Failure.Read ∷ Failure.Write ∷ []
-mote_failed = refl

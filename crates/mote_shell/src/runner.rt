@@ -5,11 +5,10 @@ ghost use Rattle.mote_types.specs.Applications.{says_of};
 ghost use Rattle.mote_run.specs.RunText.{Exchanged};
 ghost use Rattle.mote_run.specs.Code.Runs.{config_of};
 ghost use Rattle.command_line.specs.CommandLine.{texts};
-ghost use Rattle.command_line.specs.declared.failure.Failure.{Failure as Refused};
-ghost use Rattle.mote_shell.specs.NamedRuns.{HasRunAs, HasRunNamed, IsAnswer, IsOutcome, failure_in_mote};
+ghost use Rattle.command_line.specs.Statuses.{read_failed, write_failed};
+ghost use Rattle.mote_shell.specs.NamedRuns.{HasRunAs, HasRunNamed, IsAnswer, IsOutcome};
 
 use command_line::{Failure, Program};
-use mote_run::fault::MoteFault;
 use mote_run::mote::{Sizes, run_boxes};
 use mote_text::script::End;
 use mote_types::FromName;
@@ -27,7 +26,7 @@ pub trait Runner<T: FromName> {
     /// # Errors
     ///
     /// First those of `read_words`: what the parser finds, an unknown name, too many names. Then `BadSizes`. Nothing is read or
-    /// written then. `Read` and `Write` exactly where that device failed; `OutOfMemory` where memory was refused. What was written
+    /// written then. `Read` and `Write` exactly where that device failed; `Memory` where memory was refused. What was written
     /// is a prefix of the text then, and after `Read` all of the text of the whole lines that were read.
     fn run_words<'a, S: ByteSource, K: ByteSink>(
         alloc: Global,
@@ -43,20 +42,8 @@ pub trait Runner<T: FromName> {
         ensures run { S.is_named → K.is_named →
             Exchanged (S.taken source.old) (S.taken source.new) (S.is_ended source.new) (K.given sink.old) (K.given sink.new)
             (HasRunNamed T.by_name T.says (texts words.now) result) }
-        ensures read_fault { IsErrOf result Refused.Read ↔ (S.failure_count source.old < S.failure_count source.new) }
-        ensures write_fault { IsErrOf result Refused.Write ↔ (K.failure_count sink.old < K.failure_count sink.new) };
-}
-
-/// What a program reports of a run that failed.
-fn failure_of<'a>(fault: MoteFault) -> Failure<'a>
-    ensures { result ≡ failure_in_mote fault }
-{
-    match fault {
-        MoteFault::BadSizes => Failure::BadSizes,
-        MoteFault::Memory => Failure::OutOfMemory,
-        MoteFault::Read => Failure::Read,
-        MoteFault::Write => Failure::Write,
-    }
+        ensures read_fault { IsErrOf result read_failed ↔ (S.failure_count source.old < S.failure_count source.new) }
+        ensures write_fault { IsErrOf result write_failed ↔ (K.failure_count sink.old < K.failure_count sink.new) };
 }
 
 /// Runs the applications in the boxes on a mote of these sizes, from a source to a sink, as `run_boxes` does, with all that it
@@ -64,7 +51,7 @@ fn failure_of<'a>(fault: MoteFault) -> Failure<'a>
 ///
 /// # Errors
 ///
-/// `BadSizes`, `Read` and `Write` as `run_boxes`, otherwise `OutOfMemory`.
+/// Those of `run_boxes`.
 pub fn run_boxed<'a, S: ByteSource, K: ByteSink>(
     alloc: Global,
     sizes: Sizes,
@@ -80,11 +67,8 @@ pub fn run_boxed<'a, S: ByteSource, K: ByteSink>(
     ensures run { S.is_named → K.is_named →
         Exchanged (S.taken source.old) (S.taken source.new) (S.is_ended source.new) (K.given sink.old) (K.given sink.new)
         (HasRunAs (config_of sizes (length boxes.old)) (says_of says boxes.old) quiet result) }
-    ensures read_fault { IsErrOf result Refused.Read ↔ (S.failure_count source.old < S.failure_count source.new) }
-    ensures write_fault { IsErrOf result Refused.Write ↔ (K.failure_count sink.old < K.failure_count sink.new) }
+    ensures read_fault { IsErrOf result read_failed ↔ (S.failure_count source.old < S.failure_count source.new) }
+    ensures write_fault { IsErrOf result write_failed ↔ (K.failure_count sink.old < K.failure_count sink.new) }
 {
-    match run_boxes(alloc, sizes, boxes, source, sink, quiet) {
-        Ok(end) => Ok(end),
-        Err(fault) => Err(failure_of(fault)),
-    }
+    Ok(run_boxes(alloc, sizes, boxes, source, sink, quiet)?)
 }

@@ -2,7 +2,7 @@
 
 ghost use Rattle.std.specs.Prelude.{◌≡◌, ◌<◌, ◌-◌, ◌^◌, ⊤, false, map, string_bytes, IfOk, IfErr};
 ghost use Rattle.mote_run.specs.RunText.{Exchanged};
-ghost use Rattle.command_line.specs.declared.failure.Failure.{Failure as Refused};
+ghost use Rattle.command_line.specs.Statuses.{out_of_memory};
 ghost use Rattle.mote_shell.specs.NamedRuns.{HasRunNamed, IsStatusFor};
 
 use crate::runner::Runner;
@@ -17,7 +17,7 @@ use std::io;
 ///
 /// # Errors
 ///
-/// `OutOfMemory` where memory was refused for the arguments.
+/// `Memory` where memory was refused for the arguments.
 pub fn run_to_status<
     T: FromName,
     P: Runner<T>,
@@ -37,7 +37,7 @@ pub fn run_to_status<
     ensures status { IfOk result (IsStatusFor T.by_name (map string_bytes words.now) (λ outcome. S.is_named → K.is_named →
         Exchanged (S.taken source.old) (S.taken source.new) (S.is_ended source.new) (K.given sink.old) (K.given sink.new)
         (HasRunNamed T.by_name T.says (map string_bytes words.now) outcome))) }
-    ensures failure { IfErr result (λ failure. failure ≡ Refused.OutOfMemory) }
+    ensures failure { IfErr result (λ failure. failure ≡ out_of_memory) }
 {
     let texts = texts_of(rt.alloc(), words)?;
     let outcome = P::run_words(rt.alloc(), program, texts.as_slice(), source, sink);
@@ -49,14 +49,14 @@ pub fn run_to_status<
 ///
 /// # Errors
 ///
-/// `OutOfMemory` where memory was refused for the arguments.
+/// `Memory` where memory was refused for the arguments.
 pub fn work<T: FromName, P: Runner<T>, R: AllocGlobal + io::Input + Print + Eprint>(
     rt: &R,
     program: Program,
     words: &[String],
 ) -> Result<u8, Failure<'static>>
     ensures status { IfOk result (IsStatusFor T.by_name (map string_bytes words.now) (λ _. ⊤)) }
-    ensures failure { IfErr result (λ failure. failure ≡ Refused.OutOfMemory) }
+    ensures failure { IfErr result (λ failure. failure ≡ out_of_memory) }
 {
     let mut source = Input::new(rt.reader());
     let mut sink = Output::new(io::writer(rt));

@@ -11,6 +11,7 @@ mod run;
 use command_line::{Failure, exit_code, finish, texts_of, words_of};
 use mote_session::refusal::SessionRefusal;
 use mote_text::script::SCRIPT_LIMIT;
+use mote_types::fault::{BootFault, RunFault};
 use network_run::fault::NetworkRunFault;
 use network_session::fault::NetworkFault;
 use network_setup::fault::SetUpRunFault;
@@ -26,15 +27,15 @@ fn read_all<R: AllocGlobal + io::Input>(rt: &R) -> Result<Vec<u8>, Failure<'stat
     let mut reader = rt.reader().take(SCRIPT_LIMIT as u64 + 1);
     match reader.read_to_end(&mut bytes) {
         Ok(_) => Ok(bytes),
-        Err(error) if error.kind() == io::ErrorKind::OutOfMemory => Err(Failure::OutOfMemory),
-        Err(_) => Err(Failure::Read),
+        Err(error) if error.kind() == io::ErrorKind::OutOfMemory => Err(BootFault::Memory.into()),
+        Err(_) => Err(RunFault::Read.into()),
     }
 }
 
 /// Reports why a network's run failed, and returns the status that the program exits with.
 fn report_run<R: Print + Eprint>(rt: &R, fault: NetworkRunFault) -> u8 {
     match fault {
-        NetworkRunFault::Write => finish(rt, PROGRAM, Err(Failure::Write)),
+        NetworkRunFault::Write => finish(rt, PROGRAM, Err(RunFault::Write.into())),
         NetworkRunFault::Refused(
             NetworkFault::TooLong | NetworkFault::Refused(SessionRefusal::TooManyInputs),
         ) => {
@@ -61,7 +62,7 @@ fn report_no_mote<R: Eprint>(rt: &R, wish: Wish) -> u8 {
 fn run_to_status<R: AllocGlobal + Print + Eprint>(rt: &R, wish: Wish, script: &[u8]) -> u8 {
     match carry_out(rt.alloc(), script, wish, io::writer(rt)) {
         Ok(end) => finish(rt, PROGRAM, Ok(end)),
-        Err(SetUpRunFault::Memory) => finish(rt, PROGRAM, Err(Failure::OutOfMemory)),
+        Err(SetUpRunFault::Memory) => finish(rt, PROGRAM, Err(BootFault::Memory.into())),
         Err(SetUpRunFault::NoMote) => report_no_mote(rt, wish),
         Err(SetUpRunFault::BadLink) => report_broken(rt),
         Err(SetUpRunFault::Run(fault)) => report_run(rt, fault),
@@ -82,7 +83,7 @@ fn run_words<R: AllocGlobal + io::Input + Print + Eprint>(
 ///
 /// # Errors
 ///
-/// `OutOfMemory` where memory ran out for the words.
+/// `Memory` where memory ran out for the words.
 fn work<R: AllocGlobal + io::Input + Print + Eprint>(
     rt: &R,
     words: &[String],

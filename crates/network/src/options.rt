@@ -93,7 +93,7 @@ fn parse<'a>(alloc: Global, words: &'a [&'a str]) -> Result<ArgMatches<'a>, Fail
 ///
 /// # Errors
 ///
-/// `Request` or `Words` with what the parser finds, or `OutOfMemory` where memory ran out.
+/// `Request` or `Words` with what the parser finds, or `Memory` where memory ran out.
 pub(crate) fn wish_of(alloc: Global, words: &[&str]) -> Result<Wish, Failure<'static>> {
     let matches = parse(alloc, words)?;
     Ok(Wish {

@@ -16,6 +16,7 @@ mod writing;
 
 use command_line::{Failure, exit_code, finish, texts_of, words_of};
 use files::ScenarioFile;
+use mote_types::fault::{BootFault, RunFault};
 use options::{PROGRAM, Wish, parse};
 use std::io;
 use std::process::ExitCode;
@@ -89,8 +90,8 @@ fn run_words<R: AllocGlobal + Files + Print + Eprint>(
     let paths = matches.get_strs("FILE").unwrap_or(&[]);
     match run_files(rt, paths, Wish::of(&matches, paths.len())) {
         Ok(status) => Ok(status),
-        Err(error) if error.kind() == io::ErrorKind::OutOfMemory => Err(Failure::OutOfMemory),
-        Err(_) => Err(Failure::Write),
+        Err(error) if error.kind() == io::ErrorKind::OutOfMemory => Err(BootFault::Memory.into()),
+        Err(_) => Err(RunFault::Write.into()),
     }
 }
 
@@ -98,7 +99,7 @@ fn run_words<R: AllocGlobal + Files + Print + Eprint>(
 ///
 /// # Errors
 ///
-/// `OutOfMemory` where memory was refused for the arguments.
+/// `Memory` where memory was refused for the arguments.
 fn work<R: AllocGlobal + Files + Print + Eprint>(
     rt: &R,
     words: &[String],

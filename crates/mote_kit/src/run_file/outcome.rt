@@ -2,7 +2,7 @@
 
 ghost use Rattle.std.specs.Prelude.{◌≡◌, ◌<◌, ◌-◌, ◌^◌, false, IfOk};
 
-use crate::fault::MoteFault;
+use crate::fault::{BootFault, MoteFault};
 use crate::mote::run_boxes;
 use crate::run_file::written_run::WrittenRun;
 use crate::script::Script;
@@ -99,7 +99,7 @@ pub fn run_mote(
         .failing_at(reads.saturating_add(2));
     match run_boxes(alloc, run.sizes(), boxes, &mut source, sink, run.is_quiet()) {
         Ok(end) => Ok(RunEnd::Ended(end)),
-        Err(MoteFault::Memory) => Err(AllocError),
+        Err(MoteFault::Boot(BootFault::Memory)) => Err(AllocError),
         Err(fault) => Ok(RunEnd::Failed(fault)),
     }
 }

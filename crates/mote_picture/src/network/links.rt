@@ -176,7 +176,7 @@ impl Links {
 ///
 /// # Errors
 ///
-/// `BadScript` with the number of the first line that has no links where it should, or `OutOfMemory` where memory was refused.
+/// `BadScript` with the number of the first line that has no links where it should, or `Memory` where memory was refused.
 pub(crate) fn read_links(alloc: Global, script: &[&[u8]]) -> Result<Vec<Link>, Undrawn> {
     let mut links = Links {
         links: Vec::new(alloc),

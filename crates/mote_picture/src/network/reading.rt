@@ -41,7 +41,7 @@ fn line_of(bytes: &[u8]) -> Option<(&str, NetworkLine<'_>)> {
 ///
 /// # Errors
 ///
-/// `BadScript` and `NoLine` with the number of the first malformed line, or `OutOfMemory` where memory was refused.
+/// `BadScript` and `NoLine` with the number of the first malformed line, or `Memory` where memory was refused.
 pub(crate) fn read_run(alloc: Global, bytes: &[u8]) -> Result<Run<'_>, Undrawn> {
     let parts = parts_of(alloc, bytes)?;
     let end = script_end(parts.as_slice()).min(parts.len());

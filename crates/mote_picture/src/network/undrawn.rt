@@ -1,6 +1,7 @@
 //! Why the program writes nothing.
 
 use command_line::Failure;
+use mote_types::fault::BootFault;
 use pictures::network::CaptureFault;
 use std::alloc::{AllocError, AllocFailed};
 use std::fmt;
@@ -72,7 +73,7 @@ impl From<CaptureFault> for Undrawn {
     fn from(fault: CaptureFault) -> Self {
         match fault {
             CaptureFault::Late => Undrawn::Late,
-            CaptureFault::Memory => Undrawn::Program(Failure::OutOfMemory),
+            CaptureFault::Memory => Undrawn::Program(Failure::from(BootFault::Memory)),
         }
     }
 }

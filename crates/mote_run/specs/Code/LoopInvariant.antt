@@ -3,7 +3,7 @@ use Rattle.std.specs.Prelude.{◌≡◌, ◌≢◌, ◌≤◌, ℕ, Bool, true, 
 use Rattle.mote_types.specs.declared.entry.Input.{Input}
 use Rattle.mote_text.specs.Script.{inputs, read_lines, whole_lines}
 use Rattle.mote_text.specs.declared.script.End.{End}
-use Rattle.mote_run.specs.declared.run.RunFault.{RunFault}
+use Rattle.mote_types.specs.declared.fault.RunFault.{RunFault}
 use Rattle.mote_run.specs.declared.script.Script.{Script}
 use Rattle.mote_run.specs.Code.Reading.{ReadSoFar}
 use Rattle.mote_run.specs.Code.Way.{Follows, Moment, Went}

@@ -1,9 +1,9 @@
 -- Whole runs of a mote.
 use Rattle.std.specs.Prelude.{⊤, ℕ, Result, Ok, Err}
 use Rattle.kernel_core.specs.declared.config.Config.{Config}
-use Rattle.mote_run.specs.declared.fault.MoteFault.{MoteFault}
-use Rattle.mote_run.specs.declared.run.RunFault.{RunFault}
 use Rattle.mote_text.specs.declared.script.End.{End}
+use Rattle.mote_types.specs.declared.fault.MoteFault.{MoteFault}
+use Rattle.mote_types.specs.declared.fault.RunFault.{RunFault}
 use Rattle.node_memory.specs.declared.sizes.Sizes.{Sizes}
 
 -- a mote of these sizes with this number of applications
@@ -14,7 +14,5 @@ config_of sizes applications =
 -- this holds of the result of `run`, where the mote was run
 abbrev pub OfRun : Result End MoteFault → (Result End RunFault → Type 0) → Type 0
 OfRun (Ok end) P = P (Ok end)
-OfRun (Err MoteFault.Read) P = P (Err RunFault.Read)
-OfRun (Err MoteFault.Write) P = P (Err RunFault.Write)
-OfRun (Err MoteFault.BadSizes) P = ⊤
-OfRun (Err MoteFault.Memory) P = ⊤
+OfRun (Err (MoteFault.Run fault)) P = P (Err fault)
+OfRun (Err (MoteFault.Boot fault)) P = ⊤

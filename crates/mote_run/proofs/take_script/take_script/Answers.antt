@@ -1,4 +1,4 @@
-use Rattle.std.proofs.Common.{rules, ◌≤◌, ◌+◌, ◌-◌, ◌∙◌, ℕ, refl, sym, arith, true, false, []}
+use Rattle.std.proofs.Common.{rules, ◌≤◌, ◌+◌, ◌-◌, ◌∙◌, ℕ, refl, sym, arith, []}
 use Rattle.std.proofs.lemmas.List.{nil_from_length}
 use Rattle.mote_run.proofs.Common.{append-nil, End, inputs, start}
 use Rattle.mote_run.proofs.Pieces.{not_read}
