@@ -31,7 +31,7 @@ NAMED = re.compile(r"^pub ((?:type|use) [^;]+);", re.M)
 NAME = re.compile(r"(?:fn|enum|struct|type) (\w+)")
 TRAIT = re.compile(r"^pub trait (\w+)", re.M)
 MODULE = re.compile(r"^(pub )?mod (\w+);", re.M)
-COMMENT_OR_ATTRIBUTE = re.compile(r"//.*|^\s*#\[.*\]$", re.M)
+COMMENT_OR_ATTRIBUTE = re.compile(r"//.*|^\s*#\[.*\]$|#\[from\] ", re.M)
 
 
 class Row(NamedTuple):
