@@ -20,7 +20,6 @@ use Rattle.network_run.specs.Outside.{Outside, all_outside}
 use Rattle.network_run.proofs.Ready.{aired_clock, each_with}
 use Rattle.network_run.proofs.Lengths.{leads_length}
 use Rattle.network_run.proofs.OutsideMoves.{outside_is}
-use Rattle.network_steps.proofs.Going.{none_more}
 use Rattle.network_steps.specs.Works.{inputs_of, is_behind}
 use Rattle.network_steps.proofs.GivenInputs.{not_given}
 use Rattle.network_steps.specs.Code.Turns.{times_of}
@@ -59,10 +58,7 @@ is_rest_then Outcome.Clock h = absurd (cc)
 is_rest_then (Outcome.Missed from to) h = absurd (cc)
 is_rest_then Outcome.Exhausted h = absurd (cc)
 is_rest_then (Outcome.Started m) h = absurd (cc)
-is_rest_then (Outcome.Turn m) h = absurd (cc)
-is_rest_then (Outcome.Entry m) h = absurd (cc)
-is_rest_then (Outcome.Rested m) h = absurd (cc)
-is_rest_then (Outcome.Halted m) h = absurd (cc)
+is_rest_then (Outcome.Worked m next) h = absurd (cc)
 is_rest_then (Outcome.Woken m) h = absurd (cc)
 is_rest_then (Outcome.Heard m) h = absurd (cc)
 
@@ -126,10 +122,7 @@ module _ (m : ℕ) (old new : NetworkView) (caught : IsCaught m old) where
 
 pub step_caught : (m : ℕ) (x : Outcome) (old new : NetworkView) → IsCaught m old → DoesStep x old new → IsCaught m new
 step_caught m (Outcome.Started k) old new caught does = rw does.steps (record { up = caught.up; on_time = caught.on_time })
-step_caught m (Outcome.Turn k) old new caught does = caught_worked m old new caught Next.Turn k does.steps
-step_caught m (Outcome.Entry k) old new caught does = caught_worked m old new caught Next.Entry k does.steps
-step_caught m (Outcome.Rested k) old new caught does = caught_worked m old new caught Next.Rest k does.steps
-step_caught m (Outcome.Halted k) old new caught does = caught_worked m old new caught Next.Halted k does.steps
+step_caught m (Outcome.Worked k next) old new caught does = caught_worked m old new caught next k does.steps
 step_caught m (Outcome.Woken k) old new caught does = caught_told m old new caught k does.steps
 step_caught m (Outcome.Heard k) old new caught does =
     let s = does.steps in
@@ -208,6 +201,10 @@ fit_still w moves old new own leads fit = record {
   outside = fit.outside;
   caught = caught_still w.mote moves old new own leads fit.caught;
 }
+
+none_more : (inputs : List NetworkInput) (input : NetworkInput) → inputs ++ input ∷ [] ≡ [] → ⊥
+none_more [] input e = absurd (cc)
+none_more (first ∷ inputs) input e = absurd (cc)
 
 -- what waits still is what waited
 fit_by : (inputs : List NetworkInput) (moves : List Move) (waiting left : Option Waiting) (old new : NetworkView) → inputs_of moves ≡ inputs →

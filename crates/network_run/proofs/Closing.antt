@@ -1,5 +1,5 @@
 -- How a run is closed.
-use Rattle.std.proofs.Common.{◌≡◌, ◌+◌, ℕ, Bool, true, false, List, [], ◌++◌, refl, ap, sym, subst, ◌∙◌, length, Result, Ok, Err, Option, None, Some, IfSome, IsErrAnd}
+use Rattle.std.proofs.Common.{◌≡◌, ℕ, Bool, true, false, List, [], ◌++◌, refl, ap, sym, subst, ◌∙◌, length, Result, Ok, Err, Option, None, Some, IfSome, IsErrAnd}
 use Rattle.kernel_core.specs.declared.config.Config.{Config}
 use Rattle.medium_core.specs.declared.link.Link.{Link}
 use Rattle.mote_text.specs.declared.script.End.{End}

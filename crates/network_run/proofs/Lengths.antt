@@ -15,10 +15,7 @@ motes_of net = length net.motes
 
 step_length : (x : Outcome) (old new : NetworkView) → Steps x old new → length new.motes ≡ length old.motes
 step_length (Outcome.Started m) old new s = ap motes_of s
-step_length (Outcome.Turn m) old new s = same_length old.motes m s.worked.after new.motes s.worked.others
-step_length (Outcome.Entry m) old new s = same_length old.motes m s.worked.after new.motes s.worked.others
-step_length (Outcome.Rested m) old new s = same_length old.motes m s.worked.after new.motes s.worked.others
-step_length (Outcome.Halted m) old new s = same_length old.motes m s.worked.after new.motes s.worked.others
+step_length (Outcome.Worked m next) old new s = same_length old.motes m s.worked.after new.motes s.worked.others
 step_length (Outcome.Woken m) old new s = same_length old.motes m s.told.after new.motes s.told.others
 step_length (Outcome.Heard m) old new s = same_length old.motes m s.handed.after new.motes s.handed.others
 step_length (Outcome.Missed from to) old new s = ap motes_of s

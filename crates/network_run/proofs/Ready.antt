@@ -93,16 +93,16 @@ motes_of : {old new : NetworkView} → new ≡ old → new.motes ≡ old.motes
 motes_of same = ap (λ (v : NetworkView). v.motes) same
 
 step_awaits : (x : Outcome) (old new : NetworkView) → AwaitsAtWork old → DoesStep x old new → is_turn_step x ≡ false → AwaitsNone new
-step_awaits (Outcome.Turn m) old new awaits does no_turn = absurd (cc)
+step_awaits (Outcome.Worked m Next.Turn) old new awaits does no_turn = absurd (cc)
 step_awaits (Outcome.Started m) old new awaits does no_turn =
     same_await old new (none_awaits old awaits (none_at_work old.active does.work)) (ap (λ (v : NetworkView). v.motes) does.steps)
-step_awaits (Outcome.Entry m) old new awaits does no_turn =
+step_awaits (Outcome.Worked m Next.Entry) old new awaits does no_turn =
     let w = does.steps.worked in
     with_await old new m w.before w.after w.mote w.others w.advances.closed (at_work_alone old m awaits does.steps.was_active)
-step_awaits (Outcome.Rested m) old new awaits does no_turn =
+step_awaits (Outcome.Worked m Next.Rest) old new awaits does no_turn =
     let w = does.steps.worked in
     with_await old new m w.before w.after w.mote w.others w.advances.closed (at_work_alone old m awaits does.steps.was_active)
-step_awaits (Outcome.Halted m) old new awaits does no_turn =
+step_awaits (Outcome.Worked m Next.Halted) old new awaits does no_turn =
     let w = does.steps.worked in
     with_await old new m w.before w.after w.mote w.others w.advances.closed (at_work_alone old m awaits does.steps.was_active)
 step_awaits (Outcome.Woken m) old new awaits does no_turn =
@@ -150,11 +150,11 @@ turn_awaits m old new awaits w =
 
 awaits_by : (b : Bool) (move : Move) (old : NetworkView) → AwaitsAtWork old → IsMove old move → is_turn move ≡ b → AwaitsAtWork (after_move move)
 awaits_by false move old awaits is no_turn = λ m mote there apart. move_awaits move old awaits is no_turn m mote there
-awaits_by true (Move.Step (Outcome.Turn m) new) old awaits is turn = turn_awaits m old new awaits is.steps
+awaits_by true (Move.Step (Outcome.Worked m Next.Turn) new) old awaits is turn = turn_awaits m old new awaits is.steps
 awaits_by true (Move.Step (Outcome.Started m) new) old awaits is turn = absurd (cc)
-awaits_by true (Move.Step (Outcome.Entry m) new) old awaits is turn = absurd (cc)
-awaits_by true (Move.Step (Outcome.Rested m) new) old awaits is turn = absurd (cc)
-awaits_by true (Move.Step (Outcome.Halted m) new) old awaits is turn = absurd (cc)
+awaits_by true (Move.Step (Outcome.Worked m Next.Entry) new) old awaits is turn = absurd (cc)
+awaits_by true (Move.Step (Outcome.Worked m Next.Rest) new) old awaits is turn = absurd (cc)
+awaits_by true (Move.Step (Outcome.Worked m Next.Halted) new) old awaits is turn = absurd (cc)
 awaits_by true (Move.Step (Outcome.Woken m) new) old awaits is turn = absurd (cc)
 awaits_by true (Move.Step (Outcome.Heard m) new) old awaits is turn = absurd (cc)
 awaits_by true (Move.Step (Outcome.Missed from to) new) old awaits is turn = absurd (cc)
@@ -264,10 +264,7 @@ step_ready (Outcome.Started m) old new ready does =
       still_started old new m (started_is old m (does.due idle)) does.steps idle ready.still,
       rw does.steps ready.within,
     )
-step_ready (Outcome.Turn m) old new ready does = worked_ready Next.Turn m old new ready does.steps
-step_ready (Outcome.Entry m) old new ready does = worked_ready Next.Entry m old new ready does.steps
-step_ready (Outcome.Rested m) old new ready does = worked_ready Next.Rest m old new ready does.steps
-step_ready (Outcome.Halted m) old new ready does = worked_ready Next.Halted m old new ready does.steps
+step_ready (Outcome.Worked m next) old new ready does = worked_ready next m old new ready does.steps
 step_ready (Outcome.Woken m) old new ready does = told_ready m old new ready (none_at_work old.active does.work) does.steps
 step_ready (Outcome.Heard m) old new ready does =
     let idle = none_at_work old.active does.work in
@@ -362,10 +359,7 @@ move_ready move old ready is =
 
 step_target : (x : Outcome) (old new : NetworkView) → Steps x old new → new.target ≡ old.target
 step_target (Outcome.Started m) old new s = ap (λ (v : NetworkView). v.target) s
-step_target (Outcome.Turn m) old new s = ap (λ (v : NetworkView). v.target) s.result
-step_target (Outcome.Entry m) old new s = ap (λ (v : NetworkView). v.target) s.result
-step_target (Outcome.Rested m) old new s = ap (λ (v : NetworkView). v.target) s.result
-step_target (Outcome.Halted m) old new s = ap (λ (v : NetworkView). v.target) s.result
+step_target (Outcome.Worked m next) old new s = ap (λ (v : NetworkView). v.target) s.result
 step_target (Outcome.Woken m) old new s = ap (λ (v : NetworkView). v.target) s.result
 step_target (Outcome.Heard m) old new s = ap (λ (v : NetworkView). v.target) s.result
 step_target (Outcome.Missed from to) old new s = ap (λ (v : NetworkView). v.target) s

@@ -224,10 +224,7 @@ module _ (net : NetworkView) (ready : IsReady net) (none : AwaitsNone net) (with
   outcome_refused (Outcome.Heard m) fault idle due why =
       heard_refused m fault (arrival net.air) (slice_get net.motes m) refl refl idle due (heard_due_by net m due) why
   outcome_refused (Outcome.Started m) fault idle due why = absurd (cc)
-  outcome_refused (Outcome.Turn m) fault idle due why = absurd (cc)
-  outcome_refused (Outcome.Entry m) fault idle due why = absurd (cc)
-  outcome_refused (Outcome.Rested m) fault idle due why = absurd (cc)
-  outcome_refused (Outcome.Halted m) fault idle due why = absurd (cc)
+  outcome_refused (Outcome.Worked m next) fault idle due why = absurd (cc)
   outcome_refused (Outcome.Missed from to) fault idle due why = absurd (cc)
   outcome_refused Outcome.Clock fault idle due why = absurd (cc)
   outcome_refused Outcome.Rest fault idle due why = absurd (cc)

@@ -5,11 +5,11 @@ use Rattle.network_session.specs.Network.{NetworkView}
 use Rattle.mote_types.specs.declared.entry.Input.{Input}
 use Rattle.network_session.specs.Refusals.{feed_refusal, step_refusal}
 use Rattle.network_session.specs.declared.fault.NetworkFault.{NetworkFault}
-use Rattle.network_steps.specs.Code.Going.{GoesBy, PassesBy, RefusesLeft, StopsBy}
+use Rattle.network_steps.specs.Code.Going.{GoesBy, PassesBy, StopsBy}
 use Rattle.network_steps.specs.Code.Turns.{is_end, is_open}
 use Rattle.network_steps.specs.NetworkRuns.{is_halted_in}
 use Rattle.network_steps.specs.StepsView.{StepsView}
-use Rattle.network_steps.specs.Works.{came_lines, phase_after}
+use Rattle.network_steps.specs.Works.{RefusesInput, came_lines, phase_after}
 use Rattle.network_steps.specs.declared.came.Came.{Came}
 use Rattle.network_steps.specs.declared.came.Phase.{Phase}
 use Rattle.network_steps.specs.declared.came.Waiting.{Waiting}
@@ -89,7 +89,7 @@ module _ (quiet : Bool) where
   pub passes_further : {outside : List Outside} {old new : StepsView} {given due : List ℕ} {voices later : Voices} {from : Moment} →
       Stopped quiet outside (outside_waiting old.waiting) due from (moment given due old.net voices) → PassesBy old new voices later →
       Stopped quiet outside (outside_waiting new.waiting) due from (moment given due new.net later)
-  passes_further so_far p = stopped_on quiet so_far (went_silently quiet p.way)
+  passes_further so_far p = stopped_on quiet so_far (went_silently quiet p.way p.calls)
 
   -- nothing follows
   pub takes_end : {outside : List Outside} {old new : StepsView} {given due : List ℕ} {voices later : Voices} {from : Moment} (came : Came) (rests : Bool) →
@@ -127,14 +127,14 @@ module _ (quiet : Bool) where
   fed_refusal m input net fault up is = let same : m + 1 - 1 ≡ m = omega arith in rw (same, up) is
 
   -- the network refuses its next step, or the input that waits
-  refuses_left : (cause : NetworkFault) (left : Option Waiting) (net : NetworkView) → (step_refusal net ≡ Some cause) ⊎ RefusesLeft left net cause →
+  refuses_left : (cause : NetworkFault) (left : Option Waiting) (net : NetworkView) → (step_refusal net ≡ Some cause) ⊎ RefusesInput left net cause →
       Refuses net (outside_waiting left) cause
   refuses_left cause left net (inl step) = inl step
   refuses_left cause None net (inr none) = absurd none
   refuses_left cause (Some w) net (inr input) = inr (input.0, fed_refusal w.mote w.input net cause input.1 input.2)
 
   too_much : (cause : NetworkFault) (left : Option Waiting) (net : NetworkView) → IsReady net → AwaitsNone net → IsWithin net → IsFitIf left net →
-      (step_refusal net ≡ Some cause) ⊎ RefusesLeft left net cause → IsTooMuch cause
+      (step_refusal net ≡ Some cause) ⊎ RefusesInput left net cause → IsTooMuch cause
   too_much cause left net ready none within fit (inl step) = step_refused net ready none within cause step
   too_much cause None net ready none within fit (inr refuses) = absurd refuses
   too_much cause (Some w) net ready none within fit (inr input) =
@@ -146,7 +146,7 @@ module _ (quiet : Bool) where
       (IsReady from.net → IsFitIf old.waiting old.net) → Faulted quiet outside (NetworkRunFault.Refused cause) from (moment given due new later)
   stops_at {outside} {old} {new} {given} {due} {voices} {spoken} {later} {from} cause so_far s fit =
       let all = stopped_on quiet so_far
-      (went_silently quiet s.way) in
+      (went_silently quiet s.way s.calls) in
       record {
         left = outside_waiting s.left;
         why = refuses_left cause s.left new s.refuses;

@@ -16,6 +16,7 @@ use Rattle.network_session.specs.Happenings.{Happening, entry_of}
 use Rattle.network_session.specs.Logs.{happened, heard_by, made, told_by}
 use Rattle.network_session.specs.Network.{NetworkView}
 use Rattle.network_session.specs.Steps.{Steps}
+use Rattle.mote_session.specs.declared.session.Next.{Next}
 use Rattle.network_session.specs.declared.outcome.Outcome.{Outcome}
 use Rattle.network_session.proofs.Working.{there_after}
 use Rattle.network_steps.specs.Code.Calls.{Speak, Speaks}
@@ -109,7 +110,7 @@ module _ (voices : Voices) (i : ℕ) (es : List Entry) (answers : AnswersAs (voi
   made_other false m e test untold = rw test answers
 
   answers_step : (x : Outcome) (old new : NetworkView) → Steps x old new → AnswersAs (voices i) (entries_of i (happened x old new) ++ es)
-  answers_step (Outcome.Entry m) old new s =
+  answers_step (Outcome.Worked m Next.Entry) old new s =
       let w = s.worked in
       let there : slice_get new.motes m ≡ Some w.after = there_after m old.motes new.motes w.before w.after w.mote w.others in
       rw (there, w.advances.last) (made_other (m == i) m w.advances.entry refl w.advances.untold)
@@ -118,9 +119,9 @@ module _ (voices : Voices) (i : ℕ) (es : List Entry) (answers : AnswersAs (voi
   answers_step (Outcome.Missed from to) old new s = answers
   answers_step Outcome.Clock old new s = answers
   answers_step (Outcome.Started m) old new s = answers
-  answers_step (Outcome.Turn m) old new s = answers
-  answers_step (Outcome.Rested m) old new s = answers
-  answers_step (Outcome.Halted m) old new s = answers
+  answers_step (Outcome.Worked m Next.Turn) old new s = answers
+  answers_step (Outcome.Worked m Next.Rest) old new s = answers
+  answers_step (Outcome.Worked m Next.Halted) old new s = answers
   answers_step Outcome.Rest old new s = answers
   answers_step Outcome.Exhausted old new s = answers
 

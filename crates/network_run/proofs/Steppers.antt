@@ -1,37 +1,39 @@
 -- What a network that reports what happens keeps from its start on, and what it refuses then.
-use Rattle.std.proofs.Common.{◌≡◌, ◌⊎◌, ℕ, zero, suc, ◌+◌, ◌<◌, ◌≤◌, List, [], ◌∷◌, ◌++◌, length, slice_get, refl, ap, sym, subst, ◌∙◌, arith, Bool, true, false, not, Option, Some, None, is_none, is_some, nat_lt, if◌then◌else◌, inl, inr}
+use Rattle.std.proofs.Common.{◌≡◌, ◌⊎◌, ℕ, zero, suc, ◌<◌, List, [], ◌∷◌, length, slice_get, refl, ap, sym, subst, ◌∙◌, arith, Bool, true, false, not, Option, Some, None, is_some, if◌then◌else◌, inl, inr}
 use Rattle.std.proofs.lemmas.Bool.Decides.{nat_tests}
 use Rattle.kernel_core.specs.Machine.{Machine, booted}
 use Rattle.kernel_core.specs.declared.config.Config.{Config}
 use Rattle.medium_core.specs.declared.link.Link.{Link}
 use Rattle.mote_session.specs.SessionView.{AwaitedCall, SessionView}
+use Rattle.mote_session.specs.Voices.{Voices}
 use Rattle.mote_session.specs.declared.refusal.SessionRefusal.{SessionRefusal}
 use Rattle.mote_types.specs.declared.call.Call.{Call}
 use Rattle.mote_types.specs.declared.entry.Input.{Input}
-use Rattle.network_session.proofs.Timely.{fed_clock}
 use Rattle.network_session.specs.Network.{NetworkView}
-use Rattle.network_session.specs.Refusals.{feed_refusal, pass_refusal, step_refusal, work_refusal}
+use Rattle.network_session.specs.Refusals.{pass_refusal, step_refusal, work_refusal}
 use Rattle.network_session.specs.Steps.{IsNetworkSubmitted}
 use Rattle.network_session.specs.declared.fault.NetworkFault.{NetworkFault}
-use Rattle.network_run.proofs.Caught.{caught_on_time, caught_told, caught_with, fit_on, rest_time, step_caught, told_caught, untold_on_time}
-use Rattle.network_run.proofs.Lengths.{leads_length, same_length}
+use Rattle.network_run.proofs.Caught.{fit_on, on_time_by, told_caught, untold_on_time}
+use Rattle.network_run.proofs.Lengths.{same_length}
 use Rattle.network_run.proofs.Ready.{leads_ready, move_ready, move_within, none_awaits, start_ready}
 use Rattle.network_run.proofs.Refused.{fed_refused, pass_far, step_refused}
 use Rattle.network_run.proofs.Submitting.{no_fault}
-use Rattle.network_run.proofs.Ways.{later_none, leads_within, no_tick}
-use Rattle.network_run.specs.Code.Ready.{IsCaught, IsCaughtAtRest, IsFit, IsFitIf, IsFromOutside, IsReady, IsWithin}
+use Rattle.network_run.proofs.Ways.{leads_within}
+use Rattle.network_run.specs.Code.Ready.{IsFit, IsFitIf, IsFromOutside, IsReady, IsWithin}
 use Rattle.network_run.specs.NetworkRunText.{IsAtStart, IsTooMuch}
-use Rattle.network_run.specs.Stepper.{AwaitsOrIsFull, IsForRunning, IsReadyStepper, NoneWaits}
-use Rattle.network_steps.specs.NetworkRuns.{HandsInput, IsResting, Leads, Move, is_halted_in}
+use Rattle.network_run.specs.Stepper.{AwaitsOrIsFull, IsReadyStepper, NoneWaits}
+use Rattle.network_steps.proofs.Going.{refused_by}
+use Rattle.network_steps.specs.Code.Going.{StepsBy, StopsBy}
+use Rattle.network_steps.specs.NetworkRuns.{IsResting, Move}
 use Rattle.network_steps.specs.Refusals as steps
-use Rattle.network_steps.specs.Refusals.{fault_if, fault_of, is_fresh, is_from_outside, link_refusal, outside_refusal, tick_refusal, told_refusal, unrest, unrest_in, awaited_turn}
+use Rattle.network_steps.specs.Refusals.{fault_of, is_fresh, is_from_outside, link_refusal, tick_refusal, unrest, unrest_in, awaited_turn}
 use Rattle.network_steps.specs.StepsView.{StepsView, opened_net, opened_steps, steps_over}
-use Rattle.network_steps.specs.Works.{GoesNext, IsCame, IsRefused, RefusesInput, TakesFeed, TakesLink, TakesTicks, inputs_of, inputs_waiting, is_behind, phase_after}
+use Rattle.network_steps.specs.Works.{GoesNext, IsCame, IsRefused, MovesSilently, RefusesInput, TakesFeed, TakesLink, TakesTicks, inputs_waiting, is_behind, phase_after}
 use Rattle.network_steps.specs.declared.came.Came.{Came}
 use Rattle.network_steps.specs.declared.came.Phase.{Phase}
+use Rattle.network_steps.specs.declared.came.Sending.{Sending}
 use Rattle.network_steps.specs.declared.came.Waiting.{Waiting}
 use Rattle.network_steps.specs.declared.fault.StepsFault.{StepsFault}
-use Rattle.network_steps.specs.declared.input.NetworkInput.{NetworkInput}
 
 -- ---- what is accepted, and when
 
@@ -107,6 +109,35 @@ next_stepper came old new s goes = record {
   fit = fit_on goes.moves old.waiting new.waiting old.net new.net goes.inputs goes.untold goes.leads s.fit;
   waits = subst (λ (p : Phase). NoneWaits p new) (sym goes.phase) (next_waits came new goes.is_came);
 }
+
+-- silent moves
+silent_ready : (old new : NetworkView) (waiting left : Option Waiting) → IsReady old → IsWithin old → IsFitIf waiting old → MovesSilently old new waiting left →
+    IsReady new × IsWithin new × IsFitIf left new
+silent_ready old new waiting left ready within fit w = (
+  leads_ready w.moves old new ready w.leads,
+  leads_within w.moves old new (inputs_waiting left) waiting w.inputs w.leads within,
+  fit_on w.moves waiting left old new w.inputs w.untold w.leads fit,
+)
+
+pub step_stepper : (came : Option Came) (old new : StepsView) (before after : Voices) → IsReadyStepper old → StepsBy came old new before after → IsReadyStepper new
+step_stepper (Some came) old new before after s goes = next_stepper came old new s goes.goes
+step_stepper None old new before after s passes =
+    let silent = silent_ready old.net new.net old.waiting new.waiting s.ready s.within s.fit passes.way in
+    record { ready = silent.0; within = silent.1; fit = silent.2; waits = rw passes.works tt }
+
+-- what became of a frame is reported, or forgotten
+same_waits : (p : Phase) (old : StepsView) (sending : Option Sending) → NoneWaits p old → NoneWaits p (record old { sending = sending })
+same_waits Phase.Fresh old sending none = none
+same_waits Phase.Resting old sending rest = rest
+same_waits Phase.Working old sending none = tt
+same_waits Phase.Exhausted old sending none = tt
+
+pub losses_stepper : (old : StepsView) (last : Came) (sending : Option Sending) → IsReadyStepper old →
+    IsReadyStepper (record old { sending = sending }) × IsReadyStepper (record old { last = last; sending = sending; phase = Phase.Working })
+losses_stepper old last sending s = (
+  record { ready = s.ready; within = s.within; fit = s.fit; waits = same_waits old.phase old sending s.waits },
+  record { ready = s.ready; within = s.within; fit = s.fit; waits = tt },
+)
 
 unlike : (o : Option ℕ) (m : ℕ) → o ≡ None → o ≡ Some m → ⊥
 unlike o m none some = absurd (cc)
@@ -230,77 +261,28 @@ step_by net ready within cause why = by_active net.active refl
     by_active (Some m) e = work_by (slice_get net.motes m) cause (rw e at why)
     by_active None e = full cause (step_refused net ready (none_awaits net ready.awaits e) within cause why)
 
--- a mote that got the time keeps it with each input
-hand_caught : (m k : ℕ) (input : Input) (old new : NetworkView) → IsCaught m old → HandsInput k input old new → IsCaught m new
-hand_caught m k input old new caught hands =
-    let s = hands.fed in
-    let h = s.handed in
-    let clock = ap (λ (x : Machine). x.clock) h.fed.machine ∙ fed_clock input h.before.machine in
-    caught_with m old new caught k h.before h.after h.mote h.others (ap (λ (v : NetworkView). v.air.clock) s.result) (ap (λ (v : NetworkView). v.target) s.result)
-    (λ same. omega (arith, clock, s.timeless, same))
+-- the input that is left is for a mote that has got the time
+left_refused : (left : Option Waiting) (net : NetworkView) (cause : NetworkFault) → IsReady net → IsWithin net → IsFitIf left net →
+    RefusesInput left net cause → IsTooMuch cause
+left_refused None net cause ready within fit refuses = absurd refuses
+left_refused (Some w) net cause ready within fit refuses =
+    fed_refused net ready (none_awaits net ready.awaits refuses.0.idle) within w.mote w.input cause refuses.0 fit.outside fit.there
+    (on_time_by w.mote net fit.caught) refuses.1 refuses.2
 
-inputs_caught : (m : ℕ) (moves : List Move) (old new : NetworkView) (later : List NetworkInput) (waiting : Option Waiting) → IsCaught m old →
-    inputs_of moves ++ later ≡ inputs_waiting waiting → Leads old moves new → IsCaught m new
-inputs_caught m [] old new later waiting caught e leads = subst (IsCaught m) leads caught
-inputs_caught m (Move.Step x mid ∷ moves) old new later waiting caught e leads =
-    inputs_caught m moves mid new later waiting (step_caught m x old mid caught leads.0) e leads.1
-inputs_caught m (Move.Submit call mid ∷ moves) old new later waiting caught e leads =
-    let s = leads.0 in
-    let h = s.submitted in
-    inputs_caught m moves mid new later waiting
-    (caught_with m old mid caught s.m h.before h.after h.mote h.others (ap (λ (v : NetworkView). v.air.clock) s.result) (ap (λ (v : NetworkView). v.target) s.result)
-    (λ same. h.same.1 ∙ same)) e leads.1
-inputs_caught m (Move.Tick ticks mid ∷ moves) old new later waiting caught e leads = absurd (no_tick ticks _ waiting e)
-inputs_caught m (Move.Tell k mid ∷ moves) old new later waiting caught e leads =
-    inputs_caught m moves mid new later waiting (caught_told m old mid caught k leads.0.told) e leads.1
-inputs_caught m (Move.Hand k input mid ∷ moves) old new later waiting caught e leads =
-    inputs_caught m moves mid new later None (hand_caught m k input old mid caught leads.0) (later_none _ _ waiting e) leads.1
-inputs_caught m (Move.Miss k input mid ∷ moves) old new later waiting caught e leads =
-    inputs_caught m moves mid new later None (rw leads.0.result caught) (later_none _ _ waiting e) leads.1
+pub input_refused : (s : StepsView) (cause : NetworkFault) → IsReadyStepper s → RefusesInput s.waiting s.net cause → IsTooMuch cause
+input_refused s cause ready refuses = left_refused s.waiting s.net cause ready.ready ready.within ready.fit refuses
 
-caught_now : (m : ℕ) (net : NetworkView) → IsReady net → is_halted_in (slice_get net.motes m) ≡ false → IsCaughtAtRest m net → IsCaught m net
-caught_now m net ready up (inl caught) = caught
-caught_now m net ready up (inr rest) = record {
-  up = rest_time net rest.0.due;
-  on_time = λ mote there.
-      let running : mote.machine.is_halted ≡ false = rw there at up in
-      let late = rest.1 mote there running in
-      let low = (ready.time m mote there).not_ahead in
-      let high : net.air.clock ≤ mote.machine.clock = grind (arith, nat_tests) in omega (arith, low, high);
-}
+either_refused : (left : Option Waiting) (net : NetworkView) (cause : NetworkFault) → IsReady net → IsWithin net → IsFitIf left net →
+    (step_refusal net ≡ Some cause) ⊎ RefusesInput left net cause → AwaitsOrIsFull (fault_of cause)
+either_refused left net cause ready within fit (inl step) = step_by net ready within cause step
+either_refused left net cause ready within fit (inr input) = full cause (left_refused left net cause ready within fit input)
 
-pub input_stepper : (net : NetworkView) (w : Waiting) (cause : NetworkFault) → IsReady net → IsWithin net → IsResting net → w.mote < length net.motes →
-    IsFromOutside w.input → IsCaught w.mote net → is_halted_in (slice_get net.motes w.mote) ≡ false → feed_refusal w.mote w.input net ≡ Some cause →
-    IsTooMuch cause
-input_stepper net w cause ready within rests there outside caught up why =
-    fed_refused net ready (none_awaits net ready.awaits rests.idle) within w.mote w.input cause rests outside there (caught_on_time w.mote net caught) up why
+pub next_refused : (s : StepsView) (fault : StepsFault) (new : NetworkView) → IsReadyStepper s → IsRefused fault s.net s.waiting new → AwaitsOrIsFull fault
+next_refused s fault new ready is =
+    let w = is.way in
+    let silent = silent_ready s.net new s.waiting is.left ready.ready ready.within ready.fit w in
+    subst AwaitsOrIsFull (sym is.reported) (either_refused is.left new is.cause silent.0 silent.1 silent.2 is.refuses)
 
-pub waiting_stepper : (s : StepsView) (w : Waiting) (cause : NetworkFault) → IsReadyStepper s → s.waiting ≡ Some w → IsResting s.net →
-    IsForRunning s.waiting s.net → feed_refusal w.mote w.input s.net ≡ Some cause → IsTooMuch cause
-waiting_stepper s w cause ready waits rests up why =
-    let fit : IsFit w s.net = subst (λ (o : Option Waiting). IsFitIf o s.net) waits ready.fit in
-    let runs : is_halted_in (slice_get s.net.motes w.mote) ≡ false = subst (λ (o : Option Waiting). IsForRunning o s.net) waits up in
-    input_stepper s.net w cause ready.ready ready.within rests fit.there fit.outside (caught_now w.mote s.net ready.ready runs fit.caught) runs why
-
-module _ (old new : NetworkView) (moves : List Move) (left : List NetworkInput) (cause : NetworkFault) (before : IsReady old) (ready : IsReady new)
-    (within : IsWithin new) (leads : Leads old moves new) where
-  input_by : (waiting : Option Waiting) → IsFitIf waiting old → IsForRunning waiting old → IsForRunning waiting new →
-      inputs_of moves ++ left ≡ inputs_waiting waiting → RefusesInput waiting new cause → AwaitsOrIsFull (fault_of cause)
-  input_by None fit up runs inputs refuses = absurd refuses
-  input_by (Some w) fit up runs inputs refuses =
-      let caught = inputs_caught w.mote moves old new left (Some w) (caught_now w.mote old before up fit.caught) inputs leads in
-      let there : w.mote < length new.motes = rw (leads_length moves old new leads) fit.there in
-      full cause (input_stepper new w cause ready within refuses.0 there fit.outside caught runs refuses.1)
-
-  refused_by : (waiting : Option Waiting) → IsFitIf waiting old → IsForRunning waiting old → IsForRunning waiting new →
-      inputs_of moves ++ left ≡ inputs_waiting waiting → (step_refusal new ≡ Some cause) ⊎ RefusesInput waiting new cause → AwaitsOrIsFull (fault_of cause)
-  refused_by waiting fit up runs inputs (inl step) = step_by new ready within cause step
-  refused_by waiting fit up runs inputs (inr input) = input_by waiting fit up runs inputs input
-
-pub next_refused : (s : StepsView) (fault : StepsFault) (new : NetworkView) → IsReadyStepper s → IsRefused fault s.net s.waiting new →
-    IsForRunning s.waiting s.net → IsForRunning s.waiting new → AwaitsOrIsFull fault
-next_refused s fault new ready is up runs =
-    let within = leads_within is.moves s.net new is.left s.waiting is.inputs is.leads ready.within in
-    subst AwaitsOrIsFull (sym is.reported)
-    (refused_by s.net new is.moves is.left is.cause ready.ready (leads_ready is.moves s.net new ready.ready is.leads) within is.leads
-    s.waiting ready.fit up runs is.inputs is.refuses)
+pub stops_refused : (s : StepsView) (cause : NetworkFault) (new : NetworkView) (before after : Voices) → IsReadyStepper s → StopsBy cause s new before after →
+    AwaitsOrIsFull (fault_of cause)
+stops_refused s cause new before after ready stops = next_refused s (fault_of cause) new ready (refused_by stops)

@@ -7,7 +7,7 @@ use Rattle.std.proofs.lemmas.List.Elements.{filter_map-append}
 use Rattle.mote_text.specs.Code.Writing.{WritesOn}
 use Rattle.network_run.specs.declared.fault.NetworkRunFault.{NetworkRunFault}
 use Rattle.network_steps.specs.Code.Calls.{Speak, Speaks}
-use Rattle.network_steps.specs.Code.Going.{GoesBy, MovesSilently}
+use Rattle.network_steps.specs.Code.Going.{GoesBy}
 use Rattle.network_steps.specs.Code.Turns.{ends_open, is_open, is_turn, times_of}
 use Rattle.mote_session.specs.Voices.{Voices}
 use Rattle.network_run.specs.Code.Ready.{IsRefusedOf, IsWithin, StaysWithin}
@@ -17,7 +17,7 @@ use Rattle.network_run.specs.Outside.{Outside, all_outside, outside_of}
 use Rattle.network_steps.specs.NetworkRuns.{IsMove, Leads, Move, after_move, move_lines, moves_text}
 use Rattle.network_steps.specs.Lines.{shown_line, shown_losses}
 use Rattle.network_steps.specs.StepsView.{StepsView}
-use Rattle.network_steps.specs.Works.{came_lines, inputs_of, inputs_waiting}
+use Rattle.network_steps.specs.Works.{MovesSilently, came_lines, inputs_of, inputs_waiting}
 use Rattle.network_steps.specs.declared.came.Came.{Came}
 use Rattle.network_steps.specs.declared.came.Sending.{Sending}
 use Rattle.network_steps.specs.declared.came.Waiting.{Waiting}
@@ -98,10 +98,10 @@ module _ (quiet : Bool) where
 
   -- and none is reported
   pub went_silently : {old new : NetworkView} {waiting left : Option Waiting} {given due : List ℕ} {voices later : Voices} →
-      MovesSilently old new waiting left voices later →
+      (w : MovesSilently old new waiting left) → Speak old w.moves voices later →
       Stopped quiet (outside_waiting waiting) (outside_waiting left) due (moment given due old voices) (moment given due new later)
-  went_silently {old} {new} {waiting} {left} {given} {due} w =
-      went_by w.moves waiting left old new w.leads w.calls w.untold w.inputs w.answered
+  went_silently {old} {new} {waiting} {left} {given} {due} w calls =
+      went_by w.moves waiting left old new w.leads calls w.untold w.inputs w.answered
       (subst (λ (text : List ℕ). WritesOn given due given due text) (sym (w.silent quiet)) (nothing_more given due))
 
   goes_text : {came : Came} {old new : StepsView} {voices later : Voices} → old.sending ≡ None → (g : GoesBy came old new voices later) →

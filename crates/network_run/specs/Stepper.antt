@@ -1,12 +1,10 @@
 -- What a network that reports what happens (`NetworkSteps`) keeps from its start on, and what it refuses then.
-use Rattle.std.specs.Prelude.{◌≡◌, ◌⊎◌, ⊤, ℕ, false, slice_get, Option, None, Some}
+use Rattle.std.specs.Prelude.{◌≡◌, ◌⊎◌, ⊤, None}
 use Rattle.mote_session.specs.declared.refusal.SessionRefusal.{SessionRefusal}
 use Rattle.network_run.specs.Code.Ready.{IsFitIf, IsReady, IsWithin}
-use Rattle.network_session.specs.Network.{NetworkView}
-use Rattle.network_steps.specs.NetworkRuns.{IsResting, is_halted_in}
+use Rattle.network_steps.specs.NetworkRuns.{IsResting}
 use Rattle.network_steps.specs.StepsView.{StepsView}
 use Rattle.network_steps.specs.declared.came.Phase.{Phase}
-use Rattle.network_steps.specs.declared.came.Waiting.{Waiting}
 use Rattle.network_steps.specs.declared.fault.StepsFault.{StepsFault}
 
 -- no input waits before the motes are started, nor at rest
@@ -21,11 +19,6 @@ pub record IsReadyStepper (s : StepsView) : Type 0 where
   pub within : IsWithin s.net
   pub fit : IsFitIf s.waiting s.net
   pub waits : NoneWaits s.phase s
-
--- the mote that an input waits for isn't halted
-abbrev pub IsForRunning : Option Waiting → NetworkView → Type 0
-IsForRunning None net = ⊤
-IsForRunning (Some waiting) net = is_halted_in (slice_get net.motes waiting.mote) ≡ false
 
 -- a turn awaits its call; or one input more for a mote that was handed 2^40, or time beyond 2^62
 abbrev pub AwaitsOrIsFull : StepsFault → Type 0

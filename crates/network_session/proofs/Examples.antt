@@ -1,5 +1,5 @@
 -- Worked examples: when motes are told the time, what is due, what counts as a round, and what a network promises.
-use Rattle.std.proofs.Common.{◌≡◌, ◌≤◌, ℕ, true, false, List, [], ◌∷◌, append-nil, arith, length, refl, slice_get, sym, ◌∙◌, None, Some}
+use Rattle.std.proofs.Common.{◌≡◌, ◌≤◌, ℕ, true, false, List, [], ◌∷◌, arith, length, refl, slice_get, None, Some}
 use Rattle.arrayvec.specs.ArrayVec.{ArrayVec}
 use Rattle.medium_core.specs.Air.{still_air}
 use Rattle.medium_core.specs.Laws.{all_done}
@@ -8,8 +8,8 @@ use Rattle.medium_core.specs.declared.flight.Flight.{Flight}
 use Rattle.kernel_core.specs.declared.config.Config.{Config}
 use Rattle.kernel_core.specs.Machine.{booted}
 use Rattle.mote_session.specs.Answered.{AnswersAs, replayed}
-use Rattle.mote_session.specs.SessionView.{AwaitedCall, SessionView, is_settled}
-use Rattle.network_session.specs.Happenings.{AreArrivals, Happening, all_deeds, history_of}
+use Rattle.mote_session.specs.SessionView.{AwaitedCall, SessionView}
+use Rattle.network_session.specs.Happenings.{Happening, all_deeds, history_of}
 use Rattle.network_session.specs.Network.{NetworkView}
 use Rattle.network_session.specs.Promise.{IsLogOf, NetworkPromise}
 use Rattle.mote_session.specs.declared.refusal.SessionRefusal.{SessionRefusal}

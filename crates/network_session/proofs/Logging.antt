@@ -177,10 +177,10 @@ module _ (configs : ℕ → Config) (room : ℕ) (links : List (List Link)) (log
   pub log_step : (next : NextLaw) (input : InputLaw) (outcome : Outcome) → Steps outcome old new → IsLogOf configs room links (log ++ happened outcome old new) new
   log_step next input (Outcome.Started m) s =
       log_none (rw (ap (λ (v : NetworkView). v.motes) s) l.motes) (ap (λ (v : NetworkView). v.air) s)
-  log_step next input (Outcome.Turn m) s = quiet next m Next.Turn s (λ history last. refl) (λ mote. refl)
-  log_step next input (Outcome.Rested m) s = quiet next m Next.Rest s (λ history last. refl) (λ mote. refl)
-  log_step next input (Outcome.Halted m) s = quiet next m Next.Halted s (λ history last. refl) (λ mote. refl)
-  log_step next input (Outcome.Entry m) s =
+  log_step next input (Outcome.Worked m Next.Turn) s = quiet next m Next.Turn s (λ history last. refl) (λ mote. refl)
+  log_step next input (Outcome.Worked m Next.Rest) s = quiet next m Next.Rest s (λ history last. refl) (λ mote. refl)
+  log_step next input (Outcome.Worked m Next.Halted) s = quiet next m Next.Halted s (λ history last. refl) (λ mote. refl)
+  log_step next input (Outcome.Worked m Next.Entry) s =
       let h = s.worked in
       let made_is : made_by m (slice_get new.motes m) ≡ Happening.Entry m h.advances.entry ∷ [] =
       ap (made_by m) (there_after m old.motes new.motes h.before h.after h.mote h.others) ∙ ap (made m) h.advances.last in

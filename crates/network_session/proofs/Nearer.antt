@@ -66,18 +66,11 @@ nearer_turn m call old mid new w a =
     }
 
 -- a step of a mote at work, but for a turn
-pub nearer_worked : (x : Outcome) (old new : NetworkView) → Steps x old new → is_work x ≡ true → ((m : ℕ) → x ≡ Outcome.Turn m → ⊥) → IsNearerRest old new
-nearer_worked (Outcome.Turn m) old new s work apart = absurd (apart m refl)
-nearer_worked (Outcome.Entry m) old new s work apart = nearer_entry m old new s
-nearer_worked (Outcome.Rested m) old new s work apart = nearer_idle m Next.Rest old new s (ap (λ (v : NetworkView). v.active) s.result)
-nearer_worked (Outcome.Halted m) old new s work apart = nearer_idle m Next.Halted old new s (ap (λ (v : NetworkView). v.active) s.result)
-nearer_worked (Outcome.Started m) old new s work apart = absurd (cc)
-nearer_worked (Outcome.Woken m) old new s work apart = absurd (cc)
-nearer_worked (Outcome.Heard m) old new s work apart = absurd (cc)
-nearer_worked (Outcome.Missed from to) old new s work apart = absurd (cc)
-nearer_worked Outcome.Clock old new s work apart = absurd (cc)
-nearer_worked Outcome.Rest old new s work apart = absurd (cc)
-nearer_worked Outcome.Exhausted old new s work apart = absurd (cc)
+pub nearer_worked : (m : ℕ) (next : Next) (old new : NetworkView) → Worked m next old new → (next ≡ Next.Turn → ⊥) → IsNearerRest old new
+nearer_worked m Next.Turn old new w apart = absurd (apart refl)
+nearer_worked m Next.Entry old new w apart = nearer_entry m old new w
+nearer_worked m Next.Rest old new w apart = nearer_idle m Next.Rest old new w (ap (λ (v : NetworkView). v.active) w.result)
+nearer_worked m Next.Halted old new w apart = nearer_idle m Next.Halted old new w (ap (λ (v : NetworkView). v.active) w.result)
 
 record StartsNext (net : NetworkView) (m : ℕ) : Type 0 where
   is : m ≡ net.started
@@ -119,7 +112,4 @@ fewer_to_do Outcome.Clock old new s due work on =
     (due_is old Outcome.Clock refl due).some_left
 fewer_to_do Outcome.Rest old new s due work on = absurd (cc)
 fewer_to_do Outcome.Exhausted old new s due work on = absurd (cc)
-fewer_to_do (Outcome.Turn m) old new s due work on = absurd (cc)
-fewer_to_do (Outcome.Entry m) old new s due work on = absurd (cc)
-fewer_to_do (Outcome.Rested m) old new s due work on = absurd (cc)
-fewer_to_do (Outcome.Halted m) old new s due work on = absurd (cc)
+fewer_to_do (Outcome.Worked m next) old new s due work on = absurd (cc)

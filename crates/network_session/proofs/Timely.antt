@@ -313,10 +313,7 @@ pub timely_step : (outcome : Outcome) (old new : NetworkView) → KeepsTime old 
 timely_step (Outcome.Started m) old new all s due work =
     let idle = none_at_work old.active work in
     timely_started m old new all idle (started_is old m (due idle)) s
-timely_step (Outcome.Turn m) old new all s due work = timely_worked m Next.Turn old new all s
-timely_step (Outcome.Entry m) old new all s due work = timely_worked m Next.Entry old new all s
-timely_step (Outcome.Rested m) old new all s due work = timely_worked m Next.Rest old new all s
-timely_step (Outcome.Halted m) old new all s due work = timely_worked m Next.Halted old new all s
+timely_step (Outcome.Worked m next) old new all s due work = timely_worked m next old new all s
 timely_step (Outcome.Woken m) old new all s due work =
     let idle = none_at_work old.active work in
     let h = s.told in

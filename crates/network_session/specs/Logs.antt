@@ -5,6 +5,7 @@ use Rattle.medium_core.specs.Air.{arrival}
 use Rattle.medium_core.specs.declared.flight.Flight.{Flight}
 use Rattle.mote_types.specs.declared.entry.Entry.{Entry}
 use Rattle.mote_session.specs.SessionView.{SessionView}
+use Rattle.mote_session.specs.declared.session.Next.{Next}
 use Rattle.network_session.specs.Happenings.{Happening}
 use Rattle.network_session.specs.Network.{NetworkView, wakes_of}
 use Rattle.network_session.specs.Waking.{due_tick}
@@ -29,7 +30,7 @@ heard_by m None = []
 heard_by m (Some flight) = Happening.Heard m flight.bytes ∷ []
 
 abbrev pub happened : Outcome → NetworkView → NetworkView → List Happening
-happened (Outcome.Entry m) old new = made_by m (slice_get new.motes m)
+happened (Outcome.Worked m Next.Entry) old new = made_by m (slice_get new.motes m)
 happened (Outcome.Woken m) old new = told_by old.air.clock m (slice_get old.motes m)
 happened (Outcome.Heard m) old new = heard_by m (arrival old.air)
 happened (Outcome.Missed from to) old new = Happening.Missed ∷ []

@@ -96,10 +96,7 @@ pub record IsNetworkFed (m : ℕ) (input : Input) (old new : NetworkView) : Type
 
 abbrev pub Steps : Outcome → NetworkView → NetworkView → Type 0
 Steps (Outcome.Started m) old new = new ≡ record old { active = Some m; started = m + 1 }
-Steps (Outcome.Turn m) old new = Worked m Next.Turn old new
-Steps (Outcome.Entry m) old new = Worked m Next.Entry old new
-Steps (Outcome.Rested m) old new = Worked m Next.Rest old new
-Steps (Outcome.Halted m) old new = Worked m Next.Halted old new
+Steps (Outcome.Worked m next) old new = Worked m next old new
 Steps (Outcome.Woken m) old new = IsToldTime m old new
 Steps (Outcome.Heard m) old new = HearsFrame m old new
 Steps (Outcome.Missed from to) old new = new ≡ record old { air = landed old.air; rounds = old.rounds - 1 }
@@ -109,10 +106,7 @@ Steps Outcome.Clock old new =
 Steps Outcome.Rest old new = new ≡ old
 Steps Outcome.Exhausted old new = new ≡ old
 
--- the steps of a mote that is at work
+-- a step of the mote that is at work
 abbrev pub is_work : Outcome → Bool
-is_work (Outcome.Turn m) = true
-is_work (Outcome.Entry m) = true
-is_work (Outcome.Rested m) = true
-is_work (Outcome.Halted m) = true
+is_work (Outcome.Worked m next) = true
 is_work _ = false

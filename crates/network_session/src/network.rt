@@ -232,20 +232,20 @@ impl Network {
         ensures awaits { IfErr result (λ fault. is_some self.old.active ≡ true → fault ≡ NetworkFault.Refused SessionRefusal.AwaitsCall) }
     {
         match work_in(&mut self.motes, m)? {
-            Next::Turn => Ok(Outcome::Turn(m)),
+            Next::Turn => Ok(Outcome::Worked(m, Next::Turn)),
             Next::Entry => {
                 air_in(&mut self.medium, &self.motes[m], m);
-                Ok(Outcome::Entry(m))
+                Ok(Outcome::Worked(m, Next::Entry))
             }
             Next::Rest => {
                 set_wake(&mut self.wakes, &self.motes, m);
                 self.active = None;
-                Ok(Outcome::Rested(m))
+                Ok(Outcome::Worked(m, Next::Rest))
             }
             Next::Halted => {
                 set_wake(&mut self.wakes, &self.motes, m);
                 self.active = None;
-                Ok(Outcome::Halted(m))
+                Ok(Outcome::Worked(m, Next::Halted))
             }
         }
     }

@@ -1,17 +1,13 @@
 //! What a step of a network did.
 
+use mote_session::session::Next;
+
 #[derive(Clone, Copy, Debug, PartialEq, Eq, Drop)]
 pub enum Outcome {
     /// This mote is at work from now on: it starts its applications.
     Started(usize),
-    /// An application of this mote takes a turn, and its call is awaited.
-    Turn(usize),
-    /// This mote made another entry.
-    Entry(usize),
-    /// This mote rests.
-    Rested(usize),
-    /// This mote had been halted, and does nothing.
-    Halted(usize),
+    /// This mote, which is at work, did this, as `Session::next` says.
+    Worked(usize, Next),
     /// This mote got the time: its moment has come, or a frame arrives for it.
     Woken(usize),
     /// This mote was handed the frame that arrived.

@@ -1,5 +1,5 @@
 -- Worked examples: lines of what happened, losses that are still to be reported, and refusals.
-use Rattle.std.proofs.Common.{◌≡◌, ◌⊎◌, ◌∙◌, ℕ, [], ◌∷◌, false, arith, codes, inl, inr, refl, sym, None, Option, Some}
+use Rattle.std.proofs.Common.{◌≡◌, ◌⊎◌, ◌∙◌, ℕ, List, [], ◌∷◌, ◌++◌, false, true, arith, codes, inl, inr, refl, slice_get, sym, None, Option, Some}
 use Rattle.std.specs.Fmt.{digits}
 use Rattle.medium_core.specs.Air.{still_air}
 use Rattle.medium_core.specs.declared.link.Fate.{Fate}
@@ -10,15 +10,17 @@ use Rattle.mote_text.specs.EntryText.{line_of}
 use Rattle.network_session.specs.Network.{NetworkView}
 use Rattle.network_session.specs.Refusals.{step_refusal}
 use Rattle.network_session.specs.declared.fault.NetworkFault.{NetworkFault}
-use Rattle.network_steps.specs.NetworkRuns.{moves_text}
+use Rattle.network_steps.specs.Code.Turns.{times_of}
+use Rattle.network_steps.specs.NetworkRuns.{is_halted_in, moves_text}
 use Rattle.network_steps.specs.Lines.{came_line, losses_left}
 use Rattle.network_steps.specs.Refusals.{due_refusal, fault_of, link_refusal, tick_refusal}
 use Rattle.network_steps.specs.StepsView.{StepsView, opened_net, opened_steps, unlinked}
-use Rattle.network_steps.specs.Works.{IsRefused, RefusesInput, TakesLink, came_of, last_after, phase_after}
+use Rattle.network_steps.specs.Works.{IsRefused, RefusesInput, TakesLink, came_of, inputs_of, inputs_waiting, last_after, phase_after}
 use Rattle.network_steps.specs.declared.came.Came.{Came}
 use Rattle.network_steps.specs.declared.came.Phase.{Phase}
 use Rattle.network_steps.specs.declared.came.Waiting.{Waiting}
 use Rattle.network_steps.specs.declared.fault.StepsFault.{StepsFault}
+use Rattle.network_steps.specs.declared.input.NetworkInput.{NetworkInput}
 use Rattle.network_session.specs.declared.outcome.Outcome.{Outcome}
 
 -- no motes, room for 8 frames, 2 links and 9 rounds
@@ -50,7 +52,7 @@ unfolding line_of digits lossy did
 left = (refl, refl, refl, refl)
 
 -- rest has no line of its own
-rests : (last_after Came.Rest Came.Clock ≡ Came.Clock) × (last_after Came.Exhausted Came.Clock ≡ Came.Exhausted) × (came_of Outcome.Rest ≡ Came.Rest)
+rests : (last_after Came.Rest Came.Clock ≡ Came.Clock) × (last_after Came.Exhausted Came.Clock ≡ Came.Exhausted) × (came_of Outcome.Rest ≡ Some Came.Rest)
 rests = (refl, refl, refl)
 
 phases : (phase_after Came.Rest ≡ Phase.Resting) × (phase_after Came.Exhausted ≡ Phase.Exhausted) × (phase_after Came.Clock ≡ Phase.Working)
@@ -85,18 +87,35 @@ for_nothing from link new free takes = absurd (omega (arith, free, takes.one))
 
 -- ---- what `next` refuses
 
-module _ (fault : StepsFault) (old new : NetworkView) (refused : IsRefused fault old None new) where
-  -- nothing is refused where the next step can be made, and no input waits
-  no_reason : step_refusal new ≡ None → ⊥
-  no_reason goes = by_side refused.refuses
+module _ (fault : StepsFault) (old new : NetworkView) (waiting : Option Waiting) (refused : IsRefused fault old waiting new) where
+  -- nothing is refused where the next step can be made, and no input is left
+  no_reason : refused.left ≡ None → step_refusal new ≡ None → ⊥
+  no_reason none goes = by_side refused.left none refused.refuses
     where
-      by_side : (step_refusal new ≡ Some refused.cause) ⊎ RefusesInput None new refused.cause → ⊥
-      by_side (inl step) = let e : None ≡ Some refused.cause = sym goes ∙ step in absurd (cc)
-      by_side (inr input) = input
+      by_side : (left : Option Waiting) → left ≡ None → (step_refusal new ≡ Some refused.cause) ⊎ RefusesInput left new refused.cause → ⊥
+      by_side left none (inl step) = let e : None ≡ Some refused.cause = sym goes ∙ step in absurd (cc)
+      by_side None none (inr input) = input
+      by_side (Some one) none (inr input) = absurd (cc)
 
-  -- the moves before have no lines
-  a_line : moves_text false old refused.moves ≡ codes "= 1\n" → ⊥
-  a_line text = let e : codes "= 1\n" ≡ [] = sym text ∙ refused.silent false in absurd (cc)
+  -- no input is left where none waited
+  none_left : waiting ≡ None → (one : Waiting) → refused.left ≡ Some one → ⊥
+  none_left none one some = no_more (inputs_of refused.way.moves) (let e = refused.way.inputs in rw (none, some) at e)
+    where
+      no_more : (inputs : List NetworkInput) → inputs ++ inputs_waiting (Some one) ≡ [] → ⊥
+      no_more [] e = absurd (cc)
+      no_more (first ∷ inputs) e = absurd (cc)
+
+  -- the moves before have no lines, and no mote gets the time in them
+  a_line : moves_text false old refused.way.moves ≡ codes "= 1\n" → ⊥
+  a_line text = let e : codes "= 1\n" ≡ [] = sym text ∙ refused.way.silent false in absurd (cc)
+
+  a_time : (m : ℕ) → times_of refused.way.moves ≡ m ∷ [] → ⊥
+  a_time m times = let e : m ∷ [] ≡ [] = sym times ∙ refused.way.untold in absurd (cc)
+
+-- a network refuses no input for a mote that was halted: the mote misses it
+halted_refuses : (waiting : Waiting) (net : NetworkView) (cause : NetworkFault) → is_halted_in (slice_get net.motes waiting.mote) ≡ true →
+    RefusesInput (Some waiting) net cause → ⊥
+halted_refuses waiting net cause halted refuses = let e : true ≡ false = sym halted ∙ refuses.1 in absurd (cc)
 
 -- a network refuses no step for lack of room
 no_room : (waiting : Option Waiting) (old new : NetworkView) → IsRefused StepsFault.NoRoom old waiting new → ⊥

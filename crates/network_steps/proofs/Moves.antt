@@ -9,6 +9,7 @@ use Rattle.medium_core.specs.Laws.{Deed, all_done}
 use Rattle.medium_core.specs.declared.link.Link.{Link}
 use Rattle.mote_session.specs.Sent.{sent_by_entry, sent_in}
 use Rattle.mote_session.specs.SessionView.{SessionView}
+use Rattle.mote_session.specs.declared.session.Next.{Next}
 use Rattle.mote_types.specs.declared.call.Call.{Call}
 use Rattle.mote_types.specs.declared.entry.Entry.{Entry}
 use Rattle.mote_types.specs.declared.entry.Input.{Input}
@@ -69,10 +70,10 @@ motes_of net = net.motes
 
 pub air_step : (outcome : Outcome) (old new : NetworkView) → Steps outcome old new → new.air ≡ all_done (all_deeds (happened outcome old new)) old.air
 air_step (Outcome.Started m) old new s = ap air_of s
-air_step (Outcome.Turn m) old new s = ap air_of s.result
-air_step (Outcome.Rested m) old new s = ap air_of s.result
-air_step (Outcome.Halted m) old new s = ap air_of s.result
-air_step (Outcome.Entry m) old new s =
+air_step (Outcome.Worked m Next.Turn) old new s = ap air_of s.result
+air_step (Outcome.Worked m Next.Rest) old new s = ap air_of s.result
+air_step (Outcome.Worked m Next.Halted) old new s = ap air_of s.result
+air_step (Outcome.Worked m Next.Entry) old new s =
     let w = s.worked in
     let there = there_after m old.motes new.motes w.before w.after w.mote w.others in
     ap air_of s.result ∙ (made_air m w.after.last old.air

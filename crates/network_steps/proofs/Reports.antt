@@ -11,7 +11,7 @@ use Rattle.network_steps.specs.NetworkText.{if_shown}
 use Rattle.network_steps.specs.Lines.{came_line, is_loss, loss_line, losses_left, shown_line, shown_losses}
 use Rattle.network_steps.specs.Refusals.{awaited_turn, turn_of}
 use Rattle.network_steps.specs.StepsView.{StepsView}
-use Rattle.network_steps.specs.Works.{GoesNext, IsCame, IsRefused, ToldIfBehind, inputs_waiting, is_behind, last_after, phase_after}
+use Rattle.network_steps.specs.Works.{GoesNext, IsCame, IsRefused, MovesSilently, ToldIfBehind, inputs_waiting, is_behind, last_after, phase_after}
 use Rattle.network_steps.specs.declared.came.Came.{Came}
 use Rattle.network_steps.specs.declared.came.Phase.{Phase}
 use Rattle.network_steps.specs.declared.came.Sending.{Sending}
@@ -113,6 +113,10 @@ told_so m old new told rested present behind if_told if_untold = by_mote (slice_
 
 -- ---- what is refused
 
+-- no moves
+abbrev pub moves_nowhere : (net : NetworkView) (waiting : Option Waiting) → MovesSilently net net waiting waiting
+moves_nowhere net waiting = record { moves = []; leads = refl; silent = λ quiet. refl; inputs = refl; untold = refl; answered = refl }
+
 -- a turn awaits its call
 
 turn_refuses : (net : NetworkView) (active : Option ℕ) (turn : AwaitedCall) → turn_of (mote_at_work net active) ≡ Some turn →
@@ -131,11 +135,8 @@ turn_refused None awaited net waiting turn there = absurd (cc)
 turn_refused (Some one) awaited net waiting turn there =
     let both = turn_refuses net net.active (awaited one) turn in
     record {
-      moves = [];
-      leads = refl;
-      silent = λ quiet. refl;
-      left = inputs_waiting waiting;
-      inputs = refl;
+      left = waiting;
+      way = moves_nowhere net waiting;
       cause = NetworkFault.Refused SessionRefusal.AwaitsCall;
       refuses = inl (rw both.0 both.1);
       reported = refl;

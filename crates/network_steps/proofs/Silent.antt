@@ -9,10 +9,10 @@ use Rattle.network_session.specs.Steps.{IsNetworkFed, Steps, Worked, is_work}
 use Rattle.network_session.specs.declared.outcome.Outcome.{Outcome}
 use Rattle.network_session.proofs.Nearer.{fewer_to_do, nearer_entry, nearer_turn, nearer_worked}
 use Rattle.network_steps.specs.Code.Going.{left_to_do, rounds_of}
-use Rattle.network_steps.specs.Code.Turns.{is_end, is_turn_step}
+use Rattle.network_steps.specs.Code.Turns.{is_end_if, is_turn_step}
 use Rattle.network_steps.specs.NetworkRuns.{DoesStep}
 use Rattle.network_steps.specs.StepsView.{StepsView}
-use Rattle.network_steps.specs.Works.{came_of, is_reported}
+use Rattle.network_steps.specs.Works.{came_of}
 use Rattle.network_steps.specs.declared.came.Waiting.{Waiting}
 
 pub idle_if : (o : Option ℕ) → false ≡ is_some o → o ≡ None
@@ -23,10 +23,7 @@ idle_if (Some m) e = absurd (cc)
 
 step_bound : (x : Outcome) (old new : NetworkView) → Steps x old new → new.bound ≡ old.bound
 step_bound (Outcome.Started m) old new s = ap (λ (v : NetworkView). v.bound) s
-step_bound (Outcome.Turn m) old new s = ap (λ (v : NetworkView). v.bound) s.result
-step_bound (Outcome.Entry m) old new s = ap (λ (v : NetworkView). v.bound) s.result
-step_bound (Outcome.Rested m) old new s = ap (λ (v : NetworkView). v.bound) s.result
-step_bound (Outcome.Halted m) old new s = ap (λ (v : NetworkView). v.bound) s.result
+step_bound (Outcome.Worked m next) old new s = ap (λ (v : NetworkView). v.bound) s.result
 step_bound (Outcome.Woken m) old new s = ap (λ (v : NetworkView). v.bound) s.result
 step_bound (Outcome.Heard m) old new s = ap (λ (v : NetworkView). v.bound) s.result
 step_bound (Outcome.Missed from to) old new s = ap (λ (v : NetworkView). v.bound) s
@@ -47,21 +44,15 @@ less_of_rounds old new fewer few bound waiting =
     omega (arith, fewer, few, rounds)
 
 module _ (old new : StepsView) (few : left_at_work new.net ≤ most_left_at_work) (waiting : new.waiting ≡ old.waiting) where
-  less_worked : (x : Outcome) → DoesStep x old.net new.net → is_work x ≡ true → is_turn_step x ≡ false → left_to_do new < left_to_do old
-  less_worked x does work no_turn =
-      less_at_work old new (nearer_worked x old.net new.net does.steps work (λ m is. let e : is_turn_step x ≡ true = ap is_turn_step is in absurd (cc)))
-      (step_bound x old.net new.net does.steps) waiting
-
   less_due : (x : Outcome) → DoesStep x old.net new.net → is_work x ≡ false → is_last x ≡ false → left_to_do new < left_to_do old
   less_due x does idle on =
       less_of_rounds old new (fewer_to_do x old.net new.net does.steps (does.due (idle_if old.net.active (sym idle ∙ does.work))) idle on) few
       (step_bound x old.net new.net does.steps) waiting
 
   pub less : (x : Outcome) → DoesStep x old.net new.net → is_turn_step x ≡ false → is_last x ≡ false → left_to_do new < left_to_do old
-  less (Outcome.Turn m) does no_turn on = absurd (cc)
-  less (Outcome.Entry m) does no_turn on = less_worked (Outcome.Entry m) does refl refl
-  less (Outcome.Rested m) does no_turn on = less_worked (Outcome.Rested m) does refl refl
-  less (Outcome.Halted m) does no_turn on = less_worked (Outcome.Halted m) does refl refl
+  less (Outcome.Worked m next) does no_turn on =
+      less_at_work old new (nearer_worked m next old.net new.net does.steps (λ is. let e : is_turn_step (Outcome.Worked m next) ≡ true = rw is refl in absurd (cc)))
+      (step_bound (Outcome.Worked m next) old.net new.net does.steps) waiting
   less (Outcome.Started m) does no_turn on = less_due (Outcome.Started m) does refl refl
   less (Outcome.Woken m) does no_turn on = less_due (Outcome.Woken m) does refl refl
   less (Outcome.Heard m) does no_turn on = less_due (Outcome.Heard m) does refl refl
@@ -84,31 +75,18 @@ less_made m old new net worked is waiting =
     less_at_work old new (nearer_entry m old.net new.net made) (ap (λ (v : NetworkView). v.bound) made.result) waiting
 
 -- the last step is one that ends the work
-pub last_is_end : (x : Outcome) → is_end (came_of x) ≡ false → is_reported x ≡ true → is_last x ≡ false
-last_is_end Outcome.Rest on r = absurd (cc)
-last_is_end Outcome.Exhausted on r = absurd (cc)
-last_is_end Outcome.Clock on r = refl
-last_is_end (Outcome.Missed from to) on r = refl
-last_is_end (Outcome.Started m) on r = refl
-last_is_end (Outcome.Turn m) on r = refl
-last_is_end (Outcome.Entry m) on r = refl
-last_is_end (Outcome.Rested m) on r = refl
-last_is_end (Outcome.Halted m) on r = refl
-last_is_end (Outcome.Woken m) on r = refl
-last_is_end (Outcome.Heard m) on r = refl
-
-pub unreported_goes_on : (x : Outcome) → is_reported x ≡ false → is_last x ≡ false
-unreported_goes_on Outcome.Rest r = absurd (cc)
-unreported_goes_on Outcome.Exhausted r = absurd (cc)
-unreported_goes_on Outcome.Clock r = absurd (cc)
-unreported_goes_on (Outcome.Missed from to) r = absurd (cc)
-unreported_goes_on (Outcome.Turn m) r = absurd (cc)
-unreported_goes_on (Outcome.Entry m) r = absurd (cc)
-unreported_goes_on (Outcome.Started m) r = refl
-unreported_goes_on (Outcome.Rested m) r = refl
-unreported_goes_on (Outcome.Halted m) r = refl
-unreported_goes_on (Outcome.Woken m) r = refl
-unreported_goes_on (Outcome.Heard m) r = refl
+pub ends_work : (x : Outcome) → is_end_if (came_of x) ≡ is_last x
+ends_work (Outcome.Worked m Next.Turn) = refl
+ends_work (Outcome.Worked m Next.Entry) = refl
+ends_work (Outcome.Worked m Next.Rest) = refl
+ends_work (Outcome.Worked m Next.Halted) = refl
+ends_work (Outcome.Started m) = refl
+ends_work (Outcome.Woken m) = refl
+ends_work (Outcome.Heard m) = refl
+ends_work (Outcome.Missed from to) = refl
+ends_work Outcome.Clock = refl
+ends_work Outcome.Rest = refl
+ends_work Outcome.Exhausted = refl
 
 -- an input that waits is handed over, or missed
 

@@ -51,13 +51,13 @@ module _ (quiet : Bool) where
   entry_is m mote entry old new last air = rw (last, air) (append-nil _)
 
   other_is : (m : ℕ) (old new : NetworkView) → Worked m Next.Entry old new →
-      log_text quiet old.air (happened (Outcome.Entry m) old new) ≡ came_lines quiet (Came.Entry m) new
+      log_text quiet old.air (happened (Outcome.Worked m Next.Entry) old new) ≡ came_lines quiet (Came.Entry m) new
   other_is m old new s =
       let w = s.worked in
       let there = there_after m old.motes new.motes w.before w.after w.mote w.others in
-      let log : happened (Outcome.Entry m) old new ≡ Happening.Entry m w.advances.entry ∷ [] = ap (made_by m) there ∙ ap (made m) w.advances.last in
+      let log : happened (Outcome.Worked m Next.Entry) old new ≡ Happening.Entry m w.advances.entry ∷ [] = ap (made_by m) there ∙ ap (made m) w.advances.last in
       let air : new.air ≡ all_done (deeds_of (Happening.Entry m w.advances.entry)) old.air =
-      air_step (Outcome.Entry m) old new s
+      air_step (Outcome.Worked m Next.Entry) old new s
       ∙ (ap (λ (log : List Happening). all_done (all_deeds log) old.air) log ∙ one_deed (Happening.Entry m w.advances.entry) old.air) in
       ap (λ (o : Option SessionView). log_text quiet old.air (made_by m o)) there
       ∙ (entry_is m w.after w.advances.entry old.air new.air w.advances.last air ∙ made_lines m w.after new there)
@@ -85,8 +85,13 @@ module _ (quiet : Bool) where
   missed_text None from to P h = absurd h
   missed_text (Some f) from to P h = rw (h.0, h.1) refl
 
-  pub step_is : (x : Outcome) (old new : NetworkView) → DoesStep x old new → log_text quiet old.air (happened x old new) ≡ came_lines quiet (came_of x) new
-  step_is (Outcome.Entry m) old new does = other_is m old new does.steps
+  -- what isn't reported has no lines
+  abbrev pub lines_if : Option Came → NetworkView → List ℕ
+  lines_if None net = []
+  lines_if (Some came) net = came_lines quiet came net
+
+  pub step_is : (x : Outcome) (old new : NetworkView) → DoesStep x old new → log_text quiet old.air (happened x old new) ≡ lines_if (came_of x) new
+  step_is (Outcome.Worked m Next.Entry) old new does = other_is m old new does.steps
   step_is (Outcome.Missed from to) old new does =
       let none = idle_if old.active does.work in
       ap (λ (line : List ℕ). if_shown (not quiet) line ++ []) (missed_text (arrival old.air) from to _ (missed_due old from to (does.due none)))
@@ -94,8 +99,8 @@ module _ (quiet : Bool) where
   step_is (Outcome.Woken m) old new does = told_text old.air.clock m (slice_get old.motes m) old.air
   step_is (Outcome.Heard m) old new does = heard_text m (arrival old.air) old.air
   step_is (Outcome.Started m) old new does = refl
-  step_is (Outcome.Turn m) old new does = refl
-  step_is (Outcome.Rested m) old new does = refl
-  step_is (Outcome.Halted m) old new does = refl
+  step_is (Outcome.Worked m Next.Turn) old new does = refl
+  step_is (Outcome.Worked m Next.Rest) old new does = refl
+  step_is (Outcome.Worked m Next.Halted) old new does = refl
   step_is Outcome.Rest old new does = refl
   step_is Outcome.Exhausted old new does = refl

@@ -1,5 +1,5 @@
 -- Worked examples: what lines of a network's script say, and the lines of what happens.
-use Rattle.std.proofs.Common.{◌≡◌, ◌∙◌, ◌<◌, ℕ, true, false, List, [], ◌∷◌, IsSomeAnd, ap, arith, codes, is_some, refl, slice_get, sym, None, Option, Some}
+use Rattle.std.proofs.Common.{◌≡◌, ◌∙◌, ◌<◌, ℕ, true, false, List, [], ◌∷◌, ap, arith, codes, is_some, refl, slice_get, sym, None, Option, Some}
 use Rattle.std.specs.Fmt.{digits}
 use Rattle.medium_core.specs.Air.{still_air}
 use Rattle.medium_core.specs.declared.link.Fate.{Fate}
@@ -20,6 +20,7 @@ use Rattle.mote_text.proofs.Common.{decode_pairs, encode_with}
 use Rattle.mote_session.specs.SessionView.{SessionView}
 use Rattle.network_session.specs.Happenings.{Happening}
 use Rattle.network_session.specs.Network.{NetworkView}
+use Rattle.mote_session.specs.declared.session.Next.{Next}
 use Rattle.network_session.specs.declared.outcome.Outcome.{Outcome}
 use Rattle.network_session.specs.Schedule.{due_step}
 use Rattle.network_steps.specs.NetworkRuns.{DoesStep, HandsInput, MissesInput, Move, PassesTime, TellsTime, moves_text}
@@ -146,7 +147,7 @@ module _ (old new : NetworkView) where
   not_due due idle does = let e : Outcome.Rest ≡ Outcome.Clock = does.due idle ∙ due in absurd (cc)
 
   -- a mote works only where it is at work, and nothing else is done then
-  nobody_at_work : old.active ≡ None → DoesStep (Outcome.Entry 0) old new → ⊥
+  nobody_at_work : old.active ≡ None → DoesStep (Outcome.Worked 0 Next.Entry) old new → ⊥
   nobody_at_work idle does = let e : true ≡ false = does.work ∙ ap is_some idle in absurd (cc)
 
   at_work : old.active ≡ Some 0 → DoesStep Outcome.Clock old new → ⊥

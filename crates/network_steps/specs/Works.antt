@@ -4,6 +4,7 @@ use Rattle.medium_core.specs.Air.{with_link}
 use Rattle.medium_core.specs.declared.link.Link.{Link}
 use Rattle.mote_session.specs.Sent.{sent_in}
 use Rattle.mote_session.specs.SessionView.{SessionView}
+use Rattle.mote_session.specs.declared.session.Next.{Next}
 use Rattle.mote_types.specs.declared.entry.Input.{Input}
 use Rattle.network_session.specs.Network.{NetworkView}
 use Rattle.network_session.specs.Refusals.{catch_up_refusal, feed_refusal, step_refusal}
@@ -22,28 +23,24 @@ use Rattle.network_steps.specs.declared.came.Sending.{Sending}
 use Rattle.network_steps.specs.declared.came.Waiting.{Waiting}
 use Rattle.network_steps.specs.declared.fault.StepsFault.{StepsFault}
 
--- a step that has a line, awaits a call, or is the last one
-abbrev pub is_reported : Outcome → Bool
-is_reported (Outcome.Started m) = false
-is_reported (Outcome.Rested m) = false
-is_reported (Outcome.Halted m) = false
-is_reported (Outcome.Woken m) = false
-is_reported (Outcome.Heard m) = false
-is_reported _ = true
-
 -- of a network that rests
 abbrev pub RestsIf : Phase → NetworkView → Type 0
 RestsIf Phase.Resting net = IsResting net
 RestsIf _ net = Unit {0}
 
--- what a step comes to, if it is reported
-abbrev pub came_of : Outcome → Came
-came_of (Outcome.Turn m) = Came.Turn m
-came_of (Outcome.Entry m) = Came.Entry m
-came_of (Outcome.Missed from to) = Came.Missed from to
-came_of Outcome.Clock = Came.Clock
-came_of Outcome.Exhausted = Came.Exhausted
-came_of _ = Came.Rest
+-- what is reported of a step: one that has a line, awaits a call, or is the last one
+abbrev pub came_of : Outcome → Option Came
+came_of (Outcome.Worked m Next.Turn) = Some (Came.Turn m)
+came_of (Outcome.Worked m Next.Entry) = Some (Came.Entry m)
+came_of (Outcome.Missed from to) = Some (Came.Missed from to)
+came_of Outcome.Clock = Some Came.Clock
+came_of Outcome.Rest = Some Came.Rest
+came_of Outcome.Exhausted = Some Came.Exhausted
+came_of (Outcome.Worked m Next.Rest) = None
+came_of (Outcome.Worked m Next.Halted) = None
+came_of (Outcome.Started m) = None
+came_of (Outcome.Woken m) = None
+came_of (Outcome.Heard m) = None
 
 -- what happened last that has a line; rest has none
 abbrev pub last_after : Came → Came → Came
@@ -71,13 +68,9 @@ abbrev pub came_lines : Bool → Came → NetworkView → List ℕ
 came_lines quiet came net = shown_line quiet came net ++ shown_losses quiet (sending_of came net) net
 
 -- so what is reported is noted
-abbrev pub noted : Outcome → StepsView → StepsView
-noted outcome s =
-    record s {
-      last = last_after (came_of outcome) s.last;
-      sending = sending_of (came_of outcome) s.net;
-      phase = phase_after (came_of outcome);
-    }
+abbrev pub noted : Came → StepsView → StepsView
+noted came s =
+    record s { last = last_after came s.last; sending = sending_of came s.net; phase = phase_after came }
 
 -- the input from outside that a move executes
 abbrev pub input_of : Move → Option NetworkInput
@@ -118,20 +111,28 @@ pub record GoesNext (came : Came) (old new : StepsView) : Type 0 where
   pub untold : times_of moves ≡ []
   pub answered : is_open came ≡ false → ends_open moves ≡ false
 
--- a network that rests refuses the input that waits
-abbrev pub RefusesInput : Option Waiting → NetworkView → NetworkFault → Type 0
-RefusesInput None net cause = ⊥
-RefusesInput (Some waiting) net cause = IsResting net × (feed_refusal waiting.mote waiting.input net ≡ Some cause)
-
--- Some moves without lines lead from old to a network that refuses its next step, or the input that waited; only that input came in them
-pub record IsRefused (fault : StepsFault) (old : NetworkView) (waiting : Option Waiting) (new : NetworkView) : Type 0 where
+-- moves without lines lead from old to new; the input that waited comes in them, or is left
+pub record MovesSilently (old new : NetworkView) (waiting left : Option Waiting) : Type 0 where
   pub moves : List Move
   pub leads : Leads old moves new
   pub silent : (quiet : Bool) → moves_text quiet old moves ≡ []
-  pub left : List NetworkInput
-  pub inputs : inputs_of moves ++ left ≡ inputs_waiting waiting
+  pub inputs : inputs_of moves ++ inputs_waiting left ≡ inputs_waiting waiting
+  -- no mote gets the time before an input in them, and no turn is left without its call
+  pub untold : times_of moves ≡ []
+  pub answered : ends_open moves ≡ false
+
+-- a network that rests refuses the input that is left, whose mote isn't halted
+abbrev pub RefusesInput : Option Waiting → NetworkView → NetworkFault → Type 0
+RefusesInput None net cause = ⊥
+RefusesInput (Some waiting) net cause =
+    IsResting net × (is_halted_in (slice_get net.motes waiting.mote) ≡ false) × (feed_refusal waiting.mote waiting.input net ≡ Some cause)
+
+-- silent moves lead from old to a network that refuses its next step, or the input that is left
+pub record IsRefused (fault : StepsFault) (old : NetworkView) (waiting : Option Waiting) (new : NetworkView) : Type 0 where
+  pub left : Option Waiting
+  pub way : MovesSilently old new waiting left
   pub cause : NetworkFault
-  pub refuses : (step_refusal new ≡ Some cause) ⊎ RefusesInput waiting new cause
+  pub refuses : (step_refusal new ≡ Some cause) ⊎ RefusesInput left new cause
   pub reported : fault ≡ fault_of cause
 
 -- time may go on

@@ -1,6 +1,6 @@
 //! A network that reports what happens, a line at a time.
 
-ghost use Rattle.std.specs.Prelude.{◌≡◌, ◌≢◌, ◌<◌, ◌+◌, ◌++◌, ◌↔◌, [], map, true, false, is_some, slice_get, None, Some, IfErr, IfOk, IfSome, IfNone, IsErrOf};
+ghost use Rattle.std.specs.Prelude.{◌≡◌, ◌≢◌, ◌<◌, ◌+◌, ◌++◌, ◌↔◌, [], map, true, false, is_some, slice_get, None, Some, IfErr, IfOk, IfSome, IfNone, IsErrOf, MatchOption};
 ghost use Rattle.medium_core.specs.Air.{still_air, with_link};
 ghost use Rattle.medium_core.specs.Code.Airs.{link_lists};
 ghost use Rattle.medium_core.specs.declared.link.Link.{Link as OneLink};
@@ -12,9 +12,9 @@ ghost use Rattle.network_steps.specs.Lines.{came_line, is_loss, loss_line, losse
 ghost use Rattle.network_steps.specs.Refusals.{awaited_turn, due_refusal, feed_refusal, is_from_outside, link_refusal, submit_refusal, tick_refusal, told_refusal, unrest};
 ghost use Rattle.network_steps.specs.StepsView.{opened_steps, steps_over, unlinked};
 ghost use Rattle.network_steps.specs.NetworkRuns.{IsResting};
-ghost use Rattle.network_steps.specs.Code.Going.{GoesBy, StepsBy, StepsIf, StopsBy, came_in, is_end_in, is_open_in, left_to_do, links_left};
-ghost use Rattle.network_steps.specs.Code.Turns.{is_end_if, is_open, is_open_if};
-ghost use Rattle.network_steps.specs.Works.{GoesNext, IsRefused, TakesFeed, TakesLink, TakesTicks, ToldIfBehind, is_reported, noted, sending_of};
+ghost use Rattle.network_steps.specs.Code.Going.{GoesBy, StepsBy, StopsBy, came_if, came_in, left_to_do, links_left};
+ghost use Rattle.network_steps.specs.Code.Turns.{is_end_if, is_open_if};
+ghost use Rattle.network_steps.specs.Works.{GoesNext, IsRefused, TakesFeed, TakesLink, TakesTicks, ToldIfBehind, came_of, noted, sending_of};
 ghost use Rattle.network_steps.specs.declared.came.Came.TheVariants.{Entry};
 ghost use Rattle.network_steps.specs.declared.came.Phase.TheVariants.{Resting as Rests, Working as Works};
 ghost use Rattle.network_steps.specs.declared.fault.StepsFault.{StepsFault};
@@ -280,9 +280,9 @@ impl NetworkSteps {
     fn step_on(&mut self) -> Result<bool, NetworkFault>
         requires works { self.old.phase ≡ Works }
         requires reported { self.old.sending ≡ None }
-        ensures steps { IfOk result (λ reported. (voices : Voices) → StepsIf reported self.old self.new voices voices) }
-        ensures called { self.old.net.active ≡ None → IfOk result (λ reported. reported ≡ true → is_open (came_in self.new) ≡ false) }
-        ensures nearer { IfOk result (λ reported. is_open_in reported self.new ≡ false → is_end_in reported self.new ≡ false →
+        ensures steps { IfOk result (λ reported. (voices : Voices) → StepsBy (came_if reported self.new) self.old self.new voices voices) }
+        ensures called { self.old.net.active ≡ None → IfOk result (λ reported. is_open_if (came_if reported self.new) ≡ false) }
+        ensures nearer { IfOk result (λ reported. is_open_if (came_if reported self.new) ≡ false → is_end_if (came_if reported self.new) ≡ false →
             left_to_do self.new < left_to_do self.old) }
         ensures failed { IfErr result (λ cause. (voices : Voices) → StopsBy cause self.old self.new.net voices voices) }
     {
@@ -351,9 +351,9 @@ impl NetworkSteps {
         requires rests { IsResting self.old.net }
         requires works { self.old.phase ≡ Works }
         requires reported { self.old.sending ≡ None }
-        ensures steps { IfOk result (λ reported. (voices : Voices) → StepsIf reported self.old self.new voices voices) }
-        ensures called { IfOk result (λ reported. reported ≡ true → is_open (came_in self.new) ≡ false) }
-        ensures nearer { IfOk result (λ reported. is_end_in reported self.new ≡ false → left_to_do self.new < left_to_do self.old) }
+        ensures steps { IfOk result (λ reported. (voices : Voices) → StepsBy (came_if reported self.new) self.old self.new voices voices) }
+        ensures called { IfOk result (λ reported. is_open_if (came_if reported self.new) ≡ false) }
+        ensures nearer { IfOk result (λ reported. is_end_if (came_if reported self.new) ≡ false → left_to_do self.new < left_to_do self.old) }
         ensures failed { IfErr result (λ cause. (voices : Voices) → StopsBy cause self.old self.new.net voices voices) }
     {
         match self.waiting.take() {
@@ -372,8 +372,8 @@ impl NetworkSteps {
         requires reported { self.old.sending ≡ None }
         requires taken { self.old.waiting ≡ None }
         ensures steps { IfOk result (λ reported. (voices : Voices) →
-            StepsIf reported (record self.old { waiting = Some waiting }) self.new voices voices) }
-        ensures called { IfOk result (λ reported. reported ≡ true → is_open (came_in self.new) ≡ false) }
+            StepsBy (came_if reported self.new) (record self.old { waiting = Some waiting }) self.new voices voices) }
+        ensures called { IfOk result (λ reported. is_open_if (came_if reported self.new) ≡ false) }
         ensures nearer { IfOk result (λ _. left_to_do self.new < left_to_do (record self.old { waiting = Some waiting })) }
         ensures failed { IfErr result (λ cause. (voices : Voices) →
             StopsBy cause (record self.old { waiting = Some waiting }) self.new.net voices voices) }
@@ -408,13 +408,12 @@ impl NetworkSteps {
         requires apart { outcome ≢ Rested }
         requires works { self.old.phase ≡ Works }
         requires reported { self.old.sending ≡ None }
-        ensures reported { result ≡ is_reported outcome }
-        ensures noted { result ≡ true → self.new ≡ noted outcome self.old }
-        ensures same { result ≡ false → self.new ≡ self.old }
+        ensures reported { result ≡ is_some (came_of outcome) }
+        ensures noted { MatchOption (came_of outcome) (self.new ≡ self.old) (λ came. self.new ≡ noted came self.old) }
     {
         match outcome {
-            Outcome::Turn(mote) => self.last = Came::Turn(mote),
-            Outcome::Entry(mote) => {
+            Outcome::Worked(mote, Next::Turn) => self.last = Came::Turn(mote),
+            Outcome::Worked(mote, Next::Entry) => {
                 self.last = Came::Entry(mote);
                 self.note_sent(mote);
             }
@@ -425,9 +424,9 @@ impl NetworkSteps {
                 self.phase = Phase::Exhausted;
             }
             Outcome::Rest
+            | Outcome::Worked(_, Next::Rest)
+            | Outcome::Worked(_, Next::Halted)
             | Outcome::Started(_)
-            | Outcome::Rested(_)
-            | Outcome::Halted(_)
             | Outcome::Woken(_)
             | Outcome::Heard(_) => return false,
         }

@@ -1,5 +1,6 @@
 -- What moves leave open, and which motes get the time in them.
 use Rattle.std.specs.Prelude.{Bool, true, false, List, [], ◌∷◌, Option, None, Some, ℕ, filter_map}
+use Rattle.mote_session.specs.declared.session.Next.{Next}
 use Rattle.network_session.specs.declared.outcome.Outcome.{Outcome}
 use Rattle.network_steps.specs.NetworkRuns.{Move}
 use Rattle.network_steps.specs.declared.came.Came.{Came}
@@ -14,7 +15,7 @@ abbrev pub times_of : List Move → List ℕ
 times_of moves = filter_map time_of moves
 
 abbrev pub is_turn_step : Outcome → Bool
-is_turn_step (Outcome.Turn m) = true
+is_turn_step (Outcome.Worked m Next.Turn) = true
 is_turn_step _ = false
 
 -- a turn, whose call is awaited

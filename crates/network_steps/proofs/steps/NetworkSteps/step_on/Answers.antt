@@ -1,4 +1,4 @@
-use Rattle.network_steps.proofs.Going.{called_if, err_on, nearer_if, steps_if, stops_step}
+use Rattle.network_steps.proofs.Going.{called_if, err_on, nearer_if, steps_by, stops_step}
 use Rattle.network_steps.specs.NetworkRuns.{DoesStep}
 use Rattle.network_steps.specs.contracts.steps.NetworkSteps.{the_view}
 use Rattle.network_steps.proofs.steps.NetworkSteps.step_on.Goals as goal
@@ -21,10 +21,10 @@ returns-in_default c =
     let reported = rw (← c.self.view_is) at c.requires.reported in
     record {
       steps = λ voices. rw (← c.self.view_is)
-          (steps_if x s new net voices c.come_if.result reported works does (λ e. absurd (c.in_default.not-Rest e)) c.come_if.ensures.reported
-          c.come_if.ensures.noted c.come_if.ensures.same);
-      called = rw (← c.self.view_is) (λ idle. called_if x s new net does c.come_if.result idle c.come_if.ensures.reported c.come_if.ensures.noted);
+          (steps_by x c.come_if.result s new net does c.come_if.ensures.reported c.come_if.ensures.noted voices reported works
+          (λ e. absurd (c.in_default.not-Rest e)));
+      called = rw (← c.self.view_is) (called_if x c.come_if.result s new net does c.come_if.ensures.reported c.come_if.ensures.noted);
       nearer = rw (← c.self.view_is)
-          (nearer_if x s new net does c.come_if.result c.entries_are_few.ensures c.come_if.ensures.reported c.come_if.ensures.noted c.come_if.ensures.same);
+          (nearer_if x c.come_if.result s new net does c.come_if.ensures.reported c.come_if.ensures.noted c.entries_are_few.ensures);
       failed = tt;
     }

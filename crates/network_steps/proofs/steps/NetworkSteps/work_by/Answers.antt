@@ -2,7 +2,6 @@ use Rattle.std.proofs.Common.{ap, refl}
 use Rattle.mote_session.specs.declared.session.Next.{Next}
 use Rattle.network_session.specs.Code.Working.{TakesTurn}
 use Rattle.network_session.specs.Steps.{Worked}
-use Rattle.network_session.specs.declared.outcome.Outcome.{Outcome}
 use Rattle.network_steps.specs.StepsView.{StepsView}
 use Rattle.network_steps.specs.declared.came.Came.{Came}
 use Rattle.network_steps.specs.contracts.steps.NetworkSteps.{the_view}
@@ -64,7 +63,7 @@ returns-in-Rest-clause-steps g c =
     let works = rw (← c.self.view_is) at c.requires.works in
     let reported = rw (← c.self.view_is) at c.requires.reported in
     rw (← c.self.view_is)
-    (passes_rest Next.Rest (Outcome.Rested m) m (the_view c.self.inside) _ net _ _ reported works active rested rested refl refl
+    (passes_rest Next.Rest m (the_view c.self.inside) _ net _ _ reported works active rested refl
     (λ one there. rw c.in-Rest.is at (c.in_ok-work_by.ensures.speaks one there)) refl)
 
 pub returns-in-Halted-clause-steps : goal.returns-in-Halted-clause-steps
@@ -76,5 +75,5 @@ returns-in-Halted-clause-steps g c =
     let works = rw (← c.self.view_is) at c.requires.works in
     let reported = rw (← c.self.view_is) at c.requires.reported in
     rw (← c.self.view_is)
-    (passes_rest Next.Halted (Outcome.Halted m) m (the_view c.self.inside) _ net _ _ reported works active rested rested refl refl
+    (passes_rest Next.Halted m (the_view c.self.inside) _ net _ _ reported works active rested refl
     (λ one there. rw c.in-Halted.is at (c.in_ok-work_by.ensures.speaks one there)) refl)
