@@ -2,7 +2,7 @@
 use Rattle.std.specs.Fmt.{digits}
 use Rattle.std.proofs.Common.{◌≡◌, ◌∙◌, ℕ, Bool, List, [], ◌∷◌, Option, Some, None, Ok, Err, ap, arith, codes, inl, inr, sym}
 use Rattle.std.specs.Option.{option_map_or}
-use Rattle.std.specs.Global.{Box, Vec}
+use Rattle.std.specs.Global.{Box}
 use Rattle.call_lists.specs.declared.applications.Application.{Application}
 use Rattle.kernel_core.specs.Machine.{Machine}
 use Rattle.kernel_core.specs.declared.config.Config.{Config}

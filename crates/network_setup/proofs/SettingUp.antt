@@ -1,5 +1,5 @@
 -- The first lines of a script, taken one after the other.
-use Rattle.std.proofs.Common.{◌≡◌, ◌+◌, ℕ, suc, true, false, List, [], ◌∷◌, length, ap, arith, Bor, Option, None, Some, MatchBool, Err, IsErrOf, inl, inr, subst, sym, refl}
+use Rattle.std.proofs.Common.{◌≡◌, ◌+◌, ℕ, suc, false, List, length, ap, arith, Bor, Option, None, Some, MatchBool, Err, IsErrOf, inl, inr, subst, sym}
 use Rattle.network_setup.specs.Code.Words.{IsNextLine}
 use Rattle.network_setup.specs.FirstLines.{AreCarriedOut, DoesSaid, IsBadLine, IsExecuted, IsMalformed, IsText, SaysNothing, is_blank, is_input}
 use Rattle.network_setup.specs.SetupView.{SetupView}
@@ -15,19 +15,6 @@ pub record IsOnTheWay (n : ℕ) (all lines : List (List ℕ)) (old now : SetupVi
   pub bad_line : (m : ℕ) → IsBadLine (suc m) lines now → IsBadLine (suc (n + m)) all old
   pub counted : n + length lines ≡ length all
 
-pub none_taken : (n : ℕ) (all lines : List (List ℕ)) (setup : SetupView) → n ≡ 0 → lines ≡ all → IsOnTheWay n all lines setup setup
-none_taken n all lines setup none same = record {
-  carried_out = λ left new carried. rw (sym same) carried;
-  bad_line = λ m bad. let e : suc m ≡ suc (n + m) = omega (arith, none) in
-      subst (λ (k : ℕ). IsBadLine k all setup) e (rw (sym same) bad);
-  counted = omega (arith, none, ap (length {A = List ℕ}) same);
-}
-
-pub comes_to_end : {n : ℕ} {all lines : List (List ℕ)} {old now : SetupView} → IsOnTheWay n all lines old now → lines ≡ [] →
-    AreCarriedOut all lines old now
-comes_to_end {lines} {now} before none =
-    let end : AreCarriedOut lines lines now now = rw none (refl, refl) in before.carried_out lines now end
-
 module _ {n m : ℕ} {all lines rest : List (List ℕ)} {text : Option (Bor (List ℕ))} {old now : SetupView} (before : IsOnTheWay n all lines old now)
     (next : IsNextLine text lines rest) (number : m ≡ n + 1) where
   bad_here : IsMalformed next.line now → IsBadLine m all old
@@ -42,12 +29,6 @@ module _ {n m : ℕ} {all lines rest : List (List ℕ)} {text : Option (Bor (Lis
   module _ (told : Bor (List ℕ)) (is : text ≡ Some told) where
     is_line : (told.now ≡ next.line) × IsText next.line
     is_line = rw is at next.told
-
-    pub stops : is_input told.now ≡ true → AreCarriedOut all lines old now
-    stops input =
-        let same = is_line.0 in
-        let last : is_input next.line ≡ true = rw (sym same) input in
-        let end : AreCarriedOut lines lines now now = rw next.first (inl (last, refl, refl)) in before.carried_out lines now end
 
     module _ (other : is_input told.now ≡ false) where
       pub says_nothing : (fault : LineFault) → fault ≡ LineFault.Malformed →

@@ -1,5 +1,5 @@
 use Rattle.std.proofs.Common.{rules}
-use Rattle.network_setup.proofs.SettingUp.{comes_to_end, does, no_text, none_taken, says_nothing, stops}
+use Rattle.network_setup.proofs.SettingUp.{does, no_text, says_nothing}
 use Rattle.network_setup.proofs.run.read_setup.Goals as goal
 
 pub returns-in_default-text-clause-bad_line : goal.returns-in_default-text-clause-bad_line
