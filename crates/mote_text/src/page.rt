@@ -1,7 +1,7 @@
 //! Bytes that are put at a position of a buffer: words with a blank after each, numbers, bytes in hex.
 #![tactic(auto, unfolding(crate::specs::Code::EntryLines::blanked))]
 
-ghost use Rattle.std.specs.Prelude.{◌≡◌, ◌≢◌, ◌≤◌, ◌+◌, ◌-◌, ◌*◌, ◌++◌, [], ◌∷◌, length, take, decimal};
+ghost use Rattle.std.specs.Prelude.{◌≡◌, ◌≢◌, ◌≤◌, ◌<◌, ◌+◌, ◌-◌, ◌*◌, ◌/◌, ◌%◌, ◌++◌, [], ◌∷◌, length, take, decimal};
 ghost use Rattle.hex.specs.Hex.{encode_lower};
 ghost use Rattle.mote_text.specs.EntryText.{hex};
 ghost use Rattle.mote_text.specs.Code.EntryLines.{blanked};
@@ -154,12 +154,52 @@ impl Page {
         self.put_block::<4>(at, &numbers[from..], width)
     }
 
+    /// Puts the two digits of a number below 100, and a blank.
+    // They are the last ones of a number from 100 to 199.
+    #[inline(always)]
+    fn put_two_digits(&mut self, at: usize, n: u8) -> usize
+        requires few { n < 100 }
+        requires room { at + 4 ≤ 4096 }
+        ensures { Puts self.old.bytes self.new.bytes at result 3 ((48 + n / 10) ∷ (48 + n % 10) ∷ 32 ∷ []) }
+    {
+        let from = 8 * (100 + n) as usize + 1;
+        self.put_block::<4>(at, &small_numbers()[from..], 3)
+    }
+
+    /// Puts the digits of a number below 256.
+    #[inline(always)]
+    fn put_small_digits(&mut self, at: usize, n: u8) -> usize
+        requires { at + 4 ≤ 4096 }
+        ensures { Puts self.old.bytes self.new.bytes at result 3 (decimal n) }
+    {
+        let from = 8 * n as usize;
+        let numbers = small_numbers();
+        let width = numbers[from + 4] as usize - 1;
+        self.put_block::<4>(at, &numbers[from..], width)
+    }
+
+    /// Puts a number of three or four digits in decimal and a blank.
+    #[inline(always)]
+    fn put_short_number(&mut self, at: usize, n: u32) -> usize
+        requires least { 100 ≤ n }
+        requires most { n < 10_000 }
+        requires room { at + 8 ≤ 4096 }
+        ensures { Puts self.old.bytes self.new.bytes at result 6 (blanked (decimal n ∷ [])) }
+    {
+        let end = self.put_small_digits(at, (n / 100) as u8);
+        self.put_two_digits(end, (n % 100) as u8)
+    }
+
     /// Puts a number in decimal and a blank, however many digits it has.
     #[inline(never)]
     pub(crate) fn put_large_number(&mut self, at: usize, n: u64) -> usize
         requires { at + 21 ≤ 4096 }
         ensures { Puts self.old.bytes self.new.bytes at result 21 (blanked (decimal n ∷ [])) }
     {
+        // Counts have mostly few digits: `itoa` makes those of a number apart, and they are copied.
+        if n >= 100 && n < 10_000 {
+            return self.put_short_number(at, n as u32);
+        }
         let end = self.put(at, Buffer::new().format(n).as_bytes());
         self.put(end, b" ")
     }
