@@ -1,12 +1,14 @@
 //! An application that blinks.
 
-ghost use Rattle.std.specs.Prelude.{◌≡◌, ◌≤◌, false, length};
+ghost use Rattle.std.specs.Prelude.{◌≡◌, false};
+ghost use Rattle.mote_types.specs.declared.call.Call as call_of;
 ghost use Rattle.mote_apps.specs.Blink.{blink_says, light_text};
 
-use crate::calls::put_print;
 use mote_types::app::App;
 use mote_types::call::Call;
 use mote_types::event::{Event, INIT, Stimulus, TIMER};
+use mote_types::push_bytes;
+use mote_types::reply::Chunk;
 
 /// The ticks between two changes of the light.
 const INTERVAL: u32 = 10;
@@ -21,12 +23,24 @@ pub struct Blink {
     pub printed: bool,
 }
 
-/// The bytes that tell whether the light is on.
-fn text_of(lit: bool) -> &'static [u8]
-    ensures value { result.now ≡ light_text lit }
-    ensures few { length result.now ≤ 64 }
+/// Writes the call that prints whether the light is on into the buffer.
+// A function of its own, since it has room for bytes, which is cleared at its entry. Each text has a fixed length, so it is moved
+// without a call.
+#[inline(never)]
+fn put_light(call: &mut Call, lit: bool)
+    ensures { call.new ≡ call_of.Call.Print (record { items = light_text lit }) }
 {
-    if lit { b"on\n" } else { b"off\n" }
+    *call = Call::Print(Chunk::new());
+    match call {
+        Call::Print(text) => {
+            if lit {
+                push_bytes(text, b"on\n");
+            } else {
+                push_bytes(text, b"off\n");
+            }
+        }
+        _ => unreachable!(),
+    }
 }
 
 impl Blink {
@@ -60,7 +74,7 @@ impl App for Blink {
             Stimulus::Event(Event { code: TIMER, .. }) => {
                 self.lit = !self.lit;
                 self.printed = true;
-                put_print(call, text_of(self.lit));
+                put_light(call, self.lit);
             }
             Stimulus::Answer(_) if self.printed => {
                 self.printed = false;
