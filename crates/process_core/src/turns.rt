@@ -1,6 +1,7 @@
 //! What the layer above reports after a job: how a turn ended, or that an expiry counts.
 
-ghost use Rattle.std.specs.Prelude.{◌≡◌, Some};
+ghost use Rattle.std.specs.Prelude.{◌≡◌, ◌≤◌, Some, length};
+ghost use Rattle.mote_types.specs.declared.reply.Reply.{Reply as Answered};
 ghost use Rattle.process_core.specs.Requests as request;
 ghost use Rattle.process_core.specs.Code.Items as request_items;
 ghost use Rattle.process_core.specs.Code.SchedulerView.{awaiting_nothing};
@@ -9,6 +10,7 @@ use crate::front::Front;
 use crate::open_work::Continuation;
 use crate::scheduler::Scheduler;
 use crate::state::State;
+use arrayvec::ArrayVec;
 use mote_types::event::Pid;
 use mote_types::reply::Reply;
 
@@ -22,6 +24,20 @@ impl Scheduler {
         // Where both say Done nothing is moved: a reply has room for bytes.
         if !matches!(reply, Reply::Done) || !matches!(self.fields.reply, Reply::Done) {
             self.fields.reply = reply;
+        }
+        self.fields.front = Front::Answer(caller);
+    }
+
+    /// As `answered`, where the reply has the bytes of a read: they are put where it is stored.
+    pub fn answered_bytes(&mut self, caller: Pid, bytes: &[u8])
+        requires turn { self.old.turn ≡ Some caller }
+        requires few { length bytes.now ≤ 64 }
+        ensures { self.new ≡ awaiting_nothing
+            (request.answered caller.0 (Answered.Bytes (record { items = bytes.now })) self.old.state) }
+    {
+        self.fields.reply = Reply::Bytes(ArrayVec::new());
+        if let Reply::Bytes(stored) = &mut self.fields.reply {
+            let _ = stored.try_extend_from_slice(bytes);
         }
         self.fields.front = Front::Answer(caller);
     }
