@@ -16,7 +16,7 @@ use crate::kernel_fields::KernelFields;
 use mote_types::call::Call;
 use mote_types::event::Pid;
 use mote_types::refusal::Refusal;
-use mote_types::reply::{Chunk, Reply};
+use mote_types::reply::Reply;
 use process_core::scheduler::Scheduler;
 
 /// The application that has the turn gets these bytes in its next turn, as the reply to a read.
@@ -27,9 +27,7 @@ pub fn answer_bytes(scheduler: &mut Scheduler, pid: Pid, bytes: &[u8])
     ensures { scheduler.new ≡ awaiting_nothing
         (request.answered pid.0 (Answered.Bytes (record { items = bytes.now })) scheduler.old.state) }
 {
-    let mut chunk = Chunk::new();
-    let _ = chunk.try_extend_from_slice(bytes);
-    scheduler.answered(pid, Reply::Bytes(chunk));
+    scheduler.answered_bytes(pid, bytes);
 }
 
 impl KernelFields {

@@ -1,6 +1,7 @@
 //! What the kernel does at an application's calls on events. A call that is refused changes nothing.
 
 ghost use Rattle.std.specs.Prelude.{◌≡◌};
+ghost use Rattle.mote_types.specs.Codes as codes;
 ghost use Rattle.mote_types.specs.declared.call.Call.{Call};
 ghost use Rattle.process_core.specs.Processes.{is_application};
 ghost use Rattle.kernel_core.specs.Calls as call_spec;
@@ -18,6 +19,16 @@ fn event_of(code: u8, payload: &Payload) -> Event
     Event {
         code,
         payload: payload.copied(),
+    }
+}
+
+// Of most events: it is written where it waits. Another one, which has room for a line, is copied there.
+fn number_event(code: u8, n: u32) -> Event
+    ensures { result ≡ codes.number_event code n }
+{
+    Event {
+        code,
+        payload: Payload::Num(n),
     }
 }
 
@@ -42,7 +53,12 @@ impl KernelFields {
         if is_reserved(code) {
             return self.refuse(pid, Refusal::Reserved);
         }
-        match self.scheduler.post(Pid(receiver), event_of(code, payload)) {
+        let receiver = Pid(receiver);
+        let outcome = match payload {
+            Payload::Num(n) => self.scheduler.post(receiver, number_event(code, *n)),
+            _ => self.scheduler.post(receiver, event_of(code, payload)),
+        };
+        match outcome {
             Ok(()) => self.answer(pid, Reply::Done),
             Err(refusal) => self.refuse(pid, refusal),
         }
@@ -57,7 +73,11 @@ impl KernelFields {
         if is_reserved(code) {
             return self.refuse(pid, Refusal::Reserved);
         }
-        match self.scheduler.broadcast(event_of(code, payload)) {
+        let outcome = match payload {
+            Payload::Num(n) => self.scheduler.broadcast(number_event(code, *n)),
+            _ => self.scheduler.broadcast(event_of(code, payload)),
+        };
+        match outcome {
             Ok(()) => self.answer(pid, Reply::Done),
             Err(refusal) => self.refuse(pid, refusal),
         }

@@ -7,7 +7,7 @@ ghost use Rattle.mote_types.specs.declared.entry.Input.{Input as Handed};
 ghost use Rattle.mote_types.specs.declared.entry.Note.{Note as Noted};
 ghost use Rattle.process_core.specs.Agenda.{Item};
 ghost use Rattle.process_core.specs.Idle.{is_empty};
-ghost use Rattle.kernel_core.specs.Code.Pending.{no_pending_entries, pending_items};
+ghost use Rattle.kernel_core.specs.Code.Pending.{input_items, no_pending_entries, note_items, pending_items};
 ghost use Rattle.kernel_core.specs.Run.{heard};
 
 use arrayvec::ArrayVec;
@@ -26,6 +26,78 @@ fn put_tick(made: &mut Entry, ticks: u32)
     }
 }
 
+/// Writes the entry of a sent frame into a buffer, which has something else.
+// Functions of their own, here and below: what they have room for is cleared at their entry.
+#[inline(never)]
+fn write_sent(made: &mut Entry, bytes: &[u8])
+    requires { length bytes.now ≤ 127 }
+    ensures { made.new ≡ Made.Note (Noted.Sent (record { items = bytes.now })) }
+{
+    *made = Entry::Note(Note::Sent(ArrayVec::new()));
+    if let Entry::Note(Note::Sent(sent)) = made {
+        let _ = sent.try_extend_from_slice(bytes);
+    }
+}
+
+/// Writes the entry of a sent frame into a buffer: in place, where that has one of as many bytes, as it has after most frames.
+fn put_sent(made: &mut Entry, bytes: &[u8])
+    requires { length bytes.now ≤ 127 }
+    ensures { made.new ≡ Made.Note (Noted.Sent (record { items = bytes.now })) }
+{
+    match made {
+        Entry::Note(Note::Sent(sent)) if sent.len() == bytes.len() => {
+            sent.as_mut_slice().copy_from_slice(bytes);
+        }
+        _ => write_sent(made, bytes),
+    }
+}
+
+/// Takes the input, whatever it is, and writes its entry into `made`.
+#[inline(never)]
+fn take_input(input: &mut Option<Input>, made: &mut Entry)
+    requires some { is_empty (input_items input.old) ≡ false }
+    ensures entry { input_items input.old ≡ Item.Show made.new ∷ [] }
+    ensures input { input.new ≡ None }
+    ensures kind { is_halt made.new ≡ false }
+    ensures untold { (p : ℕ) → heard p (made.new ∷ []) ≡ [] }
+{
+    if let Some(taken) = input.take() {
+        *made = Entry::Input(taken);
+    }
+}
+
+/// Takes the note, whatever it is, and writes its entry into `made`.
+#[inline(never)]
+fn take_any_note(note: &mut Option<Note>, made: &mut Entry)
+    requires some { is_empty (note_items note.old) ≡ false }
+    ensures entry { note_items note.old ≡ Item.Show made.new ∷ [] }
+    ensures note { note.new ≡ None }
+    ensures kind { is_halt made.new ≡ false }
+    ensures untold { (p : ℕ) → heard p (made.new ∷ []) ≡ [] }
+{
+    if let Some(taken) = note.take() {
+        *made = Entry::Note(taken);
+    }
+}
+
+/// As `take_any_note`. Of a sent frame, as most notes are, only the bytes are moved.
+// Out of the way of turns, before which it is seldom called.
+#[inline(never)]
+fn take_note(note: &mut Option<Note>, made: &mut Entry)
+    requires some { is_empty (note_items note.old) ≡ false }
+    ensures entry { note_items note.old ≡ Item.Show made.new ∷ [] }
+    ensures note { note.new ≡ None }
+    ensures kind { is_halt made.new ≡ false }
+    ensures untold { (p : ℕ) → heard p (made.new ∷ []) ≡ [] }
+{
+    if let Some(Note::Sent(bytes)) = note {
+        put_sent(made, bytes.as_slice());
+        *note = None;
+    } else {
+        take_any_note(note, made);
+    }
+}
+
 /// Takes the input, or where there is none the note, and writes its entry into `made`.
 fn take_entry(input: &mut Option<Input>, note: &mut Option<Note>, made: &mut Entry)
     requires some { is_empty (pending_items (record { input = input.old; note = note.old })) ≡ false }
@@ -40,11 +112,9 @@ fn take_entry(input: &mut Option<Input>, note: &mut Option<Note>, made: &mut Ent
         put_tick(made, *ticks);
         *input = None;
     } else if input.is_some() {
-        if let Some(taken) = input.take() {
-            *made = Entry::Input(taken);
-        }
-    } else if let Some(taken) = note.take() {
-        *made = Entry::Note(taken);
+        take_input(input, made);
+    } else {
+        take_note(note, made);
     }
 }
 
