@@ -12,6 +12,7 @@ use crate::open_mote::OpenMote;
 use crate::status::{DONE, NO_CALL, NO_FRAME, NO_ROOM, NO_TIMER, NO_TURN, refusal_status};
 use crate::turn::PlainTurn;
 use mote_session::session::{Next, Session};
+use mote_text::output_buffer::OutputBuffer;
 use mote_types::entry::Input;
 
 /// Feeds the input of a line of a script.
@@ -149,6 +150,28 @@ pub fn put_sent(session: &Session, bytes: &mut [u8], length: &mut usize) -> u32
     DONE
 }
 
+/// Puts the line of a session's last entry, without its end, to the front of the buffer. The line is made in `text`.
+fn put_entry_line(
+    session: &Session,
+    text: &mut OutputBuffer,
+    line: &mut [u8],
+    length: &mut usize,
+) -> u32
+    ensures status { result ≡ line_status_of (size_of line.old) session.now.last }
+    ensures line { result ≡ 0 → IsLastLine (take length.new line.new) session.now }
+    ensures fits { result ≡ 0 → length.new ≤ size_of line.new }
+    ensures rest { result ≡ 0 → drop length.new line.new ≡ drop length.new line.old }
+    ensures length { result ≡ 20 → IsSomeAnd session.now.last (λ entry. length.new + 1 ≡ size_of (entry_line entry)) }
+    ensures no_line { result ≢ 0 → line.new ≡ line.old }
+    ensures no_length { result ≢ 0 → result ≢ 20 → length.new ≡ length.old }
+{
+    text.clear();
+    match session.push_line(text) {
+        Ok(()) => put_line(text.as_slice(), line, length),
+        Err(refusal) => refusal_status(refusal),
+    }
+}
+
 /// Puts the line of the last entry, without its end, to the front of the buffer.
 pub fn put_last_line(open_mote: &mut OpenMote, line: &mut [u8], length: &mut usize) -> u32
     ensures session { open_mote.new.session ≡ open_mote.old.session }
@@ -160,9 +183,5 @@ pub fn put_last_line(open_mote: &mut OpenMote, line: &mut [u8], length: &mut usi
     ensures no_line { result ≢ 0 → line.new ≡ line.old }
     ensures no_length { result ≢ 0 → result ≢ 20 → length.new ≡ length.old }
 {
-    open_mote.line.clear();
-    match open_mote.session.push_line(&mut open_mote.line) {
-        Ok(()) => put_line(open_mote.line.as_slice(), line, length),
-        Err(refusal) => refusal_status(refusal),
-    }
+    put_entry_line(&open_mote.session, &mut open_mote.line, line, length)
 }

@@ -2,7 +2,7 @@ use Rattle.std.proofs.Common.{◌≡◌, ◌+◌, List, ℕ, ◌∷◌, ◌++◌
 use Rattle.std.proofs.Math.Seq.{take-append_seam}
 use Rattle.mote_types.specs.declared.entry.Entry.{Entry}
 use Rattle.mote_text.specs.EntryText.{entry_line, line_of}
-use Rattle.library_core.proofs.in_session.put_last_line.Goals as goal
+use Rattle.library_core.proofs.in_session.put_entry_line.Goals as goal
 
 -- the line of an entry ends in byte 10
 ends : (before pushed : List ℕ) (last : Option Entry) → IsSomeAnd last (λ entry. pushed ≡ before ++ entry_line entry)
