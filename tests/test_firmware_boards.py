@@ -17,7 +17,7 @@ import pytest
 
 from contiki_programs import Contiki, messages, program_of, script_of, transcript_of, write_source
 from emulator import CORES, HAS_NEWLIB, PATIENCE, Builder, Emulated, kernels, replay, run_script, whole_lines
-from tools import EXAMPLES, ROOT, Word, needs, output_of, run
+from tools import EXAMPLES, ROOT, Word, needs, output_of, run, succeed
 
 pytestmark = [needs("arm-none-eabi-gcc", "qemu-system-arm"),
               pytest.mark.skipif(not HAS_NEWLIB, reason="not here: libnewlib-arm-none-eabi")]
@@ -85,9 +85,16 @@ def test_level(build: Builder, level: str) -> None:
             assert (status, transcript) == (0, transcript_of(source)), (board, source)
 
 
+def test_text_is_left_out(build: Builder) -> None:
+    """Only an image with a script has the kernel's text of a transcript."""
+    source = CONTIKI / "hello-world.c"
+    images = build(LARGE, source), build(LARGE, source, "--script", source.with_suffix(".script"))
+    assert [b" toarmuts_line\n" in succeed("arm-none-eabi-nm", image).stdout for image in images] == [False, True]
+
+
 @pytest.mark.parametrize("what,told_as", [
     ("static volatile char all[66000]", "variables and stack don't fit in the board's RAM"),
-    ("static volatile char all[42500]", "variables and stack don't fit in the board's RAM"),
+    ("static volatile char all[48000]", "variables and stack don't fit in the board's RAM"),
     ("static const char all[300000] = {1}", "code and constants don't fit in the board's flash"),
 ])
 @pytest.mark.parametrize("level", ["-O0", "-Os"])

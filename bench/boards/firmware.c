@@ -1,4 +1,4 @@
-/* Prints what `hello` takes of a board's RAM: bytes of heap, of stack while the mote is opened, and of stack from then on. */
+/* Prints what `hello` takes of a board's RAM: bytes of heap, each block of it, of stack while the mote is opened, and of stack from then on. */
 #include "contiki.h"
 
 #include <stdio.h>
@@ -28,6 +28,10 @@ print_first(void)
 {
   uint8_t *block = malloc(LONG);
   printf("heap %u\n", (unsigned)(block - board_heap_start) - HEADER);
+  /* Each block begins with its size. The last one is this function's. */
+  for(const uint8_t *at = board_heap_start; at < block - HEADER; at += *(const size_t *)(const void *)at) {
+    printf("block %u\n", (unsigned)*(const size_t *)(const void *)at - HEADER);
+  }
   printf("opened %u\n", depth(MAX(board_stack_low_open, block + LONG), 0));
   for(uint8_t *byte = board_stack_low_run; byte < (uint8_t *)__builtin_frame_address(0) - MARGIN; byte++) {
     *byte = MARK;

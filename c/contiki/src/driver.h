@@ -123,8 +123,7 @@ bool stays_for_callbacks(const struct process *p);
 void pass_on_callbacks(const struct process *p);
 void check_callbacks(const struct process *p, const void *frame);
 
-/* memory.c, and heap.c */
-void make_heap_tables(void);
+/* memory.c */
 void *take_bytes(size_t size);
 void make_block_tables(void);
 unsigned free_handle(void);

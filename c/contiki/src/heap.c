@@ -23,13 +23,17 @@ struct heap_table {
   struct heap_block blocks[MOST_BLOCKS];
 };
 
-/* Those of each process. */
+/* Those of each process, once any has allocated a block: they take 1 KB each on a board, where few programs use the heap. */
 static struct heap_table *tables;
+static unsigned table_count;
 
-void
+static void
 make_heap_tables(void)
 {
-  tables = take_bytes(process_count * sizeof *tables);
+  if(table_count == 0) {
+    tables = take_bytes(process_count * sizeof *tables);
+    table_count = process_count;
+  }
 }
 
 /* Zones: reserved parts of the heap. Their blocks may be anywhere in it. */
@@ -196,7 +200,7 @@ free_slot_of(const struct heap_table *table)
 static struct heap_block *
 find_block(const void *ptr, struct process **owner, unsigned *slot)
 {
-  for(unsigned i = 0; i < process_count * MOST_BLOCKS; i++) {
+  for(unsigned i = 0; i < table_count * MOST_BLOCKS; i++) {
     struct heap_block *block = &tables[i / MOST_BLOCKS].blocks[i % MOST_BLOCKS];
     if(block->bytes == ptr) {
       *owner = processes[i / MOST_BLOCKS];
@@ -234,6 +238,7 @@ heapmem_zone_alloc(heapmem_zone_t zone, size_t size)
     stop("heap memory is allocated outside of any process");
   }
   owner = activation->process;
+  make_heap_tables();
   slot = free_slot_of(&tables[index_of(owner)]);
   if(!zone_has_room(zone, size, 0) || !allocates(owner, slot, size, &at)) {
     return NULL;
@@ -364,7 +369,7 @@ heapmem_stats(heapmem_stats_t *stats)
   stats->available = known->available;
   stats->footprint = known->footprint;
   stats->chunks = known->chunks;
-  for(unsigned i = 0; i < process_count; i++) {
+  for(unsigned i = 0; i < table_count; i++) {
     count_parts(&tables[i].blocks[SHARED_BLOCK], stats);
   }
 }
@@ -376,7 +381,7 @@ heapmem_print_debug_info(bool print_chunks)
   heapmem_stats(&stats);
   printf("heap: %zu bytes allocated, %zu overhead, %zu available, footprint %zu, %zu chunks\n", stats.allocated, stats.overhead,
          stats.available, stats.footprint, stats.chunks);
-  for(unsigned i = 0; print_chunks && i < process_count * MOST_BLOCKS; i++) {
+  for(unsigned i = 0; print_chunks && i < table_count * MOST_BLOCKS; i++) {
     const struct heap_block *block = &tables[i / MOST_BLOCKS].blocks[i % MOST_BLOCKS];
     if(block->bytes != NULL) {
       printf("chunk of %s: %zu bytes\n", name_of(processes[i / MOST_BLOCKS]), block->size);

@@ -285,6 +285,5 @@ mmem_init(void)
 void
 make_block_tables(void)
 {
-  make_heap_tables();
   handles = take_bytes(process_count * sizeof *handles);
 }

@@ -13,7 +13,9 @@ struct board_settings {
   uint16_t node;            /* its number in a network, or 0 */
   bool has_record;          /* the third port carries the record */
   bool stops_at_fault;      /* instead of a reset */
-  void (*run_script)(void); /* in place of the ports, or NULL */
+  /* With a script in place of the ports, otherwise NULL: so the kernel's text is only linked with a script. */
+  void (*run_script)(void);
+  void (*show_script_line)(void);
 };
 
 extern const struct board_settings board_settings;
@@ -55,6 +57,7 @@ void note_losses(void);
 /* script.c */
 extern bool shows_transcript;
 void run_board_script(void);
+void show_board_line(void);
 void put_transcript(const char *text, size_t length);
 
 /* allocator.c: where malloc's memory ends. */

@@ -6,7 +6,7 @@
 
 #include "../record.h"
 
-enum { LINE_ROOM = 640, END_ROOM = 48 };
+enum { END_ROOM = 48 };
 
 static uint64_t line_count;
 static bool has_ended;
@@ -74,15 +74,12 @@ note_losses(void)
   note_loss(&sent, output_lost(RADIO), "radio: ", " bytes not sent");
 }
 
-/* In a script: the last line of the transcript. It isn't inlined: otherwise each turn of a board with ports would need the line's stack. */
-static __attribute__((noinline)) void
-show_last_line(void)
+/* In a script: the last line of the transcript. */
+static void
+show_line(void)
 {
-  uint8_t line[LINE_ROOM];
-  size_t length;
-  if(last_line(line, sizeof line - 1, &length) == 0) {
-    line[length] = '\n';
-    output_put_at_once(RECORD, line, length + 1);
+  if(board_settings.show_script_line != NULL) {
+    board_settings.show_script_line();
   }
 }
 
@@ -104,9 +101,7 @@ show_turn(const struct toarmuts_call *call)
   if(call->kind == TOARMUTS_CALL_PRINT) {
     output_put(CONSOLE, call->bytes, call->length);
   }
-  if(board_settings.run_script != NULL) {
-    show_last_line();
-  }
+  show_line();
 }
 
 /* An input, a note or the halt. */
@@ -114,8 +109,6 @@ void
 show_entry(void)
 {
   line_count++;
-  if(board_settings.run_script != NULL) {
-    show_last_line();
-  }
+  show_line();
   send_last_frame();
 }

@@ -1,8 +1,21 @@
 /* In place of the ports a script that is in the image: for the emulator, which ends after it. The third port has the transcript. */
 #include "firmware.h"
 
+enum { LINE_ROOM = 640 };
+
 /* settings.c has the script. */
 extern const char board_script[], board_script_end[];
+
+void
+show_board_line(void)
+{
+  uint8_t line[LINE_ROOM];
+  size_t length;
+  if(last_line(line, sizeof line - 1, &length) == 0) {
+    line[length] = '\n';
+    output_put_at_once(RECORD, line, length + 1);
+  }
+}
 
 void
 run_board_script(void)
