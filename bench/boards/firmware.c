@@ -10,6 +10,8 @@ AUTOSTART_PROCESSES(&hello_world);
 /* board.ld */
 extern uint8_t board_heap_start[], board_stack_top[], board_stack_low_open[], board_stack_low_run[];
 
+#define MPU_CONTROL (*(volatile uint32_t *)0xe000ed94)
+
 enum { MARK = 0xa5, MARGIN = 512, HEADER = 8, LONG = 2048 /* longer than a block that was freed */ };
 
 /* The deepest byte that isn't this one. */
@@ -27,12 +29,17 @@ static void
 print_first(void)
 {
   uint8_t *block = malloc(LONG);
+  unsigned opened;
   printf("heap %u\n", (unsigned)(block - board_heap_start) - HEADER);
   /* Each block begins with its size. The last one is this function's. */
   for(const uint8_t *at = board_heap_start; at < block - HEADER; at += *(const size_t *)(const void *)at) {
     printf("block %u\n", (unsigned)*(const size_t *)(const void *)at - HEADER);
   }
-  printf("opened %u\n", depth(MAX(board_stack_low_open, block + LONG), 0));
+  /* The guard of the running program's stack is over a part of this. */
+  MPU_CONTROL = 0;
+  opened = depth(MAX(board_stack_low_open, block + LONG), 0);
+  MPU_CONTROL = 5;
+  printf("opened %u\n", opened);
   for(uint8_t *byte = board_stack_low_run; byte < (uint8_t *)__builtin_frame_address(0) - MARGIN; byte++) {
     *byte = MARK;
   }
