@@ -1,4 +1,4 @@
-/* Prints what `hello` takes of a board's RAM: bytes of heap, each block of it, of stack while the mote is opened, and of stack from then on. */
+/* Prints what `hello` takes of a board's RAM: its blocks of the heap, and the stack while the mote is opened, and from then on. */
 #include "contiki.h"
 
 #include <stdio.h>

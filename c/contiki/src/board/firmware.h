@@ -10,9 +10,9 @@
 /* The program's settings: the command `contiki` writes them, and compiles them as the program. */
 struct board_settings {
   struct toarmuts_configuration sizes;
-  uint16_t node;            /* its number in a network, or 0 */
-  bool has_record;          /* the third port carries the record */
-  bool stops_at_fault;      /* instead of a reset */
+  uint16_t node;       /* its number in a network, or 0 */
+  bool has_record;     /* the third port carries the record */
+  bool stops_at_fault; /* instead of a reset */
   /* With a script in place of the ports, otherwise NULL: so the kernel's text is only linked with a script. */
   void (*run_script)(void);
   void (*show_script_line)(void);
