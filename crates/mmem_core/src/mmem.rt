@@ -37,9 +37,9 @@ fn process_index(pid: Pid) -> usize
 #[derive(Drop)]
 pub struct Mmem {
     span: Span,
-    quotas: Quotas,
     places: [Option<Place>; NAMES],
     order: Order,
+    quotas: Quotas,
     used: u32,
     /// What each process's blocks take of that, from process 3 on.
     taken: [u32; PROCESSES],

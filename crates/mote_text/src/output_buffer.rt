@@ -34,6 +34,7 @@ impl Model for OutputBuffer {
 }
 
 impl OutputBuffer {
+    #[inline(always)]
     pub fn new() -> Self
         ensures { result.items ≡ [] }
     {

@@ -78,6 +78,7 @@ pub(crate) struct Page {
 }
 
 impl Page {
+    #[inline(always)]
     pub(crate) fn new() -> Self {
         Page {
             bytes: [0; CAPACITY],
