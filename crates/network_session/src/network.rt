@@ -1,7 +1,6 @@
 //! The network.
 
-ghost use Rattle.std.specs.Prelude.{◌≡◌, ◌≤◌, ◌<◌, ◌+◌, ◌^◌, ◌≢◌, ◌↔◌, length, not, map, true, false, is_some, nat_lt, slice_get, slice_set, None, Some, IfErr, IfOk, OnOk, IfSome, IfNone, IsErrOf, IsSomeAnd};
-ghost use Rattle.mote_session.specs.declared.session.Next.{Next as Came};
+ghost use Rattle.std.specs.Prelude.{◌≡◌, ◌≤◌, ◌<◌, ◌+◌, ◌^◌, ◌≢◌, ◌↔◌, length, not, map, true, false, is_some, nat_lt, slice_get, slice_set, None, Some, IfErr, IfOk, IsErrOf, IsSomeAnd};
 ghost use Rattle.network_session.specs.Network.{wakes_of};
 ghost use Rattle.network_session.specs.Refusals.{catch_up_refusal, feed_refusal, is_tick, mote_refusal, outcome_refusal, pass_refusal, step_refusal, submit_refusal};
 ghost use Rattle.network_session.specs.Schedule.{arriving, due_now, due_step, is_rest, passing};
@@ -9,7 +8,7 @@ ghost use Rattle.network_session.specs.declared.fault.NetworkBootFault.{NetworkB
 ghost use Rattle.network_session.specs.declared.outcome.Outcome.TheVariants.{Woken};
 ghost use Rattle.network_session.specs.Steps.{SubmittedIn, HandedIn, IsNetworkSubmitted, IsNetworkFed, IsToldTime, Steps, WorkedIn, aired_if, is_work};
 ghost use Rattle.network_session.specs.Code.Measures.{left_at_work, most_left_at_work};
-ghost use Rattle.network_session.specs.Code.Wakes.{AreWakes, IsSteady};
+ghost use Rattle.network_session.specs.Code.Wakes.{IsSteady};
 ghost use Rattle.mote_session.specs.Code.Speaking.{SpeaksBy};
 ghost use Rattle.network_session.specs.Code.Working.{Works, WorksIn};
 ghost use Rattle.kernel_core.specs.Code.Conditions.{ticks_of};
@@ -19,8 +18,8 @@ ghost use Rattle.mote_session.specs.declared.refusal.SessionRefusal.{SessionRefu
 ghost use Rattle.mote_types.specs.declared.entry.Input.{Input};
 ghost use Rattle.mote_session.specs.SessionView.{SessionView};
 ghost use Rattle.mote_session.specs.Sent.{sent_in};
-ghost use Rattle.network_session.specs.Alarms.{earliest_in, first_come};
-ghost use Rattle.medium_core.specs.Air.{are_links, arrival, gone_on, links_from, may_add, still_air, with_link};
+ghost use Rattle.network_session.specs.Alarms.{first_come};
+ghost use Rattle.medium_core.specs.Air.{are_links, arrival, links_from, may_add, still_air, with_link};
 ghost use Rattle.medium_core.specs.Code.Airs.{link_lists};
 ghost use Rattle.std.specs.Option.{option_copied};
 

@@ -1,9 +1,7 @@
 //! A network that reports what happens, a line at a time.
 
-ghost use Rattle.std.specs.Prelude.{◌≡◌, ◌≢◌, ◌<◌, ◌+◌, ◌++◌, ◌↔◌, [], map, true, false, is_some, slice_get, None, Some, IfErr, IfOk, IfSome, IfNone, IsErrOf, MatchOption};
-ghost use Rattle.medium_core.specs.Air.{still_air, with_link};
+ghost use Rattle.std.specs.Prelude.{◌≡◌, ◌≢◌, ◌<◌, ◌+◌, ◌++◌, [], true, false, is_some, slice_get, None, Some, IfErr, IfOk, IfSome, IfNone, IsErrOf, MatchOption};
 ghost use Rattle.medium_core.specs.Code.Airs.{link_lists};
-ghost use Rattle.medium_core.specs.declared.link.Link.{Link as OneLink};
 ghost use Rattle.mote_session.specs.SessionView.{SessionView};
 ghost use Rattle.mote_session.specs.Voices.{Voices};
 ghost use Rattle.network_session.specs.Steps.{IsNetworkSubmitted};

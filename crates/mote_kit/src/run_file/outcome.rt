@@ -1,6 +1,6 @@
 //! The result of a run.
 
-ghost use Rattle.std.specs.Prelude.{◌≡◌, ◌<◌, ◌-◌, ◌^◌, false, IfOk};
+ghost use Rattle.std.specs.Prelude.{◌≡◌, ◌<◌, ◌-◌, ◌^◌, IfOk};
 
 use crate::fault::{BootFault, MoteFault};
 use crate::mote::run_boxes;
