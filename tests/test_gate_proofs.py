@@ -72,6 +72,15 @@ def test_touched_meanwhile(tree: Tree, meanwhile: str, edits: str) -> None:
     assert tree.ran.returncode == 0 and not built(tree) and not (tree.crate("mote") / "out/proved").exists()
 
 
+def test_some_are_current_before(tree: Tree) -> None:
+    """A copy's libraries come in the place of all that are there, of which some are current: otherwise the others are proved."""
+    assert prove_all(tree)[-2:] == takes(3, 2)
+    tree.edit("low")
+    assert built(tree) == ["beside"]
+    assert prove_all(tree)[-2:] == takes(3, 2) and built(tree) == ["beside", "low", "high"]
+    assert tree.run("prove", "--is-current", "scenario").returncode == 0
+
+
 def test_built_after_it(tree: Tree) -> None:
     """Where a library was built over others, none is taken."""
     assert prove_all(tree, BEHIND="touch crates/low/out/rlib/stamp", TOARMUTS_EDITS="")[-2:] == takes(0, 2)
