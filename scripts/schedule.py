@@ -25,10 +25,9 @@ def most_jobs(memory: int) -> int:
 
 @dataclass(frozen=True)
 class Share:
-    """What a crate gets when it starts: the number of its jobs, the number of places that it counts as, and its niceness."""
+    """What a crate gets when it starts: the number of its jobs, and its niceness."""
     name: str
     jobs: int
-    places: int
     niceness: int
 
 
@@ -60,19 +59,17 @@ class Schedule:
         return sorted(found, key=lambda name: (-self.way[name], name))
 
     def _share(self, name: str) -> Share:
-        """The crate on the longest way gets all jobs and keeps about half of them busy, so it counts half. One whose way is shorter by
-        less than its own time gets two, and the others one. A shorter way means a higher niceness."""
+        """A crate on the longest way, or shorter by less than its own time, gets two jobs: each one more reads all libraries once more, and
+        ends it no sooner. The others get one. A shorter way means a higher niceness."""
         off = max(self.way[it] for it in self.left) - self.way[name]
-        if off == 0:
-            return Share(name, self.most, (self.most + 1) // 2, 0)
         jobs = 2 if self.most > 1 and off < self.seconds[name] else 1
-        return Share(name, jobs, jobs, min(off // SECONDS_OF_NICENESS, MOST_NICE))
+        return Share(name, jobs, min(off // SECONDS_OF_NICENESS, MOST_NICE))
 
     def _has_room(self, share: Share) -> bool:
         """Up to one and a half times the most jobs are started at once. Crates with a shorter way that were ready before don't delay this
         one, except for memory: there are never more than twice the most jobs."""
-        used = sum(it.places for it in self.under_way.values()) + share.places
-        ahead = sum(it.places for it in self.under_way.values() if self.way[it.name] >= self.way[share.name]) + share.places
+        used = sum(it.jobs for it in self.under_way.values()) + share.jobs
+        ahead = sum(it.jobs for it in self.under_way.values() if self.way[it.name] >= self.way[share.name]) + share.jobs
         return not self.under_way or used <= self.most * 2 and ahead <= self.most * 3 // 2
 
     def begin(self) -> Iterator[Share]:

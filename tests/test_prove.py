@@ -34,26 +34,26 @@ def test_prove(tree: Tree) -> None:
     assert tree.begun() == ALL * 2 and not stamp.exists()
 
 
-# What is begun at once, each as name:jobs:places:niceness. Its places are what it counts against the most jobs: half of them for one on
-# the longest way. Crates are each name:the crates below it; their seconds are in the form of scripts/prove-times.
+# What is begun at once, each as name:jobs:niceness. Crates are each name:the crates below it; their seconds are in the form of
+# scripts/prove-times.
 @pytest.mark.parametrize(("begun", "most", "crates", "seconds"), [
-    pytest.param("b:4:2:0 a:1:1:2", 4, "a b c:a d:b,c", f"{OF_OTHERS}a 10", id="far-off-the-longest-way"),
-    pytest.param("b:4:2:0 a:2:2:1", 4, "a b c:a d:b,c", f"{OF_OTHERS}a 50", id="near-the-longest-way"),
-    pytest.param("b:4:2:0 a:1:1:1", 4, "a b c:a d:b,c", f"{OF_OTHERS}a 45", id="off-by-its-own-time"),
-    pytest.param("a:4:2:0 b:4:2:0", 4, "a b c:a d:b,c", f"{OF_OTHERS}a 90", id="two-longest-ways"),
-    pytest.param("b:1:1:0", 1, "a b c:a d:b,c", f"{OF_OTHERS}a 10", id="one-job-at-most"),
-    pytest.param("b:3:2:0 a:2:2:1", 3, "a b c:a d:b,c", f"{OF_OTHERS}a 50", id="three-jobs-at-most"),
-    pytest.param("b:4:2:0 a:1:1:10", 4, "a b c:a d:b,c", "c 10\nd 10\nb 1000\na 10", id="no-nicer-than-ten"),
-    pytest.param("a:4:2:0 b:2:2:1", 4, "a b short:a long:a d:short,long,b", "a 10\nb 60\nshort 10\nlong 100\nd 10",
+    pytest.param("b:2:0 a:1:2", 4, "a b c:a d:b,c", f"{OF_OTHERS}a 10", id="far-off-the-longest-way"),
+    pytest.param("b:2:0 a:2:1", 4, "a b c:a d:b,c", f"{OF_OTHERS}a 50", id="near-the-longest-way"),
+    pytest.param("b:2:0 a:1:1", 4, "a b c:a d:b,c", f"{OF_OTHERS}a 45", id="off-by-its-own-time"),
+    pytest.param("a:2:0 b:2:0", 4, "a b c:a d:b,c", f"{OF_OTHERS}a 90", id="two-longest-ways"),
+    pytest.param("b:1:0", 1, "a b c:a d:b,c", f"{OF_OTHERS}a 10", id="one-job-at-most"),
+    pytest.param("b:2:0 a:2:1", 3, "a b c:a d:b,c", f"{OF_OTHERS}a 50", id="three-jobs-at-most"),
+    pytest.param("b:2:0 a:1:10", 4, "a b c:a d:b,c", "c 10\nd 10\nb 1000\na 10", id="no-nicer-than-ten"),
+    pytest.param("a:2:0 b:2:1", 4, "a b short:a long:a d:short,long,b", "a 10\nb 60\nshort 10\nlong 100\nd 10",
                  id="the-longer-of-two-ways"),
-    pytest.param("a:4:2:0 b:4:2:0 c:4:2:0", 4, "a b c d e:a,b,c,d", "a 100\nb 100\nc 100\nd 100\ne 10", id="half-as-many-again"),
-    pytest.param("b:4:2:0 a:2:2:0", 4, "a b c:a,b", "a 50\nc 10", id="a-minute-where-no-time-is-known"),
+    pytest.param("a:2:0 b:2:0 c:2:0", 4, "a b c d e:a,b,c,d", "a 100\nb 100\nc 100\nd 100\ne 10", id="half-as-many-again"),
+    pytest.param("b:2:0 a:2:0", 4, "a b c:a,b", "a 50\nc 10", id="a-minute-where-no-time-is-known"),
 ])
 def test_order_and_jobs(begun: str, most: int, crates: str, seconds: str) -> None:
     """Which crates begin at once, and what each gets."""
     words = (word.partition(":") for word in crates.split())
     schedule = Schedule({name: lower.split(",") if lower else [] for name, _, lower in words}, read_seconds(seconds), most)
-    assert " ".join(f"{it.name}:{it.jobs}:{it.places}:{it.niceness}" for it in schedule.begin()) == begun
+    assert " ".join(f"{it.name}:{it.jobs}:{it.niceness}" for it in schedule.begin()) == begun
 
 
 def test_sources_of_the_same_moment(tree: Tree) -> None:
@@ -69,7 +69,7 @@ def test_twice_the_most_jobs() -> None:
     schedule = Schedule({**below, "d": list(below)}, {"s0": 10, "s1": 10, "s2": 10, "s3": 10}, 4)
     assert [it.name for it in schedule.begin()] == ["x", "s0", "s1", "s2", "s3"]
     schedule.ended("x")
-    assert [(it.name, it.places) for it in schedule.begin()] == [("w", 2), ("y", 2)]
+    assert [(it.name, it.jobs) for it in schedule.begin()] == [("w", 2), ("y", 2)]
 
 
 @pytest.mark.parametrize(("wish", "memory", "jobs"), [("3", 1, 3), ("0", 1, None), ("", 1, None), ("", 1 << 50, 1)],
