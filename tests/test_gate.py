@@ -164,6 +164,17 @@ def test_forecast(gate: Gate, words: list[str], load: int, printed: str) -> None
     assert first == (f"tests/all: {printed}" if printed else "") or not printed and not first.startswith("tests/all: ")
 
 
+def test_times_of_parts(gate: Gate) -> None:
+    """The whole gate says how long its two parts took, also one that fails; a part of it doesn't."""
+    def told(*words: str, **settings: str) -> list[str]:
+        ran = run(gate.tree / "tests/all", *words, settings={**gate.settings, **settings}, cwd=gate.tree)
+        return [re.sub(r"\d+\.\d", "N", line) for line in ran.stderr.decode().splitlines() if " took " in line]
+
+    both = ["tests/all: all proofs took N minutes, and N of a processor",
+            "tests/all: all tests, with what they need built, took N minutes, and N of a processor"]
+    assert told() == both and told(STATUS="1") == both and told("first") == []
+
+
 @pytest.mark.parametrize(("settings", "status", "last", "notes"), [
     ({}, 0, [ALL_PASS], "11 passed, 0 skipped"),
     ({"SAYS": "3 passed, 2 failed\\n", "STATUS": "1"}, 1, ["proofs: 2 failed", "7 passed, 2 failed"], ""),
