@@ -1,8 +1,9 @@
 //! A kernel whose caller makes the calls: it asks for the next step, and submits the call of each turn.
 
-ghost use Rattle.std.specs.Prelude.{◌≡◌, ◌≢◌, ◌<◌, ◌≤◌, ◌+◌, ◌^◌, ◌&&◌, ◌||◌, ◌↔◌, ℕ, [], true, false, None, Some, is_none, IfOk, IsErrOf};
+ghost use Rattle.std.specs.Prelude.{◌≡◌, ◌≢◌, ◌<◌, ◌≤◌, ◌+◌, ◌^◌, ◌&&◌, ◌||◌, ◌↔◌, ℕ, [], true, false, None, Some, is_none, length, IfOk, IsErrOf};
 ghost use Rattle.std.specs.List.{list_any};
 ghost use Rattle.mote_types.specs.Entries.{is_halt};
+ghost use Rattle.mote_types.specs.declared.entry.Input.{Input as Handed};
 ghost use Rattle.process_core.specs.Code.Conditions.{IsApplication};
 ghost use Rattle.kernel_core.specs.Code.AtBoot.{AreAtBoot, IsBooted};
 ghost use Rattle.kernel_core.specs.Calls.{after_call};
@@ -20,6 +21,7 @@ use crate::config::Config;
 use crate::kernel_fields::KernelFields;
 use crate::step::StepOutcome;
 use crate::turn::Turn;
+use arrayvec::ArrayVec;
 use device_core::serial_line::SerialLine;
 use mote_types::call::Call;
 use mote_types::entry::{Entry, Input};
@@ -155,7 +157,47 @@ impl AwaitingKernel {
         ensures inputs { self.new.mote.inputs ≡ self.old.mote.inputs + 1 }
         ensures closed { self.new.turn ≡ None }
     {
+        self.feed_from(&input);
+    }
+
+    /// As `feed`, of an input that the caller keeps.
+    pub fn feed_from(&mut self, input: &Input)
+        requires closed { self.old.turn ≡ None }
+        requires rest { is_at_rest self.old.mote.machine ≡ true }
+        requires clock { self.old.mote.machine.clock + ticks_of input.now ≤ 2 ^ 62 }
+        requires bytes { has_bytes input.now ≡ true }
+        requires few { self.old.mote.inputs < 2 ^ 40 }
+        ensures machine { self.new.mote.machine ≡ fed input.now self.old.mote.machine }
+        ensures inputs { self.new.mote.inputs ≡ self.old.mote.inputs + 1 }
+        ensures closed { self.new.turn ≡ None }
+    {
         self.fields.feed(input);
+    }
+
+    /// As `feed`, of a tick.
+    pub fn feed_ticks(&mut self, ticks: u32)
+        requires closed { self.old.turn ≡ None }
+        requires rest { is_at_rest self.old.mote.machine ≡ true }
+        requires clock { self.old.mote.machine.clock + ticks ≤ 2 ^ 62 }
+        requires few { self.old.mote.inputs < 2 ^ 40 }
+        ensures machine { self.new.mote.machine ≡ fed (Handed.Tick ticks) self.old.mote.machine }
+        ensures inputs { self.new.mote.inputs ≡ self.old.mote.inputs + 1 }
+        ensures closed { self.new.turn ≡ None }
+    {
+        self.fields.feed_ticks(ticks);
+    }
+
+    /// As `feed`, of a frame that the caller keeps, which has at least one byte.
+    pub fn feed_frame(&mut self, bytes: &ArrayVec<u8, 127>)
+        requires closed { self.old.turn ≡ None }
+        requires rest { is_at_rest self.old.mote.machine ≡ true }
+        requires bytes { 1 ≤ length bytes.now.items }
+        requires few { self.old.mote.inputs < 2 ^ 40 }
+        ensures machine { self.new.mote.machine ≡ fed (Handed.Frame bytes.now) self.old.mote.machine }
+        ensures inputs { self.new.mote.inputs ≡ self.old.mote.inputs + 1 }
+        ensures closed { self.new.turn ≡ None }
+    {
+        self.fields.feed_frame(bytes);
     }
 
     /// Before it rests, a mote makes no more than this many entries. Nothing is done.

@@ -47,7 +47,7 @@ impl Kernel {
         ensures machine { self.new.machine ≡ fed input self.old.machine }
         ensures inputs { self.new.inputs ≡ self.old.inputs + 1 }
     {
-        self.fields.feed(input);
+        self.fields.feed(&input);
     }
 
     /// Works until an entry is made or nothing is left to do. At most one application takes a turn; there is a box for each.

@@ -5,12 +5,14 @@ ghost use Rattle.mmem_core.specs.ManagedStore.{free};
 ghost use Rattle.kernel_core.specs.Inputs.{effect, fed, frame_arrived, frame_held, frame_refusal};
 ghost use Rattle.kernel_core.specs.Code.Conditions.{has_bytes, ticks_of};
 ghost use Rattle.kernel_core.specs.Code.Pending.{no_pending_entries};
+ghost use Rattle.mote_types.specs.declared.entry.Input.{Input as Handed};
 ghost use Rattle.kernel_core.specs.Code.View.{machine_of, HoldsFrames, IsInOrder, IsTakenIn};
 ghost use Rattle.kernel_core.specs.Run.{is_at_rest};
 ghost use Rattle.device_core.specs.PacketQueue.{free_slot};
 ghost use Rattle.node_memory.specs.Code.Placed.{last_owner};
 
 use crate::kernel_fields::KernelFields;
+use arrayvec::ArrayVec;
 use device_core::packet_queue::MOST_FRAMES;
 use mote_types::entry::Input;
 use mote_types::event::{ETIMER, PACKET_PROCESS, SERIAL_PROCESS};
@@ -96,19 +98,52 @@ impl KernelFields {
     }
 
     /// Feeds an input at rest. Its entry is first.
-    pub fn feed(&mut self, input: Input)
+    pub fn feed(&mut self, input: &Input)
         requires order { IsInOrder self.old }
         requires rest { is_at_rest (machine_of self.old) ≡ true }
-        requires clock { self.old.clock + ticks_of input ≤ 2 ^ 62 }
-        requires bytes { has_bytes input ≡ true }
+        requires clock { self.old.clock + ticks_of input.now ≤ 2 ^ 62 }
+        requires bytes { has_bytes input.now ≡ true }
         requires few { self.old.inputs < 2 ^ 40 }
-        ensures machine { machine_of self.new ≡ fed input (machine_of self.old) }
+        ensures machine { machine_of self.new ≡ fed input.now (machine_of self.old) }
         ensures inputs { self.new.inputs ≡ self.old.inputs + 1 }
         ensures order { IsInOrder self.new }
     {
         self.work = 0;
-        self.apply_input(&input);
+        self.apply_input(input);
         self.inputs += 1;
         self.pending.put_input(input);
+    }
+
+    /// As `feed`, of a tick.
+    pub fn feed_ticks(&mut self, ticks: u32)
+        requires order { IsInOrder self.old }
+        requires rest { is_at_rest (machine_of self.old) ≡ true }
+        requires clock { self.old.clock + ticks ≤ 2 ^ 62 }
+        requires few { self.old.inputs < 2 ^ 40 }
+        ensures machine { machine_of self.new ≡ fed (Handed.Tick ticks) (machine_of self.old) }
+        ensures inputs { self.new.inputs ≡ self.old.inputs + 1 }
+        ensures order { IsInOrder self.new }
+    {
+        self.work = 0;
+        self.clock += ticks as u64;
+        self.scheduler.mark(ETIMER);
+        self.inputs += 1;
+        self.pending.put_ticks(ticks);
+    }
+
+    /// As `feed`, of a frame.
+    pub fn feed_frame(&mut self, bytes: &ArrayVec<u8, 127>)
+        requires order { IsInOrder self.old }
+        requires rest { is_at_rest (machine_of self.old) ≡ true }
+        requires bytes { 1 ≤ length bytes.now.items }
+        requires few { self.old.inputs < 2 ^ 40 }
+        ensures machine { machine_of self.new ≡ fed (Handed.Frame bytes.now) (machine_of self.old) }
+        ensures inputs { self.new.inputs ≡ self.old.inputs + 1 }
+        ensures order { IsInOrder self.new }
+    {
+        self.work = 0;
+        self.receive_frame(bytes.as_slice());
+        self.inputs += 1;
+        self.pending.put_frame(bytes);
     }
 }

@@ -7,7 +7,8 @@ ghost use Rattle.mote_types.specs.declared.entry.Input.{Input as Handed};
 ghost use Rattle.mote_types.specs.declared.entry.Note.{Note as Noted};
 ghost use Rattle.process_core.specs.Agenda.{Item};
 ghost use Rattle.process_core.specs.Idle.{is_empty};
-ghost use Rattle.kernel_core.specs.Code.Pending.{input_items, no_pending_entries, note_items, pending_items};
+ghost use Rattle.kernel_core.specs.Code.Pending.{no_pending_entries, note_items, pending_items, waiting_input};
+ghost use Rattle.kernel_core.specs.declared.pending_entries.WaitingInput as Waits;
 ghost use Rattle.kernel_core.specs.Run.{heard};
 
 use arrayvec::ArrayVec;
@@ -52,17 +53,40 @@ fn put_sent(made: &mut Entry, bytes: &[u8])
     }
 }
 
-/// Takes the input, whatever it is, and writes its entry into `made`.
+/// Writes the entry of serial bytes into a buffer.
 #[inline(never)]
-fn take_input(input: &mut Option<Input>, made: &mut Entry)
-    requires some { is_empty (input_items input.old) ≡ false }
-    ensures entry { input_items input.old ≡ Item.Show made.new ∷ [] }
-    ensures input { input.new ≡ None }
-    ensures kind { is_halt made.new ≡ false }
-    ensures untold { (p : ℕ) → heard p (made.new ∷ []) ≡ [] }
+fn write_serial(made: &mut Entry, bytes: &[u8])
+    requires { length bytes.now ≤ 256 }
+    ensures { made.new ≡ Made.Input (Handed.Serial (record { items = bytes.now })) }
 {
-    if let Some(taken) = input.take() {
-        *made = Entry::Input(taken);
+    *made = Entry::Input(Input::Serial(ArrayVec::new()));
+    if let Entry::Input(Input::Serial(serial)) = made {
+        let _ = serial.try_extend_from_slice(bytes);
+    }
+}
+
+/// Writes the entry of a frame that arrived into a buffer.
+#[inline(never)]
+fn write_frame(made: &mut Entry, bytes: &[u8])
+    requires { length bytes.now ≤ 127 }
+    ensures { made.new ≡ Made.Input (Handed.Frame (record { items = bytes.now })) }
+{
+    *made = Entry::Input(Input::Frame(ArrayVec::new()));
+    if let Entry::Input(Input::Frame(frame)) = made {
+        let _ = frame.try_extend_from_slice(bytes);
+    }
+}
+
+/// Writes the entry of an input into a buffer.
+fn put_input_entry(made: &mut Entry, input: WaitingInput, bytes: &[u8])
+    requires most { length bytes.now ≤ 256 }
+    requires frame { input ≡ Waits.WaitingInput.Frame → length bytes.now ≤ 127 }
+    ensures { made.new ≡ Made.Input (waiting_input input bytes.now) }
+{
+    match input {
+        WaitingInput::Tick(ticks) => put_tick(made, ticks),
+        WaitingInput::Serial => write_serial(made, bytes),
+        WaitingInput::Frame => write_frame(made, bytes),
     }
 }
 
@@ -98,45 +122,37 @@ fn take_note(note: &mut Option<Note>, made: &mut Entry)
     }
 }
 
-/// Takes the input, or where there is none the note, and writes its entry into `made`.
-fn take_entry(input: &mut Option<Input>, note: &mut Option<Note>, made: &mut Entry)
-    requires some { is_empty (pending_items (record { input = input.old; note = note.old })) ≡ false }
-    ensures first { pending_items (record { input = input.old; note = note.old })
-        ≡ Item.Show made.new ∷ pending_items (record { input = input.new; note = note.new }) }
-    ensures input { input.new ≡ None }
-    ensures kind { is_halt made.new ≡ false }
-    ensures untold { (p : ℕ) → heard p (made.new ∷ []) ≡ [] }
-{
-    // A take copies the whole slot, also where nothing is there. Of a tick, as most inputs are, only the number is moved.
-    if let Some(Input::Tick(ticks)) = input {
-        put_tick(made, *ticks);
-        *input = None;
-    } else if input.is_some() {
-        take_input(input, made);
-    } else {
-        take_note(note, made);
-    }
+/// An input that waits for its entry. Its bytes, if it has any, are beside it.
+// An input by itself has room for a serial line, and each move copies all of that.
+#[derive(Clone, Copy, Drop)]
+pub enum WaitingInput {
+    Tick(u32),
+    Serial,
+    Frame,
 }
 
 /// An input that was fed, and then a note: that its frame is lost, or that a frame was sent.
 #[derive(Drop)]
 pub struct PendingEntries {
-    input: Option<Input>,
+    input: Option<WaitingInput>,
+    /// The bytes of that input.
+    bytes: ArrayVec<u8, 256>,
     note: Option<Note>,
     /// Whether there is any: each step of the machine asks that.
     is_any: bool,
 }
 
 impl Model for PendingEntries {
-    ghost use Rattle.std.specs.Prelude.{◌≡◌, not};
-    ghost use Rattle.process_core.specs.Idle.{is_empty};
-    ghost use Rattle.kernel_core.specs.Code.Pending.{Pending, pending_items};
+    ghost use Rattle.std.specs.Prelude.{◌≡◌, ◌≤◌, ◌||◌, Some, is_some, length};
+    ghost use Rattle.kernel_core.specs.Code.Pending.{Pending, waiting_inputs};
+    ghost use Rattle.kernel_core.specs.declared.pending_entries.WaitingInput.{WaitingInput};
 
     ghost Value = { Pending };
 
-    ghost view = { λ p. record { input = p.input; note = p.note } };
+    ghost view = { λ p. record { input = waiting_inputs p.input p.bytes.items; note = p.note } };
 
-    ghost invariant = { λ p. p.is_any ≡ not (is_empty (pending_items (record { input = p.input; note = p.note }))) };
+    ghost invariant = { λ p. (p.is_any ≡ (is_some p.input || is_some p.note))
+        × (p.input ≡ Some WaitingInput.Frame → length p.bytes.items ≤ 127) };
 }
 
 impl PendingEntries {
@@ -146,6 +162,7 @@ impl PendingEntries {
     {
         PendingEntries {
             input: None,
+            bytes: ArrayVec::new(),
             note: None,
             is_any: false,
         }
@@ -159,9 +176,39 @@ impl PendingEntries {
     }
 
     /// Adds the entry of an input, which is the first one.
-    pub fn put_input(&mut self, input: Input)
-        ensures { self.new ≡ record self.old { input = Some input } }
+    pub fn put_input(&mut self, input: &Input)
+        ensures { self.new ≡ record self.old { input = Some input.now } }
     {
+        match input {
+            Input::Tick(ticks) => self.put_ticks(*ticks),
+            Input::Serial(bytes) => self.put_bytes(WaitingInput::Serial, bytes.as_slice()),
+            Input::Frame(bytes) => self.put_frame(bytes),
+        }
+    }
+
+    /// As `put_input`, of a tick.
+    pub fn put_ticks(&mut self, ticks: u32)
+        ensures { self.new ≡ record self.old { input = Some (Handed.Tick ticks) } }
+    {
+        self.input = Some(WaitingInput::Tick(ticks));
+        self.is_any = true;
+    }
+
+    /// As `put_input`, of a frame.
+    pub fn put_frame(&mut self, bytes: &ArrayVec<u8, 127>)
+        ensures { self.new ≡ record self.old { input = Some (Handed.Frame bytes.now) } }
+    {
+        self.put_bytes(WaitingInput::Frame, bytes.as_slice());
+    }
+
+    /// Adds the entry of an input of bytes.
+    fn put_bytes(&mut self, input: WaitingInput, bytes: &[u8])
+        requires most { length bytes.now ≤ 256 }
+        requires frame { input ≡ Waits.WaitingInput.Frame → length bytes.now ≤ 127 }
+        ensures { self.new ≡ record self.old { input = Some (waiting_input input bytes.now) } }
+    {
+        self.bytes.clear();
+        let _ = self.bytes.try_extend_from_slice(bytes);
         self.input = Some(input);
         self.is_any = true;
     }
@@ -193,7 +240,12 @@ impl PendingEntries {
         ensures kind { is_halt made.new ≡ false }
         ensures untold { (p : ℕ) → heard p (made.new ∷ []) ≡ [] }
     {
-        take_entry(&mut self.input, &mut self.note, made);
+        if let Some(input) = self.input {
+            put_input_entry(made, input, self.bytes.as_slice());
+            self.input = None;
+        } else {
+            take_note(&mut self.note, made);
+        }
         self.is_any = self.note.is_some();
     }
 }

@@ -33,7 +33,11 @@ pub fn feed_input(session: &mut Session, input: Input) -> u32
     ensures fed { result ≡ 0 → TakesInput input session.old session.new }
     ensures unchanged { result ≢ 0 → session.new ≡ session.old }
 {
-    match session.feed_input(input) {
+    let fed = match input {
+        Input::Tick(ticks) => session.feed_ticks(ticks),
+        other => session.feed_input(other),
+    };
+    match fed {
         Ok(()) => DONE,
         Err(refusal) => refusal_status(refusal),
     }

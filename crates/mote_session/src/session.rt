@@ -1,11 +1,12 @@
 //! A mote asked step by step.
 
-ghost use Rattle.std.specs.Prelude.{◌≡◌, ◌≢◌, ◌≤◌, ◌+◌, ◌^◌, ◌++◌, ◌↔◌, None, Some, not, false, true, is_some, IfErr, IfOk, IfSome, IfNone, IsErrOf, IsOkAnd, IsSomeAnd};
+ghost use Rattle.std.specs.Prelude.{◌≡◌, ◌≢◌, ◌≤◌, ◌+◌, ◌^◌, ◌++◌, ◌↔◌, ◌||◌, None, Some, nat_le, nat_lt, not, false, true, is_some, IfErr, IfOk, IfSome, IfNone, IsErrOf, IsOkAnd, IsSomeAnd};
 ghost use Rattle.mote_text.specs.EntryText.{entry_line};
 ghost use Rattle.mote_text.specs.Code.Appending.{HasRoom};
 ghost use Rattle.mote_text.specs.Code.EntryLines.{entry_line_limit};
 ghost use Rattle.mote_text.specs.Script.{read_line};
 ghost use Rattle.mote_types.specs.declared.entry.Entry.{Entry as Made};
+ghost use Rattle.mote_types.specs.declared.entry.Input.{Input as Handed};
 ghost use Rattle.kernel_core.specs.Calls.{after_call};
 ghost use Rattle.kernel_core.specs.Code.Conditions.{most_entries_left, ticks_of};
 ghost use Rattle.kernel_core.specs.Machine.{booted, is_bootable};
@@ -19,7 +20,7 @@ ghost use Rattle.mote_session.specs.Code.Speaking.{SpeaksBy};
 ghost use Rattle.mote_session.specs.Voices.{IsCall, SpokeLast};
 ghost use Rattle.mote_session.specs.Code.Working.{MakesCall, WorksBy};
 ghost use Rattle.mote_session.specs.History.{History, at_boot, with_call, with_input, with_said};
-ghost use Rattle.mote_session.specs.Refusals.{input_refusal, is_input, line_refusal, unfit, unrest};
+ghost use Rattle.mote_session.specs.Refusals.{clock_limit, input_limit, input_refusal, is_input, line_refusal, unfit, unrest};
 ghost use Rattle.mote_session.specs.SessionRuns.{IsHistoryOf, KeepsPromise};
 ghost use Rattle.mote_session.specs.SessionView.{rests};
 ghost use Rattle.mote_session.specs.Steps.{Advances, HasSameInputs, IsSubmitted, IsFed, TakesLine, with_made};
@@ -447,7 +448,7 @@ impl Session {
         self.test_rest()?;
         let mut input = Input::Tick(0);
         match read_input_by(line, &mut input, &self.values) {
-            Ok(true) => self.feed_at_rest(input),
+            Ok(true) => self.feed_at_rest(&input),
             Ok(false) => Ok(()),
             Err(BadLine) => Err(SessionRefusal::BadLine),
         }
@@ -469,7 +470,35 @@ impl Session {
         histories_go_on();
         histories_keep_promise();
         self.test_rest()?;
-        self.feed_at_rest(input)
+        self.feed_at_rest(&input)
+    }
+
+    /// As `feed_input`, of a tick.
+    pub fn feed_ticks(&mut self, ticks: u32) -> Result<(), SessionRefusal>
+        ensures accepted { IfOk result (λ _. (input_refusal (Handed.Tick ticks) self.old ≡ None) × IsFed (Handed.Tick ticks) self.old self.new) }
+        ensures rested { IfOk result (λ _. rests self.old ≡ true) }
+        ensures history { IfOk result (λ _. (history : History) → IsHistoryOf history self.old →
+            KeepsPromise (with_input (Handed.Tick ticks) history) self.new) }
+        ensures refused { IfErr result (λ refusal. (input_refusal (Handed.Tick ticks) self.old ≡ Some refusal) × (self.new ≡ self.old)) }
+    {
+        histories_go_on();
+        histories_keep_promise();
+        self.test_rest()?;
+        self.feed_ticks_at_rest(ticks)
+    }
+
+    /// As `feed_input`, of a frame that the caller keeps.
+    pub fn feed_frame(&mut self, bytes: &ArrayVec<u8, 127>) -> Result<(), SessionRefusal>
+        ensures accepted { IfOk result (λ _. (input_refusal (Handed.Frame bytes.now) self.old ≡ None) × IsFed (Handed.Frame bytes.now) self.old self.new) }
+        ensures rested { IfOk result (λ _. rests self.old ≡ true) }
+        ensures history { IfOk result (λ _. (history : History) → IsHistoryOf history self.old →
+            KeepsPromise (with_input (Handed.Frame bytes.now) history) self.new) }
+        ensures refused { IfErr result (λ refusal. (input_refusal (Handed.Frame bytes.now) self.old ≡ Some refusal) × (self.new ≡ self.old)) }
+    {
+        histories_go_on();
+        histories_keep_promise();
+        self.test_rest()?;
+        self.feed_frame_at_rest(bytes)
     }
 
     /// Refuses where the mote doesn't rest.
@@ -489,19 +518,55 @@ impl Session {
         Ok(())
     }
 
-    /// Feeds an input at rest.
-    fn feed_at_rest(&mut self, input: Input) -> Result<(), SessionRefusal>
-        requires { rests self.old ≡ true }
-        ensures accepted { IfOk result (λ _. (unfit input self.old ≡ None) × IsFed input self.old self.new) }
-        ensures refused { IfErr result (λ refusal. (unfit input self.old ≡ Some refusal) × (self.new ≡ self.old)) }
+    /// Whether all inputs were fed, or the clock would go too far.
+    fn is_beyond(&self, ticks: u64) -> bool
+        ensures { result ≡ (nat_le input_limit self.now.inputs || nat_lt clock_limit (self.now.machine.clock + ticks)) }
     {
-        if !has_bytes(&input) {
+        self.kernel.inputs() >= MOST_INPUTS || ticks > MOST_TICKS - self.kernel.clock()
+    }
+
+    /// Feeds an input at rest.
+    fn feed_at_rest(&mut self, input: &Input) -> Result<(), SessionRefusal>
+        requires { rests self.old ≡ true }
+        ensures accepted { IfOk result (λ _. (unfit input.now self.old ≡ None) × IsFed input.now self.old self.new) }
+        ensures refused { IfErr result (λ refusal. (unfit input.now self.old ≡ Some refusal) × (self.new ≡ self.old)) }
+    {
+        if !has_bytes(input) {
             return Err(SessionRefusal::NoInput);
         }
-        if self.kernel.inputs() >= MOST_INPUTS || ticks(&input) > MOST_TICKS - self.kernel.clock() {
+        if self.is_beyond(ticks(input)) {
             return Err(SessionRefusal::TooManyInputs);
         }
-        self.kernel.feed(input);
+        self.kernel.feed_from(input);
+        Ok(())
+    }
+
+    /// Feeds a tick at rest.
+    fn feed_ticks_at_rest(&mut self, ticks: u32) -> Result<(), SessionRefusal>
+        requires { rests self.old ≡ true }
+        ensures accepted { IfOk result (λ _. (unfit (Handed.Tick ticks) self.old ≡ None) × IsFed (Handed.Tick ticks) self.old self.new) }
+        ensures refused { IfErr result (λ refusal. (unfit (Handed.Tick ticks) self.old ≡ Some refusal) × (self.new ≡ self.old)) }
+    {
+        if self.is_beyond(ticks as u64) {
+            return Err(SessionRefusal::TooManyInputs);
+        }
+        self.kernel.feed_ticks(ticks);
+        Ok(())
+    }
+
+    /// Feeds a frame at rest.
+    fn feed_frame_at_rest(&mut self, bytes: &ArrayVec<u8, 127>) -> Result<(), SessionRefusal>
+        requires { rests self.old ≡ true }
+        ensures accepted { IfOk result (λ _. (unfit (Handed.Frame bytes.now) self.old ≡ None) × IsFed (Handed.Frame bytes.now) self.old self.new) }
+        ensures refused { IfErr result (λ refusal. (unfit (Handed.Frame bytes.now) self.old ≡ Some refusal) × (self.new ≡ self.old)) }
+    {
+        if bytes.as_slice().is_empty() {
+            return Err(SessionRefusal::NoInput);
+        }
+        if self.is_beyond(0) {
+            return Err(SessionRefusal::TooManyInputs);
+        }
+        self.kernel.feed_frame(bytes);
         Ok(())
     }
 

@@ -15,7 +15,7 @@ ghost use Rattle.kernel_core.specs.Code.Conditions.{ticks_of};
 ghost use Rattle.network_session.specs.Waking.{due_tick, wake};
 ghost use Rattle.network_session.specs.declared.fault.NetworkFault.{NetworkFault};
 ghost use Rattle.mote_session.specs.declared.refusal.SessionRefusal.{SessionRefusal};
-ghost use Rattle.mote_types.specs.declared.entry.Input.{Input};
+ghost use Rattle.mote_types.specs.declared.entry.Input.{Input as Handed};
 ghost use Rattle.mote_session.specs.SessionView.{SessionView};
 ghost use Rattle.mote_session.specs.Sent.{sent_in};
 ghost use Rattle.network_session.specs.Alarms.{first_come};
@@ -27,8 +27,8 @@ use crate::alarms::Alarms;
 use crate::fault::{NetworkBootFault, NetworkFault};
 use crate::outcome::Outcome;
 use crate::waking::{ticks_behind, wake_of};
+use arrayvec::ArrayVec;
 use medium_core::fault::MediumFault;
-use medium_core::flight::copied;
 use medium_core::link::Link;
 use medium_core::medium::Medium;
 use mote_session::caller::Caller;
@@ -80,6 +80,20 @@ fn hand_in(motes: &mut Vec<Session>, m: usize, input: Input) -> Result<(), Netwo
     }
 }
 
+/// Passes a frame to one mote.
+fn hand_frame_in(motes: &mut Vec<Session>, m: usize, bytes: &ArrayVec<u8, 127>) -> Result<(), NetworkFault>
+    requires { m < length motes.old.items }
+    ensures handed { IfOk result (λ _. HandedIn m (λ mote. Handed.Frame bytes.now) motes.old.items motes.new.items) }
+    ensures accepted { IfOk result (λ _. (mote : SessionView) → slice_get motes.old.items m ≡ Some mote → mote_refusal (Handed.Frame bytes.now) mote ≡ None) }
+    ensures refused { IfErr result (λ _. motes.new.items ≡ motes.old.items) }
+    ensures why { IfErr result (λ fault. (mote : SessionView) → slice_get motes.old.items m ≡ Some mote → mote_refusal (Handed.Frame bytes.now) mote ≡ Some fault) }
+{
+    match motes[m].feed_frame(bytes) {
+        Ok(()) => Ok(()),
+        Err(refusal) => Err(NetworkFault::Refused(refusal)),
+    }
+}
+
 /// Tells one mote the time.
 fn tell_in(motes: &mut Vec<Session>, m: usize, now: u64) -> Result<(), NetworkFault>
     requires { m < length motes.old.items }
@@ -89,7 +103,7 @@ fn tell_in(motes: &mut Vec<Session>, m: usize, now: u64) -> Result<(), NetworkFa
     ensures why { IfErr result (λ fault. (mote : SessionView) → slice_get motes.old.items m ≡ Some mote → mote_refusal (due_tick now mote) mote ≡ Some fault) }
 {
     let ticks = ticks_behind(now, motes[m].clock());
-    match motes[m].feed_input(Input::Tick(ticks)) {
+    match motes[m].feed_ticks(ticks) {
         Ok(()) => Ok(()),
         Err(refusal) => Err(NetworkFault::Refused(refusal)),
     }
@@ -368,8 +382,7 @@ impl Network {
         if self.motes[to].clock() < self.medium.clock() {
             return self.tell_time(to);
         }
-        let frame = copied(next.bytes);
-        hand_in(&mut self.motes, to, Input::Frame(frame))?;
+        hand_frame_in(&mut self.motes, to, next.bytes)?;
         let _ = self.medium.land();
         self.active = Some(to);
         self.rounds = self.rounds.saturating_sub(1);

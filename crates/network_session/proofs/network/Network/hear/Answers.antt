@@ -1,22 +1,20 @@
-use Rattle.std.proofs.Common.{ℕ, IfErr, Some, sym, ◌==◌, false, ◌≡◌, ◌<◌, ap, subst, ◌∙◌, None, length, arith}
+use Rattle.std.proofs.Common.{IfErr, Some, sym, ◌==◌, false, ◌≡◌, ◌<◌, ap, subst, ◌∙◌, None, length, arith}
 use Rattle.network_session.specs.Network.{NetworkView}
 use Rattle.medium_core.specs.Air.{arrival}
 use Rattle.network_session.specs.Schedule.{arriving}
 use Rattle.network_session.specs.declared.outcome.Outcome.{Outcome}
 use Rattle.network_session.proofs.Due.{get_there, heard_due}
 use Rattle.network_session.proofs.StepRefusals.{frame_refused, refused_arrival, refused_due, refused_time, woken_due}
-use Rattle.arrayvec.specs.ArrayVec.{ArrayVec}
-use Rattle.mote_types.specs.declared.entry.Input.{Input}
-use Rattle.network_session.specs.Refusals.{mote_refusal, outcome_refusal}
+use Rattle.network_session.specs.Refusals.{outcome_refusal}
 use Rattle.network_session.proofs.Steady.{steady_begun}
 use Rattle.network_session.proofs.network.Network.hear.Goals as goal
 
 pub invariant_of-self-2 : goal.invariant_of-self-2
 invariant_of-self-2 c =
-    let h = c.in_ok-hand_in.ensures.handed in
+    let h = c.in_ok-hand_frame_in.ensures.handed in
     let e : c.self.inside.active ≡ None = ap (λ (v : NetworkView). v.active) c.self.view_is ∙ c.requires in
     let within : c.in-Some.next.to < length c.self.inside.motes.items = omega (arith, c.if-to-len.false, c.len.ensures) in
-    steady_begun c.in-Some.next.to c.self.inside.motes.items c.self.inside.wakes h.after c.hand_in.new.motes.items c.self.inside.target h.others within (rw e at c.self.invariant)
+    steady_begun c.in-Some.next.to c.self.inside.motes.items c.self.inside.wakes h.after c.hand_frame_in.new.motes.items c.self.inside.target h.others within (rw e at c.self.invariant)
 
 pub returns-clause-due : goal.returns-clause-due
 returns-clause-due c =
@@ -67,8 +65,8 @@ returns-then-clock-clause-why c =
     refused_due c.tell_time.result net (Outcome.Woken c.in-Some.next.to) due
     (refused_time c.tell_time.result net c.in-Some.next.to (omega (arith, within, inside)) c.tell_time.ensures.why)
 
-pub returns-in_err-hand_in-clause-why : goal.returns-in_err-hand_in-clause-why
-returns-in_err-hand_in-clause-why c =
+pub returns-in_err-hand_frame_in-clause-why : goal.returns-in_err-hand_frame_in-clause-why
+returns-in_err-hand_frame_in-clause-why c =
     let motes = c.self.inside.motes.items in
     let within : c.in-Some.next.to < length motes = omega (arith, c.if-to-len.false, c.len.ensures) in
     let one = get_there motes c.in-Some.next.to c.index.result.now within c.index.ensures in
@@ -89,7 +87,6 @@ returns-in_err-hand_in-clause-why c =
     heard_due net c.in-Some.next.due c.in-Some.next.from c.in-Some.next.to c.in-Some.next.bytes.now c.index-2.result.now two up full
     (omega (arith, c.if-clock.false, c.clock.ensures.value, c.clock-2.ensures.value)) c.in-Some.ensures.some in
     subst (λ (v : NetworkView). IfErr c.from_residual.result (λ fault. outcome_refusal (arriving v (arrival v.air)) v ≡ Some fault)) c.self.view_is
-    (refused_arrival c.from_residual.result net (Outcome.Heard c.in-Some.next.to) c.in_err-hand_in.field-0.0 c.from_residual.ensures.1 (sym due)
-    (frame_refused net c.in-Some.next.due c.in-Some.next.from c.in-Some.next.to c.in-Some.next.bytes.now c.in_err-hand_in.field-0.0 within c.in-Some.ensures.some
-    (λ mote there. subst (λ (bytes : ArrayVec ℕ). mote_refusal (Input.Frame bytes) mote ≡ Some c.in_err-hand_in.field-0.0) c.copied-frame.ensures
-    (c.in_err-hand_in.ensures.why mote there))))
+    (refused_arrival c.from_residual.result net (Outcome.Heard c.in-Some.next.to) c.in_err-hand_frame_in.field-0.0 c.from_residual.ensures.1 (sym due)
+    (frame_refused net c.in-Some.next.due c.in-Some.next.from c.in-Some.next.to c.in-Some.next.bytes.now c.in_err-hand_frame_in.field-0.0 within c.in-Some.ensures.some
+    c.in_err-hand_frame_in.ensures.why))
