@@ -55,7 +55,7 @@ pub use Rattle.node_memory.specs.Memory.{Memory, fresh_memory}
 pub use Rattle.process_core.specs.Agenda.{Item, Job, Queued}
 pub use Rattle.process_core.specs.Code.Items.{ComesTo, after_items}
 pub use Rattle.process_core.specs.Code.LonePoll.{IsLonePoll, polled_alone, unmarked}
-pub use Rattle.process_core.specs.Code.SchedulerView.{SchedulerView, awaiting_nothing, job_of}
+pub use Rattle.process_core.specs.Code.SchedulerView.{SchedulerView, awaiting_nothing, job_in}
 pub use Rattle.process_core.specs.Idle.{is_idle}
 pub use Rattle.process_core.specs.Processes.{is_any_marked, is_application, is_kernel_process, is_on_list, is_process, is_running, numbers, state_of, with_mark, with_state, without}
 pub use Rattle.process_core.specs.Requests.{farewells}

@@ -37,15 +37,15 @@ module _ (choices : Choices) where
   pub poll_passed : (k : KernelFields) → k.halted ≡ false → k.pending ≡ no_pending_entries → (k.work == work_limit) ≡ false
       → is_some (first_due k.clock k.timers.value.timers) ≡ false → IsLonePoll 0 k.scheduler.state
       → GoesSilently choices (machine_of k)
-      (machine_of (record k { work = k.work + 1; scheduler = awaiting_nothing (polled_alone 0 k.scheduler.state) }))
+      (machine_of (record k { work = k.work + 1; scheduler = awaiting_nothing (polled_alone 0 k.scheduler.state) k.scheduler.kept }))
   poll_passed k running shown room none lone =
-      let counted = record (record k { scheduler = awaiting_nothing lone.begun }) { work = k.work + 1 } in
-      let served = record counted { scheduler = awaiting_nothing lone.served } in
+      let counted = record (record k { scheduler = awaiting_nothing lone.begun k.scheduler.kept }) { work = k.work + 1 } in
+      let served = record counted { scheduler = awaiting_nothing lone.served k.scheduler.kept } in
       goes_on (job_silently (then_job (job_silently (fields_reach choices k
-      (awaiting_nothing lone.begun) Job.Round running shown lone.round) (rw room refl))
-      (fields_reach choices counted (awaiting_nothing lone.served) (Job.Serve 0 (plain_event POLL)) running shown lone.poll))
+      (awaiting_nothing lone.begun k.scheduler.kept) Job.Round running shown lone.round) (rw room refl))
+      (fields_reach choices counted (awaiting_nothing lone.served k.scheduler.kept) (Job.Serve 0 (plain_event POLL)) running shown lone.poll))
       (ap silent (nothing_posted (machine_of served) none))) (fields_go choices served
-      (awaiting_nothing (polled_alone 0 k.scheduler.state)) running shown lone.over)
+      (awaiting_nothing (polled_alone 0 k.scheduler.state) k.scheduler.kept) running shown lone.over)
 
   -- a tick at rest that makes no timer due: its entry, then such a round
   pub idle_tick : (k : KernelFields) (n : ℕ) → k.halted ≡ false → k.pending ≡ no_pending_entries
@@ -54,7 +54,7 @@ module _ (choices : Choices) where
       → unmarked 0 (marked 0 k.scheduler.state) ≡ k.scheduler.state → is_idle k.scheduler.state ≡ true
       → RestsAfter choices (Input.Tick n) (machine_of k) (machine_of (record k { clock = k.clock + n; work = 1; inputs = k.inputs + 1 }))
   idle_tick k n running shown none lone rest same idle =
-      let handed = record k { clock = k.clock + n; work = 0; scheduler = awaiting_nothing (marked 0 k.scheduler.state) } in
+      let handed = record k { clock = k.clock + n; work = 0; scheduler = awaiting_nothing (marked 0 k.scheduler.state) k.scheduler.kept } in
       record {
         accepted = machine_of handed;
         entry = entry_comes_first (Entry.Input (Input.Tick n)) (effect (Input.Tick n) (record (machine_of k) { work = 0 }))
@@ -63,8 +63,8 @@ module _ (choices : Choices) where
         rest = record {
           before =
               job_silently (then_job (poll_passed handed running shown refl none lone)
-              (fields_reach choices (record handed { work = 1; scheduler = awaiting_nothing (polled_alone 0 (marked 0 k.scheduler.state)) })
-              (awaiting_nothing k.scheduler.state) Job.Rest running shown
+              (fields_reach choices (record handed { work = 1; scheduler = awaiting_nothing (polled_alone 0 (marked 0 k.scheduler.state)) k.scheduler.kept })
+              (awaiting_nothing k.scheduler.state k.scheduler.kept) Job.Rest running shown
               (subst (λ s. ComesTo (polled_alone 0 (marked 0 k.scheduler.state)) Job.Rest s) same rest))) refl;
           at_rest = rw (running, shown) (idle_carrying (is_cancelled k.timers.value.armings) k.scheduler.state idle);
         };

@@ -2,6 +2,7 @@ pub mod Carrying
 pub mod Costs
 pub mod EntriesLeft
 pub mod Silent
+pub mod Standing
 pub mod Still
 pub mod Determined
 pub mod Reaching

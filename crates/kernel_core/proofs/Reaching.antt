@@ -4,7 +4,7 @@ use Rattle.kernel_core.proofs.Common.{Entry, Item, Job, job_carrying, SchedulerV
 use Rattle.kernel_core.specs.Code.Pending.{Pending}
 use Rattle.kernel_core.proofs.Silent.{goes_on, items_silently, job_reached, silent_step, silently_here}
 use Rattle.process_core.specs.Code.Yields.{Yields}
-use Rattle.kernel_core.specs.Code.OpenTurns.{HasWorked}
+use Rattle.kernel_core.specs.Code.OpenTurns.{HasWorked, WorksUpTo}
 use Rattle.kernel_core.specs.Code.Steps.{GoesOn}
 use Rattle.kernel_core.specs.declared.step.Step.{Step}
 use Rattle.kernel_core.specs.declared.step.StepOutcome.{StepOutcome}
@@ -63,3 +63,11 @@ pub worked_after : {outcome : StepOutcome} {turn : Turn} {before other : Entry} 
     → between.scheduler.state.applications ≡ old.scheduler.state.applications → old.work ≤ between.work
     → HasWorked outcome turn before other between new → HasWorked outcome turn before other old new
 worked_after {outcome} {turn} {before} {other} old between new kept applications more worked = grind arith
+
+-- unless a turn began, the buffer of turns doesn't matter
+pub worked_apart : {before other : Entry} {old new : KernelFields} (outcome : StepOutcome) (turn any : Turn)
+    → (outcome ≡ StepOutcome.Turn → ⊥) → WorksUpTo outcome turn before other old new → WorksUpTo outcome any before other old new
+worked_apart StepOutcome.Turn turn any other worked = absurd (other refl)
+worked_apart StepOutcome.Other turn any other worked = grind arith
+worked_apart StepOutcome.Rest turn any other worked = grind arith
+worked_apart StepOutcome.Halted turn any other worked = grind arith

@@ -5,7 +5,7 @@ ghost use Rattle.device_core.specs.SerialLine.{quiet_line};
 ghost use Rattle.node_memory.specs.Memory.{fresh_memory};
 ghost use Rattle.node_memory.specs.Code.Placed.{last_owner};
 ghost use Rattle.node_memory.specs.Sizes.{are_sizes};
-ghost use Rattle.process_core.specs.Code.SchedulerView.{awaiting_nothing};
+ghost use Rattle.process_core.specs.Code.SchedulerView.{awaiting_nothing, kept_at_boot};
 ghost use Rattle.process_core.specs.Scheduler.{at_boot as scheduler_at_boot};
 ghost use Rattle.timer_core.specs.Code.NumberedTimers.{at_boot as timers_at_boot};
 ghost use Rattle.kernel_core.specs.Code.AtBoot.{AreAtBoot, IsBooted};
@@ -94,7 +94,7 @@ impl KernelFields {
         serial: SerialLine,
     ) -> KernelFields
         requires tables { AreAtBoot config tables }
-        requires scheduler { scheduler ≡ awaiting_nothing (scheduler_at_boot config.apps) }
+        requires scheduler { scheduler ≡ awaiting_nothing (scheduler_at_boot config.apps) kept_at_boot }
         requires serial { serial ≡ quiet_line }
         ensures { IsBooted config result }
     {

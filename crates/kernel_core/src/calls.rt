@@ -1,6 +1,7 @@
 //! What the kernel does at an application's call.
 
 ghost use Rattle.std.specs.Prelude.{◌≡◌, ◌≤◌, Some, length};
+ghost use Rattle.mote_types.specs.declared.event.Stimulus.{Stimulus};
 ghost use Rattle.mote_types.specs.declared.reply.Reply.{Reply as Answered};
 ghost use Rattle.node_memory.specs.Code.Outcomes.{reply_to};
 ghost use Rattle.process_core.specs.Requests as request;
@@ -25,7 +26,8 @@ pub fn answer_bytes(scheduler: &mut Scheduler, pid: Pid, bytes: &[u8])
     requires turn { scheduler.old.turn ≡ Some pid }
     requires few { length bytes.now ≤ 64 }
     ensures { scheduler.new ≡ awaiting_nothing
-        (request.answered pid.0 (Answered.Bytes (record { items = bytes.now })) scheduler.old.state) }
+        (request.answered pid.0 (Answered.Bytes (record { items = bytes.now })) scheduler.old.state)
+        (record scheduler.old.kept { reply = Stimulus.Answer (Answered.Bytes (record { items = bytes.now })) }) }
 {
     scheduler.answered_bytes(pid, bytes);
 }

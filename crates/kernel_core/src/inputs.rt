@@ -1,13 +1,15 @@
 //! What reaches the mote from outside.
 
-ghost use Rattle.std.specs.Prelude.{◌≡◌, ◌<◌, ◌≤◌, ◌+◌, ◌^◌, true, length, None, Some, IfErr, IfOk};
+ghost use Rattle.std.specs.Prelude.{◌≡◌, ◌<◌, ◌≤◌, ◌+◌, ◌^◌, true, false, length, None, Some, IfErr, IfOk};
 ghost use Rattle.mmem_core.specs.ManagedStore.{free};
 ghost use Rattle.kernel_core.specs.Inputs.{effect, fed, frame_arrived, frame_held, frame_refusal};
 ghost use Rattle.kernel_core.specs.Code.Conditions.{has_bytes, ticks_of};
 ghost use Rattle.kernel_core.specs.Code.Pending.{no_pending_entries};
 ghost use Rattle.mote_types.specs.declared.entry.Input.{Input as Handed};
 ghost use Rattle.kernel_core.specs.Code.View.{machine_of, HoldsFrames, IsInOrder, IsTakenIn};
-ghost use Rattle.kernel_core.specs.Run.{is_at_rest};
+ghost use Rattle.kernel_core.specs.Code.Steps.{MakesEntry};
+ghost use Rattle.kernel_core.specs.Run.{Choices, is_at_rest};
+ghost use Rattle.mote_types.specs.declared.entry.Entry.{Entry as Made};
 ghost use Rattle.device_core.specs.PacketQueue.{free_slot};
 ghost use Rattle.node_memory.specs.Code.Placed.{last_owner};
 
@@ -95,6 +97,27 @@ impl KernelFields {
             }
             Input::Frame(bytes) => self.receive_frame(bytes.as_slice()),
         }
+    }
+
+    /// Feeds an input at rest, which the caller keeps, and makes its entry.
+    #[inline]
+    pub fn accept(&mut self, input: &Input)
+        requires order { IsInOrder self.old }
+        requires rest { is_at_rest (machine_of self.old) ≡ true }
+        requires clock { self.old.clock + ticks_of input.now ≤ 2 ^ 62 }
+        requires bytes { has_bytes input.now ≡ true }
+        requires few { self.old.inputs < 2 ^ 40 }
+        ensures machine { (choices : Choices)
+            → MakesEntry choices (fed input.now (machine_of self.old)) (Made.Input input.now) (machine_of self.new) }
+        ensures running { self.new.halted ≡ false }
+        ensures clock { self.new.clock ≡ self.old.clock + ticks_of input.now }
+        ensures applications { self.new.scheduler.state.applications ≡ self.old.scheduler.state.applications }
+        ensures inputs { self.new.inputs ≡ self.old.inputs + 1 }
+        ensures order { IsInOrder self.new }
+    {
+        self.work = 0;
+        self.apply_input(input);
+        self.inputs += 1;
     }
 
     /// Feeds an input at rest. Its entry is first.

@@ -105,9 +105,7 @@ impl Kernel {
         ensures applications { self.new.machine.scheduler.applications ≡ self.old.machine.scheduler.applications }
         ensures inputs { self.new.inputs ≡ self.old.inputs + 1 }
     {
-        self.fields.work = 0;
-        self.fields.apply_input(input);
-        self.fields.inputs += 1;
+        self.fields.accept(input);
     }
 
     /// Feeds a tick, which the caller keeps, to a mote at rest, as `accept`, and makes the one round that follows, where no

@@ -2,21 +2,23 @@
 
 ghost use Rattle.std.specs.Prelude.{◌≡◌, ◌<◌, ◌≤◌, ◌+◌, ℕ, true, false, Some};
 ghost use Rattle.mote_types.specs.declared.call.Call.{Call as AnyCall};
+ghost use Rattle.mote_types.specs.declared.event.Origin.{Origin as Source};
 ghost use Rattle.mote_types.specs.declared.event.Pid.{Pid as Process};
+ghost use Rattle.mote_types.specs.declared.event.Stimulus.{Stimulus as Received};
 ghost use Rattle.kernel_core.specs.Code.Pending.{no_pending_entries};
 ghost use Rattle.kernel_core.specs.Code.View.{ComesToJob, HasTakenJob, machine_of, entries_left_in, IsAtWork, IsInOrder};
 ghost use Rattle.process_core.specs.declared.next_job.NextJob as ready;
-ghost use Rattle.process_core.specs.Code.SchedulerView.{job_of};
+ghost use Rattle.process_core.specs.Code.SchedulerView.{job_in};
 ghost use Rattle.kernel_core.specs.Code.Draws.{IsFitJob};
 ghost use Rattle.kernel_core.specs.Code.Cost.{IsPaid, costs, present};
 ghost use Rattle.kernel_core.specs.Calls.{after_call};
-ghost use Rattle.kernel_core.specs.Run.{Choices, silent, within_limit, turn_taken, with_more_work};
+ghost use Rattle.kernel_core.specs.Run.{Choices, StepMade, silent, within_limit, turn_taken, with_more_work};
 
 use crate::pending_entries::PendingEntries;
 use device_core::packet_queue::PacketQueue;
 use device_core::serial_line::SerialLine;
 use mote_types::entry::Entry;
-use mote_types::event::{Origin, Pid, Stimulus};
+use mote_types::event::Stimulus;
 use node_memory::NodeMemory;
 use process_core::next_job::NextJob;
 use process_core::scheduler::Scheduler;
@@ -47,21 +49,14 @@ pub struct KernelFields {
 
 impl KernelFields {
     /// Whether a turn of the application begins. Otherwise the run is halted, and that entry is written into `other`.
-    pub fn begin_turn(
-        &mut self,
-        pid: Pid,
-        origin: Origin,
-        stimulus: &Stimulus,
-        other: &mut Entry,
-    ) -> bool
+    pub fn begin_turn(&mut self, other: &mut Entry) -> bool
         requires running { self.old.halted ≡ false }
         requires nothing_shown { self.old.pending ≡ no_pending_entries }
         requires work { self.old.work ≤ 10000 }
-        ensures begins { result ≡ true → (call : AnyCall) →
-            within_limit (machine_of self.old) (turn_taken pid.0 origin stimulus.now call (machine_of self.old))
-            ≡ (after_call call pid.0 (machine_of self.new), Some (Entry.Turn pid origin stimulus.now call)) }
-        ensures halts { result ≡ false → (call : AnyCall) →
-            within_limit (machine_of self.old) (turn_taken pid.0 origin stimulus.now call (machine_of self.old)) ≡ (machine_of self.new, Some other.new) }
+        ensures begins { result ≡ true → (pid : Process) (origin : Source) (stimulus : Received) (call : AnyCall) →
+            within_limit (machine_of self.old) (turn_taken pid.0 origin stimulus call (machine_of self.old))
+            ≡ (after_call call pid.0 (machine_of self.new), Some (Entry.Turn pid origin stimulus call)) }
+        ensures halts { result ≡ false → (turn : StepMade) → within_limit (machine_of self.old) turn ≡ (machine_of self.new, Some other.new) }
         ensures more { result ≡ true → (self.new ≡ record self.old { work = self.old.work + 1 }) × (self.old.work < 10000)
             × (other.new ≡ other.old) }
         ensures halted { result ≡ false → (self.new ≡ record self.old { halted = true }) × (other.new ≡ Entry.Halt) }
@@ -97,19 +92,21 @@ impl KernelFields {
         true
     }
 
-    /// Takes the next job from the agenda. Writes what a process then receives into `stimulus`.
-    pub fn next_job(&mut self, stimulus: &mut Stimulus) -> NextJob
+    /// Takes the next job from the agenda. Writes what a process then receives into `apart`, unless the scheduler has it.
+    pub fn next_job(&mut self, apart: &mut Stimulus) -> NextJob
         requires at_work { IsAtWork self.old }
         ensures reached { (choices : Choices)
-            → ComesToJob self.old.timers.value.armings choices (machine_of self.old) (job_of result stimulus.new) (machine_of self.new) }
+            → ComesToJob self.old.timers.value.armings choices (machine_of self.old) (job_in result self.new.scheduler.kept apart.new) (machine_of self.new) }
         ensures paid { (bound : ℕ) → present self.old.scheduler.state ≤ bound →
-            IsPaid bound (Some (job_of result stimulus.new)) (costs bound self.old.scheduler.state.agenda) (costs bound self.new.scheduler.state.agenda)
+            IsPaid bound (Some (job_in result self.new.scheduler.kept apart.new)) (costs bound self.old.scheduler.state.agenda) (costs bound self.new.scheduler.state.agenda)
             × (present self.new.scheduler.state ≤ present self.old.scheduler.state) }
         ensures served { (pid : Process) → result ≡ ready.NextJob.Serve pid → (bound : ℕ) → present self.old.scheduler.state ≤ bound →
             costs bound self.new.scheduler.state.agenda + 1 ≤ costs bound self.old.scheduler.state.agenda }
+        ensures heard { (pid : Process) → result ≡ ready.NextJob.Hear pid → (bound : ℕ) → present self.old.scheduler.state ≤ bound →
+            costs bound self.new.scheduler.state.agenda + 1 ≤ costs bound self.old.scheduler.state.agenda }
         ensures taken { HasTakenJob result self.old self.new }
-        ensures fit { IsFitJob (job_of result stimulus.new) self.old self.new }
+        ensures fit { IsFitJob (job_in result self.new.scheduler.kept apart.new) self.old self.new }
     {
-        self.scheduler.next_to(stimulus)
+        self.scheduler.next_in_place(apart)
     }
 }

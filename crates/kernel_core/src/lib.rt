@@ -24,6 +24,7 @@ mod packet_process;
 mod pending_entries;
 pub mod poll_laws;
 mod process_calls;
+pub mod running_kernel;
 mod serial_process;
 pub mod step;
 mod timer_calls;

@@ -2,7 +2,7 @@
 
 ghost use Rattle.std.specs.Prelude.{◌≡◌, ◌≤◌, ◌+◌, false};
 ghost use Rattle.kernel_core.specs.Calls.{after_call};
-ghost use Rattle.kernel_core.specs.Code.OpenTurns.{IsMidTurn, WorksUpTo};
+ghost use Rattle.kernel_core.specs.Code.OpenTurns.{IsMidTurn, WorksUpTo, told_turn};
 ghost use Rattle.kernel_core.specs.Code.View.{entries_left_in, machine_of, IsInOrder};
 
 use crate::kernel_fields::KernelFields;
@@ -19,6 +19,20 @@ impl KernelFields {
     pub fn next(&mut self, turn: &mut Turn, other: &mut Entry) -> StepOutcome
         requires order { IsInOrder self.old }
         ensures { WorksUpTo result turn.new other.old other.new self.old self.new }
+    {
+        let outcome = self.next_turn(turn, other);
+        if let StepOutcome::Turn = outcome {
+            self.scheduler
+                .write_stimulus(turn.origin, &mut turn.stimulus);
+        }
+        outcome
+    }
+
+    /// As `next`, but the stimulus of a turn isn't written where the scheduler has it.
+    #[inline]
+    pub fn next_turn(&mut self, turn: &mut Turn, other: &mut Entry) -> StepOutcome
+        requires order { IsInOrder self.old }
+        ensures { WorksUpTo result (told_turn self.new.scheduler.kept turn.new) other.old other.new self.old self.new }
     {
         if self.halted {
             return StepOutcome::Halted;

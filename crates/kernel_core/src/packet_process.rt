@@ -8,7 +8,7 @@ ghost use Rattle.kernel_core.specs.Code.View.{machine_of, IsServed, PostsOne};
 ghost use Rattle.kernel_core.specs.Machine.{free_places};
 ghost use Rattle.kernel_core.specs.PacketProcess as process;
 ghost use Rattle.kernel_core.specs.Repeating.{times};
-ghost use Rattle.kernel_core.specs.TimerProcesses.{exited_application};
+ghost use Rattle.kernel_core.specs.Code.KernelEvents.{exited_numbered};
 
 use crate::kernel_fields::KernelFields;
 use crate::kernel_processes::exited_application;
@@ -67,12 +67,12 @@ impl KernelFields {
     }
 
     /// Where the receiver has ended there is none, and no frame counts as announced.
-    pub fn forget_receiver(&mut self, payload: &Payload)
+    pub fn forget_receiver(&mut self, number: u32)
         requires events { HasQueueableEvents self.old }
-        ensures machine { machine_of self.new ≡ process.forget_receiver (exited_application payload.now) (machine_of self.old) }
+        ensures machine { machine_of self.new ≡ process.forget_receiver (exited_numbered number) (machine_of self.old) }
         ensures kept { IsServed 0 self.old self.new }
     {
-        if let Some(pid) = exited_application(payload) {
+        if let Some(pid) = exited_application(number) {
             self.packets.forget(pid);
         }
     }

@@ -9,7 +9,7 @@ ghost use Rattle.kernel_core.specs.Code.Draws.{HasQueueableEvents};
 ghost use Rattle.kernel_core.specs.Repeating.{times};
 ghost use Rattle.kernel_core.specs.Machine.{free_places};
 ghost use Rattle.kernel_core.specs.TimerProcesses as processes;
-ghost use Rattle.kernel_core.specs.TimerProcesses.{exited_application};
+ghost use Rattle.kernel_core.specs.Code.KernelEvents.{exited_numbered};
 ghost use Rattle.kernel_core.specs.Code.Pending.{no_pending_entries};
 ghost use Rattle.kernel_core.specs.Code.View.{machine_of, is_cancelled, IsExpired, IsServed, PostsOne};
 ghost use Rattle.kernel_core.specs.Code.Carrying.{job_carrying};
@@ -105,25 +105,25 @@ impl KernelFields {
     }
 
     /// The event timers of an application that has ended leave the timer list.
-    pub fn forget_event_timers(&mut self, payload: &Payload)
+    pub fn forget_event_timers(&mut self, number: u32)
         requires events { HasQueueableEvents self.old }
-        ensures machine { machine_of self.new ≡ processes.forget_event_timers (exited_application payload.now) (machine_of self.old) }
+        ensures machine { machine_of self.new ≡ processes.forget_event_timers (exited_numbered number) (machine_of self.old) }
         ensures kept { IsServed 0 self.old self.new }
     {
-        if let Some(pid) = exited_application(payload) {
+        if let Some(pid) = exited_application(number) {
             self.timers.forget(pid);
         }
     }
 
     /// The callback timers of an application that has ended leave the timer list, and their expiries that wait in the
     /// queue no longer count.
-    pub fn forget_callback_timers(&mut self, payload: &Payload)
+    pub fn forget_callback_timers(&mut self, number: u32)
         requires few { self.old.timers.value.armings.drawn < 2 ^ 60 }
         requires events { HasQueueableEvents self.old }
-        ensures machine { machine_of self.new ≡ processes.forget_callback_timers (exited_application payload.now) (machine_of self.old) }
+        ensures machine { machine_of self.new ≡ processes.forget_callback_timers (exited_numbered number) (machine_of self.old) }
         ensures kept { IsServed 4 self.old self.new }
     {
-        if let Some(pid) = exited_application(payload) {
+        if let Some(pid) = exited_application(number) {
             self.timers.forget_callbacks(pid);
         }
     }

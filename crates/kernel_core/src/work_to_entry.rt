@@ -1,20 +1,21 @@
 //! Work until an application must take a turn, another entry is made, or nothing is left to do.
 
-ghost use Rattle.kernel_core.specs.Code.OpenTurns.{WorksUpTo};
+ghost use Rattle.kernel_core.specs.Code.OpenTurns.{WorksUpTo, told_turn};
 ghost use Rattle.kernel_core.specs.Code.View.{IsAtWork};
 
 use crate::kernel_fields::KernelFields;
 use crate::step::StepOutcome;
 use crate::turn::Turn;
 use mote_types::entry::Entry;
+use mote_types::event::Origin;
 use process_core::next_job::NextJob;
 
 impl KernelFields {
-    /// Does one job after the other, until a turn begins, which is written into `turn` without its call, until another
-    /// entry is made, which is written into `other`, or until there is rest.
+    /// Does one job after the other, until a turn begins, which is written into `turn` without its call, and without its stimulus where
+    /// the scheduler has that, until another entry is made, which is written into `other`, or until there is rest.
     pub fn work_to_entry(&mut self, turn: &mut Turn, other: &mut Entry) -> StepOutcome
         requires at_work { IsAtWork self.old }
-        ensures { WorksUpTo result turn.new other.old other.new self.old self.new }
+        ensures { WorksUpTo result (told_turn self.new.scheduler.kept turn.new) other.old other.new self.old self.new }
     {
         // The buffer mostly still has the last turn's call. Whatever it has, no entry shows it.
         self.pass_idle_receivers(&turn.call);
@@ -23,12 +24,13 @@ impl KernelFields {
                 NextJob::TakeTurn { pid, origin } => {
                     turn.pid = pid;
                     turn.origin = origin;
-                    if self.begin_turn(pid, origin, &turn.stimulus, other) {
+                    if self.begin_turn(other) {
                         return StepOutcome::Turn;
                     }
                     return StepOutcome::Other;
                 }
-                NextJob::Serve(pid) => self.serve(pid, &turn.stimulus),
+                NextJob::Serve(pid) => self.serve(pid, Origin::Synch, &turn.stimulus),
+                NextJob::Hear(pid) => self.serve(pid, Origin::Event, &turn.stimulus),
                 NextJob::CallBack {
                     pid,
                     number,

@@ -6,17 +6,17 @@ ghost use Rattle.mote_text.specs.Code.Appending.{HasRoom};
 ghost use Rattle.mote_text.specs.Code.EntryLines.{entry_line_limit};
 ghost use Rattle.mote_text.specs.Code.Writing.{CountsFailure, WritesIf};
 ghost use Rattle.mote_text.specs.Transcript.{final_line};
-ghost use Rattle.kernel_core.specs.Code.Steps.{entry_of};
 ghost use Rattle.mote_run.specs.Code.Lines.{lines};
 
-use kernel_core::turn::Turn;
 use mote_text::output_buffer::{MOST_OF_LINE, OutputBuffer};
 use mote_text::script::End;
 use mote_text::transcript::{
     is_shown, is_turn_shown, push_entry, push_final_line, push_input_line, push_turn_line,
 };
+use mote_types::call::Call;
 use mote_types::device::ByteSink;
 use mote_types::entry::{Entry, Input};
+use mote_types::event::{Origin, Pid, Stimulus};
 use mote_types::fault::DeviceFault;
 
 /// Appends the line of an entry, if it is shown.
@@ -32,12 +32,19 @@ pub fn put_entry(text: &mut OutputBuffer, entry: &Entry, quiet: bool)
 }
 
 /// Appends the line of a turn, if it is shown.
-pub fn put_turn(text: &mut OutputBuffer, turn: &Turn, quiet: bool)
+pub fn put_turn(
+    text: &mut OutputBuffer,
+    pid: Pid,
+    origin: Origin,
+    stimulus: &Stimulus,
+    call: &Call,
+    quiet: bool,
+)
     requires { HasRoom text.old entry_line_limit }
-    ensures { text.new.items ≡ text.old.items ++ lines quiet (entry_of turn.now ∷ []) }
+    ensures { text.new.items ≡ text.old.items ++ lines quiet (MadeEntry.Turn pid origin stimulus.now call.now ∷ []) }
 {
-    if is_turn_shown(&turn.call, quiet) {
-        push_turn_line(turn.pid, turn.origin, &turn.stimulus, &turn.call, text);
+    if is_turn_shown(call, quiet) {
+        push_turn_line(pid, origin, stimulus, call, text);
     }
 }
 

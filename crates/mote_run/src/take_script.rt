@@ -1,11 +1,12 @@
 //! A script is read and executed.
 
-ghost use Rattle.std.specs.Prelude.{◌≡◌, ◌<◌, ◌≤◌, ◌+◌, ◌-◌, ◌*◌, ◌^◌, ◌++◌, ◌==◌, ◌↔◌, ℕ, List, true, false, length, IfErr, OnOk, IsErrOf};
+ghost use Rattle.std.specs.Prelude.{◌≡◌, ◌<◌, ◌≤◌, ◌+◌, ◌-◌, ◌*◌, ◌^◌, ◌++◌, ◌==◌, ◌↔◌, ℕ, List, true, false, None, length, IfErr, OnOk, IsErrOf};
 ghost use Rattle.mote_types.specs.Applications.{says_of};
 ghost use Rattle.mote_types.specs.declared.entry.Input.{Input as Handed};
 ghost use Rattle.mote_text.specs.Code.Writing.{CountsFailure};
 ghost use Rattle.mote_text.specs.Transcript.{final_line};
 ghost use Rattle.mote_text.specs.declared.script.End.{End as RunEnd};
+ghost use Rattle.kernel_core.specs.Code.OpenTurns.{mote_in};
 ghost use Rattle.kernel_core.specs.Run.{is_still};
 ghost use Rattle.mote_run.specs.RunText.{HasRead, WasBooted};
 ghost use Rattle.mote_run.specs.Code.LoopInvariant.{Ran, ReadWhileRunning};
@@ -15,14 +16,14 @@ ghost use Rattle.mote_run.specs.Code.Way.{Moment, Went, end_at, moment};
 use crate::refill::refill;
 use crate::running_mote::RunningMote;
 use crate::script::{LIMIT, Script};
-use kernel_core::kernel::Kernel;
+use kernel_core::running_kernel::RunningKernel;
 use mote_text::script::{BadLine, End};
 use mote_types::app::App;
 use mote_types::device::{ByteSink, ByteSource};
 use mote_types::fault::RunFault;
 
 /// The end of a run whose script has ended.
-fn end_of(kernel: &Kernel) -> End
+fn end_of(kernel: &RunningKernel) -> End
     ensures { result ≡ end_at kernel.now.machine RunEnd.Finished }
 {
     if kernel.halted() {
@@ -41,6 +42,7 @@ fn take_end<K: ByteSink>(
     quiet: bool,
 ) -> Result<End, RunFault>
     requires boxes { length apps.old ≡ mote.old.kernel.machine.scheduler.applications }
+    requires closed { mote.old.kernel.turn ≡ None }
     requires still { is_still mote.old.kernel.machine ≡ true }
     requires running { mote.old.kernel.machine.is_halted ≡ false }
     requires clock { mote.old.kernel.machine.clock ≤ script.old.taken * 2 ^ 32 }
@@ -73,7 +75,8 @@ pub fn take_script<S: ByteSource, K: ByteSink>(
     apps: &mut [Box<dyn App>],
     quiet: bool,
 ) -> Result<End, RunFault>
-    requires booted { WasBooted mote.old.kernel (length apps.old) }
+    requires booted { WasBooted (mote_in mote.old.kernel) (length apps.old) }
+    requires closed { mote.old.kernel.turn ≡ None }
     requires unended { S.is_ended source.old ≡ false }
     requires countable_reads { S.failure_count source.old < 2 ^ 64 - 1 }
     requires countable_writes { K.failure_count sink.old < 2 ^ 64 - 1 }

@@ -7,14 +7,14 @@ pub use Rattle.mote_types.specs.declared.event.Pid.{Pid}
 pub use Rattle.mote_types.specs.declared.event.Stimulus.{Stimulus}
 pub use Rattle.mote_types.specs.declared.reply.Reply.{Reply}
 pub use Rattle.process_core.specs.Agenda.{Item, Job}
-pub use Rattle.process_core.specs.Code.KernelReceivers.{behind_kernel_receivers, is_other_than, kernel_receivers_passed}
+pub use Rattle.process_core.specs.Code.KernelReceivers.{behind_kernel_receivers, is_other_event, is_other_than, kernel_receivers_passed}
 pub use Rattle.process_core.specs.Code.LonePoll.{IsLonePoll, is_only_marked, polled_alone, polls_alone, unmarked}
 pub use Rattle.process_core.specs.Code.Nesting.{AreIn, IsNested, IsSound, answering, has_ended, is_one_of, leaving}
 pub use Rattle.process_core.specs.Code.OpenWork.{agenda_of, base_items, front_items, items_of, poll_items, receiver_items}
 pub use Rattle.process_core.specs.Code.ProcessList.{EndsWithKernel, IsKept, kernel_numbers, listed, others, process_at, state_at}
 unfoldable pub use Rattle.process_core.specs.Code.ProcessList.{mark_at, with_bit}
-pub use Rattle.process_core.specs.Code.SchedulerFields.{BootsKnown, IsBare, IsInOrder, IsOrdered, StartsKnown, active_in, front_after, queued_of, scheduler_behind, scheduler_of, turn_in}
-pub use Rattle.process_core.specs.Code.SchedulerView.{job_of}
+pub use Rattle.process_core.specs.Code.SchedulerFields.{BootsKnown, IsBare, IsInOrder, IsOrdered, StartsKnown, active_in, front_after, is_event, kept_in, queued_of, scheduler_behind, scheduler_of, turn_in}
+pub use Rattle.process_core.specs.Code.SchedulerView.{job_in, kept_at_boot, told}
 pub use Rattle.process_core.specs.Code.Walks.{from_application, from_marked, is_broadcast, is_kernel_next, passes_receiver, receiver_is_next}
 pub use Rattle.process_core.specs.Code.FindsJob.{FindsJob}
 pub use Rattle.process_core.specs.Code.Yields.{Yields}

@@ -1,5 +1,5 @@
 -- A round that only polls one kernel process.
-use Rattle.process_core.proofs.Common.{◌≡◌, ℕ, ◌<◌, ◌==◌, Bool, ComesTo, wants_round, true, false, ◌&&◌, List, [], ◌∷◌, length, refl, arith, Some, not, map, nat_tests, POLL, plain_event, Item, Job, from_marked, is_one_of, is_empty, is_only_marked, polled_alone, polls_alone, numbers, is_marked, is_any_marked, is_kernel_process, with_mark, Scheduler, in_front, Process, unmarked, IsLonePoll, zero, suc, ◌≤◌, nat_eq, ◌++◌, drop, ◌∙◌, flat_map, nat_lt, reverse, length-reverse, Event, front_items, items_of, base_items, agenda_of, Base, Continuation, SchedulerFields, sym, ap, if◌then◌else◌, is_other_than, from_application, is_kernel_next, passes_receiver, kernel_receivers_passed, scheduler_of, receiver_is_next, poll_items, receiver_items, behind_kernel_receivers, is_broadcast, is_idle, marked, state_of, State}
+use Rattle.process_core.proofs.Common.{◌≡◌, ℕ, ◌<◌, ◌==◌, Bool, ComesTo, wants_round, true, false, ◌&&◌, List, [], ◌∷◌, length, refl, arith, Some, not, map, nat_tests, POLL, plain_event, Item, Job, from_marked, is_one_of, is_empty, is_only_marked, polled_alone, polls_alone, numbers, is_marked, is_any_marked, is_kernel_process, with_mark, Scheduler, in_front, Process, unmarked, IsLonePoll, zero, suc, ◌≤◌, nat_eq, ◌++◌, drop, ◌∙◌, flat_map, nat_lt, reverse, length-reverse, Stimulus, front_items, items_of, base_items, agenda_of, Base, Continuation, SchedulerFields, sym, ap, if◌then◌else◌, is_other_event, from_application, is_kernel_next, passes_receiver, kernel_receivers_passed, scheduler_of, receiver_is_next, poll_items, receiver_items, behind_kernel_receivers, is_broadcast, is_idle, marked, state_of, State}
 use Rattle.std.proofs.lemmas.Bool.{and_parts, not-true, or_parts}
 use Rattle.process_core.proofs.Listed.{marked_from_running}
 use Rattle.process_core.proofs.Yields.{unmarked_pass, poll_one_yields, yields_next, yields_after}
@@ -150,7 +150,7 @@ application_first [] h = refl
 application_first (p ∷ walk) h = rw h refl
 
 module _ (codes : List ℕ) where
-  receivers_behind : (event : Event) (walk : List ℕ) (other : Bool) → is_other_than codes event.code ≡ other
+  receivers_behind : (event : Stimulus) (walk : List ℕ) (other : Bool) → is_other_event codes event ≡ other
       → behind_kernel_receivers codes (receiver_items event walk) ≡ receiver_items event (if other then from_application walk else walk)
   receivers_behind event [] true e = refl
   receivers_behind event [] false e = refl
@@ -158,7 +158,7 @@ module _ (codes : List ℕ) where
 
   -- none is next unless the base is a broadcast
 
-  nothing_in_base : (base : Base) (walk : List ℕ) (event : Event) → is_broadcast base ≡ false
+  nothing_in_base : (base : Base) (walk : List ℕ) (event : Stimulus) → is_broadcast base ≡ false
       → behind_kernel_receivers codes (base_items base walk event) ≡ base_items base walk event
   nothing_in_base Base.Nothing walk event none = refl
   nothing_in_base Base.Boot [] event none = refl
@@ -169,7 +169,7 @@ module _ (codes : List ℕ) where
   nothing_in_base (Base.Broadcast true) (p ∷ walk) event none = refl
   nothing_in_base (Base.Broadcast false) walk event none = absurd (cc)
 
-  nothing_behind : (stack : List Continuation) (polls : List ℕ) (base : Base) (walk : List ℕ) (event : Event)
+  nothing_behind : (stack : List Continuation) (polls : List ℕ) (base : Base) (walk : List ℕ) (event : Stimulus)
       → (is_empty stack && (is_empty polls && is_broadcast base)) ≡ false
       → behind_kernel_receivers codes (flat_map items_of stack ++ (poll_items polls ++ base_items base walk event))
       ≡ flat_map items_of stack ++ (poll_items polls ++ base_items base walk event)
@@ -197,10 +197,10 @@ module _ (codes : List ℕ) where
     none_open : passes_receiver codes d ≡ false → is_any_marked d.processes ≡ false
         → agenda_of d ≡ behind_kernel_receivers codes (agenda_of d)
     none_open h none =
-        split (is_kernel_next d.walk) refl (receiver_is_next d) refl (is_other_than codes d.broadcast.code) refl (rw none at h)
+        split (is_kernel_next d.walk) refl (receiver_is_next d) refl (is_other_event codes d.broadcast) refl (rw none at h)
       where
         split : (kernel : Bool) → is_kernel_next d.walk ≡ kernel → (next : Bool) → receiver_is_next d ≡ next
-            → (other : Bool) → is_other_than codes d.broadcast.code ≡ other → (kernel && (true && (next && other))) ≡ false
+            → (other : Bool) → is_other_event codes d.broadcast ≡ other → (kernel && (true && (next && other))) ≡ false
             → agenda_of d ≡ behind_kernel_receivers codes (agenda_of d)
         split true k true n true o h = absurd (cc)
         split false k true n true o h =
@@ -241,7 +241,7 @@ module _ (d : SchedulerFields) where
 
 module _ (is_polled : Bool) where
   module _ (walk : List ℕ) where
-    module _ (event : Event) where
+    module _ (event : Stimulus) where
       pub deliver_has_more : is_empty (base_items (Base.Deliver is_polled) walk event) ≡ false
       deliver_has_more = grind arith
 

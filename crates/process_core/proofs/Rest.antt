@@ -1,5 +1,5 @@
 -- When nothing is left to do.
-use Rattle.process_core.proofs.Common.{◌≡◌, ℕ, zero, suc, ◌<◌, true, false, List, [], ◌∷◌, ◌++◌, refl, arith, Option, Some, None, map, flat_map, list_any, items_of, base_items, agenda_of, receiver_items, list_any-append, Event, Item, Job, Scheduler, after_front, after_items, ComesTo, Continuation, Base, Front, SchedulerFields, wants_round, is_shown, ◌≤◌, length, drop, slice_get, IfNone, from_marked, Process, ◌+◌, add-one, range_with_len, at_first, state_of, is_one_of, IsInOrder, State}
+use Rattle.process_core.proofs.Common.{◌≡◌, ℕ, zero, suc, ◌<◌, true, false, List, [], ◌∷◌, ◌++◌, refl, arith, Option, Some, None, map, flat_map, list_any, items_of, base_items, agenda_of, receiver_items, list_any-append, Event, Item, Job, Scheduler, after_front, after_items, ComesTo, Continuation, Base, Front, SchedulerFields, wants_round, is_shown, ◌≤◌, length, drop, slice_get, IfNone, from_marked, Process, ◌+◌, add-one, range_with_len, at_first, state_of, is_one_of, IsInOrder, State, Stimulus, is_event}
 
 module _ {X : Type 0} where
   pub record IsIdle (s : Scheduler X) : Type 0 where
@@ -14,6 +14,11 @@ module _ {X : Type 0} where
 module _ {X : Type 0} where
   pub served_below : (s : Scheduler X) (q : ℕ) (other : Event) (after : Scheduler X) → ComesTo s (Job.Serve q other) after → q < 4
   served_below s q other after c = grind arith
+
+pub event_held : (stimulus : Stimulus) → is_event stimulus ≡ true → (event : Event) × (stimulus ≡ Stimulus.Event event)
+event_held (Stimulus.Event event) is = (event, refl)
+event_held (Stimulus.Answer reply) is = absurd (cc)
+event_held (Stimulus.Callback number) is = absurd (cc)
 
 -- ---- the number of applications never changes
 
@@ -36,7 +41,7 @@ none_shown (p ∷ ps) f h = grind (arith, none_shown ps f h)
 shown_in_either : (xs ys : List Item) → list_any is_shown xs ≡ false → list_any is_shown ys ≡ false → list_any is_shown (xs ++ ys) ≡ false
 shown_in_either xs ys a b = grind (arith, list_any-append)
 
-none_shown_to_receivers : (event : Event) (ps : List ℕ) → list_any is_shown (receiver_items event ps) ≡ false
+none_shown_to_receivers : (event : Stimulus) (ps : List ℕ) → list_any is_shown (receiver_items event ps) ≡ false
 none_shown_to_receivers event [] = refl
 none_shown_to_receivers event (p ∷ ps) = none_shown_to_receivers event ps
 
@@ -48,7 +53,7 @@ nothing_shown_on [] = refl
 nothing_shown_on (continuation ∷ below) =
     shown_in_either (items_of continuation) (flat_map items_of below) (nothing_shown_in continuation) (nothing_shown_on below)
 
-nothing_shown_below : (base : Base) (walk : List ℕ) (event : Event) → list_any is_shown (base_items base walk event) ≡ false
+nothing_shown_below : (base : Base) (walk : List ℕ) (event : Stimulus) → list_any is_shown (base_items base walk event) ≡ false
 nothing_shown_below base walk event = grind (arith, none_shown, none_shown_to_receivers)
 
 -- The next process of a walk.
@@ -85,5 +90,6 @@ module _ (d : SchedulerFields) where
   nothing_shown = grind (arith, shown_in_either, nothing_shown_on, none_shown, nothing_shown_below)
 
   pub order_at_boot : d.applications ≤ 16 → d.walk ≡ range_with_len 4 d.applications → d.processes ≡ at_first
-      → d.stack.items ≡ [] → d.base ≡ Base.Boot → d.events.capacity ≡ 32 → d.next_event ≡ 140 → d.front ≡ Front.Nothing → IsInOrder d
-  order_at_boot few is_range list stack boot room next idle = grind (arith, below_range, none_beyond)
+      → d.stack.items ≡ [] → d.base ≡ Base.Boot → d.events.capacity ≡ 32 → d.next_event ≡ 140 → d.front ≡ Front.Nothing
+      → is_event d.broadcast ≡ true → IsInOrder d
+  order_at_boot few is_range list stack boot room next idle event = grind (arith, below_range, none_beyond)

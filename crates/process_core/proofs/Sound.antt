@@ -1,5 +1,5 @@
 -- The stack stays sound, and is short.
-use Rattle.process_core.proofs.Common.{◌≡◌, ℕ, ◌+◌, ◌<◌, ◌≤◌, Bool, true, false, List, [], ◌∷◌, length, refl, ap, arith, eqb, Option, Some, None, ◌*◌, IsDistinct, AllByRecursion, range_with_len, zero, suc, Pid, state_of, with_state, with_mark, without, IsApplication, is_in_activation, answering, is_one_of, has_ended, IsSound, Process, State, Continuation, IsOfMote, leaving, IsNested, AreIn, ◌++◌, reverse, length-reverse, Event, Reply, is_ending, IsInOrder, scheduler_behind, scheduler_of, front_items, reverse-append, SchedulerFields, Base, Front, IsOrdered, StartsKnown, active_in, turn_in, front_after}
+use Rattle.process_core.proofs.Common.{◌≡◌, ℕ, ◌+◌, ◌<◌, ◌≤◌, Bool, true, false, List, [], ◌∷◌, length, refl, ap, arith, eqb, Option, Some, None, ◌*◌, IsDistinct, AllByRecursion, range_with_len, zero, suc, Pid, state_of, with_state, with_mark, without, IsApplication, is_in_activation, answering, is_one_of, has_ended, IsSound, Process, State, Continuation, IsOfMote, leaving, IsNested, AreIn, ◌++◌, reverse, length-reverse, Event, Stimulus, is_ending, IsInOrder, scheduler_behind, scheduler_of, front_items, reverse-append, SchedulerFields, Base, Front, IsOrdered, StartsKnown, active_in, turn_in, front_after}
 use Rattle.std.proofs.lemmas.Bool.{or_parts}
 use Rattle.std.proofs.lemmas.Cmp.{nat_eq_equiv}
 use Rattle.std.proofs.lemmas.List.FromFn.{length-range_with_len}
@@ -68,10 +68,10 @@ pub pushed : (continuations : List Continuation) (f : Continuation) → reverse 
 pushed continuations f = reverse-append continuations (f ∷ [])
 
 -- while a call is awaited the front is empty
-pub no_front : (front : Front) (p : Pid) (reply : Reply) (synch : Event) → turn_in front ≡ Some p → front_items front reply synch ≡ []
+pub no_front : (front : Front) (p : Pid) (reply : Stimulus) (synch : Event) → turn_in front ≡ Some p → front_items front reply synch ≡ []
 no_front front p reply synch e = grind arith
 
-pub none_reported : (front : Front) (reply : Reply) (synch : Event) → ((p : Pid) → front ≡ Front.Answer p → ⊥)
+pub none_reported : (front : Front) (reply : Stimulus) (synch : Event) → ((p : Pid) → front ≡ Front.Answer p → ⊥)
     → ((p : Pid) → front ≡ Front.Give p → ⊥) → ((p : Pid) → front ≡ Front.Start p → ⊥)
     → ((p : Pid) (number : ℕ) → front ≡ Front.Callback p number → ⊥) → front_items front reply synch ≡ []
 none_reported front reply synch answer give start callback = grind arith

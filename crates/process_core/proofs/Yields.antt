@@ -1,7 +1,8 @@
 -- Work done in parts.
-use Rattle.process_core.proofs.Common.{◌≡◌, ℕ, zero, suc, Bool, true, false, List, [], ◌∷◌, ◌++◌, refl, sym, ◌∙◌, ap, arith, Option, Some, None, is_some, drop, map, slice_get, ◌≤◌, Stimulus, Pid, scheduler_behind, from_marked, Event, Origin, POLL, plain_event, numbers, is_any_marked, is_marked, with_mark, Item, Job, Scheduler, after_front, job, after_items, in_front, state_in, FindsJob, Yields, SchedulerFields, State, is_empty, poll_items, Base, IsBare, job_of, option_map}
+use Rattle.process_core.proofs.Common.{◌≡◌, ℕ, zero, suc, Bool, true, false, List, [], ◌∷◌, ◌++◌, refl, sym, ◌∙◌, ap, arith, Option, Some, None, is_some, drop, map, slice_get, ◌≤◌, Stimulus, Pid, scheduler_behind, from_marked, Event, Origin, POLL, plain_event, numbers, is_any_marked, is_marked, with_mark, Item, Job, Scheduler, after_front, job, after_items, in_front, state_in, FindsJob, Yields, SchedulerFields, State, is_empty, poll_items, Base, IsBare, job_in, kept_in, option_map}
 use Rattle.process_core.proofs.Rest.{none_first}
 use Rattle.circular_buffer.specs.Buffer.{Buffer}
+use Rattle.process_core.specs.Code.SchedulerView.{Kept, is_apart, told}
 use Rattle.process_core.specs.declared.queued.Queued as code
 use Rattle.process_core.specs.declared.next_job.NextJob.{NextJob}
 
@@ -94,11 +95,11 @@ module _ (d : SchedulerFields) where
   pub deliver_to_yields : (rest : Buffer code.Queued) (p : Pid) (event : Event) (next : Option (Job ℕ))
       (after : Scheduler ℕ)
       → Some (code.Queued.To p event) ≡ slice_get d.events.items 0
-      → rest ≡ record { items = drop 1 d.events.items; capacity = d.events.capacity }
+      → rest ≡ record { items = drop 1 d.events.items; capacity = d.events.capacity } → d.base ≡ Base.Nothing
       → Yields (in_front (Item.Give p.0 Origin.Event (Stimulus.Event event) ∷ [])
-      (scheduler_behind (record d { events = rest }))) next after
+      (scheduler_behind (record d { events = rest; broadcast = Stimulus.Event event }))) next after
       → Yields (in_front (Item.Deliver ∷ []) (scheduler_behind d)) next after
-  deliver_to_yields rest p event next after first left y = grind (arith, yields_next)
+  deliver_to_yields rest p event next after first left bare y = grind (arith, yields_next)
 
   -- What the poll round and the base lead to outside any activation.
 
@@ -115,13 +116,13 @@ module _ (d : SchedulerFields) where
   pub received : (is_polled : Bool) (p : ℕ) (later : List ℕ) (next : Option (Job ℕ)) (after : Scheduler ℕ)
       → IsBare d (Base.Broadcast is_polled) → d.walk ≡ p ∷ later
       → (is_polled ≡ false → is_any_marked d.processes ≡ false)
-      → Yields (in_front (Item.Give p Origin.Event (Stimulus.Event d.broadcast) ∷ [])
+      → Yields (in_front (Item.Give p Origin.Event d.broadcast ∷ [])
       (scheduler_behind (record d { base = Base.Broadcast false; walk = later }))) next after
       → Yields (scheduler_behind d) next after
   received true p later next after bare walk ready y = grind arith
   received false p later next after bare walk ready y =
       let given : Scheduler ℕ =
-      in_front (Item.Give p Origin.Event (Stimulus.Event d.broadcast) ∷ [])
+      in_front (Item.Give p Origin.Event d.broadcast ∷ [])
       (scheduler_behind (record d { base = Base.Broadcast false; walk = later })) in
       let start : scheduler_behind d ≡ in_front (Item.Polls ∷ []) given = rw (bare.stack, bare.polls, bare.base, walk) refl in
       rw start (unpolled_yields given next after (ready refl) y)
@@ -146,7 +147,7 @@ module _ (d : SchedulerFields) where
   polled_receiver false [] left bare unbegun is_walk some marked walked = absurd (cc)
   polled_receiver false (p ∷ later) left bare unbegun is_walk some marked walked =
       let given : Scheduler ℕ =
-      in_front (Item.Give p Origin.Event (Stimulus.Event d.broadcast) ∷ [])
+      in_front (Item.Give p Origin.Event d.broadcast ∷ [])
       (scheduler_behind (record d { base = Base.Broadcast false; walk = later; polls = [] })) in
       let start : scheduler_behind d ≡ in_front (Item.Polls ∷ []) given = rw (bare.stack, bare.polls, bare.base, is_walk) refl in
       let after : scheduler_behind (record d { base = Base.Broadcast true; polls = left }) ≡ in_front (poll_items left) given =
@@ -189,10 +190,13 @@ module _ (d : SchedulerFields) where
         order = f.order;
       }
 
+pub told_apart : (origin : Origin) (kept : Kept) (other : Stimulus) → is_apart origin ≡ true → told origin kept other ≡ other
+told_apart origin kept other apart = grind arith
+
 -- what is found from one scheduler is found from each that leads there
 pub finds_from : {s t : Scheduler ℕ} {ready : Option NextJob} {buffer : Stimulus} {after : SchedulerFields}
-    → (Yields s (option_map (λ r. job_of r buffer) ready) (scheduler_behind after)
-    → Yields t (option_map (λ r. job_of r buffer) ready) (scheduler_behind after))
+    → (Yields s (option_map (λ r. job_in r (kept_in after) buffer) ready) (scheduler_behind after)
+    → Yields t (option_map (λ r. job_in r (kept_in after) buffer) ready) (scheduler_behind after))
     → FindsJob s ready buffer after → FindsJob t ready buffer after
 finds_from leads f = record { yields = leads f.yields; holds = f.holds; front = f.front; order = f.order }
 

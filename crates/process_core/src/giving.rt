@@ -1,10 +1,13 @@
 //! How a process gets a stimulus.
 
-ghost use Rattle.std.specs.Prelude.{◌≡◌, ◌<◌, ◌+◌, ◌∷◌, [], length, drop, IfNone};
+ghost use Rattle.std.specs.Prelude.{◌≡◌, ◌<◌, ◌≤◌, ◌+◌, ◌∷◌, [], true, length, drop, IfNone};
 ghost use Rattle.mote_types.specs.Codes as codes;
 ghost use Rattle.process_core.specs.Agenda.{Item};
 ghost use Rattle.process_core.specs.Code.Weights.{weight};
-ghost use Rattle.process_core.specs.Code.SchedulerFields.{scheduler_behind, IsBare, IsInOrder};
+ghost use Rattle.process_core.specs.Code.SchedulerFields.{kept_in, scheduler_behind, IsBare, IsInOrder};
+ghost use Rattle.process_core.specs.Code.SchedulerView.{is_apart, told};
+ghost use Rattle.mote_types.specs.declared.event.Origin.{Origin};
+ghost use Rattle.mote_types.specs.declared.event.Stimulus.{Stimulus as Received};
 ghost use Rattle.process_core.specs.Scheduler.{in_front};
 ghost use Rattle.process_core.specs.Code.FindsJob.{FindsJob};
 ghost use Rattle.process_core.specs.declared.open_work.Base.{Base};
@@ -12,7 +15,7 @@ ghost use Rattle.process_core.specs.declared.front.Front.{Front};
 
 use crate::front::Front;
 use crate::next_job::NextJob;
-use crate::open_work::{Base, put_event, write_event};
+use crate::open_work::{Base, write_event};
 use crate::queued::Queued;
 use crate::scheduler_fields::SchedulerFields;
 use crate::state::State;
@@ -38,9 +41,30 @@ fn drop_first(events: &mut HeapCircularBuffer<Queued>)
 }
 
 impl SchedulerFields {
-    /// Gives the process its next stimulus.
+    /// Gives an application its next stimulus.
+    #[inline(always)]
+    fn give_application(&mut self, pid: Pid, origin: Origin) -> Option<NextJob>
+        requires application { 4 ≤ pid.0 }
+        requires order { IsInOrder self.old }
+        requires idle { self.old.front ≡ Front.Nothing }
+        ensures finds { (other : Received) → FindsJob
+            (in_front (Item.Give pid.0 origin (told origin (kept_in self.old) other) ∷ []) (scheduler_behind self.old)) result other self.new }
+        ensures kept { self.new ≡ record self.old { processes = self.new.processes; front = self.new.front } }
+    {
+        match self.processes.state_of(pid) {
+            State::Running => {
+                self.processes.set_state(pid, State::Called);
+                self.front = Front::Call(pid);
+                Some(NextJob::TakeTurn { pid, origin })
+            }
+            _ => None,
+        }
+    }
+
+    /// Gives the process its next stimulus, which is in the caller's buffer.
     #[inline(always)]
     pub fn give(&mut self, pid: Pid, origin: Origin, stimulus: &Stimulus) -> Option<NextJob>
+        requires apart { is_apart origin ≡ true }
         requires order { IsInOrder self.old }
         requires idle { self.old.front ≡ Front.Nothing }
         ensures finds { FindsJob (in_front (Item.Give pid.0 origin stimulus.now ∷ []) (scheduler_behind self.old))
@@ -53,14 +77,22 @@ impl SchedulerFields {
                 _ => None,
             };
         }
-        match self.processes.state_of(pid) {
-            State::Running => {
-                self.processes.set_state(pid, State::Called);
-                self.front = Front::Call(pid);
-                Some(NextJob::TakeTurn { pid, origin })
-            }
-            _ => None,
+        self.give_application(pid, origin)
+    }
+
+    /// Gives the process the event that left the queue last.
+    #[inline(always)]
+    pub fn give_event(&mut self, pid: Pid) -> Option<NextJob>
+        requires order { IsInOrder self.old }
+        requires idle { self.old.front ≡ Front.Nothing }
+        ensures finds { (other : Received) → FindsJob
+            (in_front (Item.Give pid.0 Origin.Event self.old.broadcast ∷ []) (scheduler_behind self.old)) result other self.new }
+        ensures kept { self.new ≡ record self.old { processes = self.new.processes; front = self.new.front } }
+    {
+        if pid.0 < FIRST_APPLICATION {
+            return Some(NextJob::Hear(pid));
         }
+        self.give_application(pid, Origin::Event)
     }
 
     /// Starts the process, unless it's on the list.
@@ -99,23 +131,24 @@ impl SchedulerFields {
 
     /// Delivers the first event.
     #[inline(always)]
-    pub fn deliver(&mut self, stimulus: &mut Stimulus) -> Option<NextJob>
+    pub fn deliver(&mut self) -> Option<NextJob>
         requires order { IsInOrder self.old }
         requires idle { self.old.front ≡ Front.Nothing }
         requires bare { IsBare self.old Base.Nothing }
-        ensures finds { FindsJob (in_front (Item.Deliver ∷ []) (scheduler_behind self.old)) result stimulus.new self.new }
+        ensures finds { (other : Received) →
+            FindsJob (in_front (Item.Deliver ∷ []) (scheduler_behind self.old)) result other self.new }
         ensures falls { IfNone result (weight self.new < weight self.old + 1300) }
     {
         // Delivers or stores an event without a copy of the whole slot: that takes fewer moves.
         match self.events.front() {
             Some(Queued::To(pid, event)) => {
                 let pid = *pid;
-                write_event(stimulus, event);
+                write_event(&mut self.broadcast, event);
                 drop_first(&mut self.events);
-                self.give(pid, Origin::Event, stimulus)
+                self.give_event(pid)
             }
             Some(Queued::ToAll(event)) => {
-                put_event(&mut self.broadcast, event);
+                write_event(&mut self.broadcast, event);
                 drop_first(&mut self.events);
                 self.walk = self.processes.walk();
                 self.base = Base::Broadcast { is_polled: false };

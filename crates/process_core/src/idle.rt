@@ -4,7 +4,7 @@ ghost use Rattle.process_core.specs.Code.OpenWork.{agenda_of, base_items, front_
 ghost use Rattle.process_core.specs.Idle.{is_empty};
 ghost use Rattle.process_core.specs.Code.SchedulerView.{is_at_rest};
 ghost use Rattle.mote_types.specs.declared.event.Event.{Event};
-ghost use Rattle.mote_types.specs.declared.reply.Reply.{Reply};
+ghost use Rattle.mote_types.specs.declared.event.Stimulus.{Stimulus};
 
 use crate::front::Front;
 use crate::open_work::Base;
@@ -15,7 +15,7 @@ use crate::walk::Walk;
 impl Front {
     /// Whether the front is empty.
     pub(crate) fn is_over(&self) -> bool
-        ensures { (reply : Reply) (synch : Event) → result ≡ is_empty (front_items self.now reply synch) }
+        ensures { (reply : Stimulus) (synch : Event) → result ≡ is_empty (front_items self.now reply synch) }
     {
         matches!(self, Front::Nothing | Front::Call(_) | Front::Expiry { .. })
     }
@@ -25,7 +25,7 @@ impl Base {
     #[tactic(auto, using(crate::proofs::LonePoll::deliver_has_more, crate::proofs::LonePoll::is_empty_map, crate::proofs::LonePoll::is_empty_broadcast))]
     /// Whether nothing is left to be done, where the walk is this.
     fn is_over(&self, walk: &Walk) -> bool
-        ensures { (event : Event) → result ≡ is_empty (base_items self.now walk.now event) }
+        ensures { (event : Stimulus) → result ≡ is_empty (base_items self.now walk.now event) }
     {
         match self {
             Base::Nothing => true,

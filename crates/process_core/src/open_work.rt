@@ -80,22 +80,6 @@ pub(crate) fn write_event(stimulus: &mut Stimulus, event: &Event)
     }
 }
 
-/// Writes an event into a buffer, without allocating memory. The bytes of a line are copied once.
-pub(crate) fn put_event(slot: &mut Event, event: &Event)
-    ensures { slot.new ≡ event.now }
-{
-    slot.code = event.code;
-    match &event.payload {
-        Payload::Line(line) => {
-            slot.payload = Payload::Line(ArrayVec::new());
-            if let Payload::Line(copy) = &mut slot.payload {
-                let _ = copy.try_extend_from_slice(line.as_slice());
-            }
-        }
-        _ => slot.payload = event.payload.copied(),
-    }
-}
-
 // A separate function: it has room for bytes, which is cleared at its entry.
 fn put_reply(slot: &mut Reply, reply: &Reply)
     ensures { slot.new ≡ reply.now }
@@ -118,7 +102,8 @@ fn put_reply(slot: &mut Reply, reply: &Reply)
 
 // Prepares the buffer for a reply. A separate function: it has room for what it writes there, which is cleared at its
 // entry.
-fn begin_reply(stimulus: &mut Stimulus)
+#[inline(never)]
+pub(crate) fn begin_reply(stimulus: &mut Stimulus)
     ensures { stimulus.new ≡ Received.Answer Answered.Done }
 {
     *stimulus = Stimulus::Answer(Reply::Done);
@@ -145,6 +130,17 @@ pub(crate) fn write_reply(stimulus: &mut Stimulus, reply: &Reply)
         write_other_reply(stimulus, reply);
     } else if !matches!(stimulus, Stimulus::Answer(Reply::Done)) {
         begin_reply(stimulus);
+    }
+}
+
+/// Writes a stimulus into a buffer, without allocating memory; the stimulus stays.
+pub(crate) fn write_stimulus(buffer: &mut Stimulus, stimulus: &Stimulus)
+    ensures { buffer.new ≡ stimulus.now }
+{
+    match stimulus {
+        Stimulus::Event(event) => write_event(buffer, event),
+        Stimulus::Answer(reply) => write_reply(buffer, reply),
+        Stimulus::Callback(number) => *buffer = Stimulus::Callback(*number),
     }
 }
 

@@ -1,12 +1,13 @@
 //! The kernel's processes that are the next receivers of a broadcast.
 
 ghost use Rattle.std.specs.Prelude.{◌≡◌, false};
-ghost use Rattle.process_core.specs.Code.KernelReceivers.{kernel_receivers_passed};
+ghost use Rattle.process_core.specs.Code.KernelReceivers.{is_other_event, kernel_receivers_passed};
 ghost use Rattle.process_core.specs.Code.Walks.{passes_receiver, receiver_is_next};
 
 use crate::open_work::Base;
 use crate::scheduler::Scheduler;
 use crate::scheduler_fields::SchedulerFields;
+use mote_types::event::Stimulus;
 
 impl SchedulerFields {
     /// Whether a receiver of a broadcast is next, with a poll round before it.
@@ -19,6 +20,16 @@ impl SchedulerFields {
             && matches!(self.base, Base::Broadcast { is_polled: false })
     }
 
+    /// Whether the event that left the queue last has another code than these.
+    fn is_other_broadcast(&self, codes: &[u8]) -> bool
+        ensures { result ≡ is_other_event codes.now self.now.broadcast }
+    {
+        match &self.broadcast {
+            Stimulus::Event(event) => !codes.contains(&event.code),
+            _ => false,
+        }
+    }
+
     /// Whether a process of the kernel is the next receiver of an event with another code than these.
     fn passes_receiver(&self, codes: &[u8]) -> bool
         ensures { result ≡ passes_receiver codes.now self.now }
@@ -27,7 +38,7 @@ impl SchedulerFields {
         self.walk.comes_to_kernel()
             && !self.processes.is_any_marked()
             && self.receiver_is_next()
-            && !codes.contains(&self.broadcast.code)
+            && self.is_other_broadcast(codes)
     }
 }
 

@@ -94,7 +94,7 @@ impl Scheduler {
     pub fn synch(&mut self, caller: Pid, receiver: Pid, event: Event) -> Result<(), Refusal>
         requires { self.old.turn ≡ Some caller }
         ensures accepted { IfOk result (λ _. (request.synch_refusal self.old.state receiver.0 event.code ≡ None)
-            × (self.new ≡ awaiting_nothing (request.given_in_turn caller.0 receiver.0 event self.old.state))) }
+            × (self.new ≡ awaiting_nothing (request.given_in_turn caller.0 receiver.0 event self.old.state) self.old.kept)) }
         ensures refused { IfErr result (λ r. (request.synch_refusal self.old.state receiver.0 event.code ≡ Some r)
             × (self.new ≡ self.old)) }
     {
@@ -116,7 +116,7 @@ impl Scheduler {
     pub fn start(&mut self, caller: Pid, pid: Pid) -> Result<(), Refusal>
         requires { self.old.turn ≡ Some caller }
         ensures accepted { IfOk result (λ _. (request.start_refusal self.old.state pid.0 ≡ None)
-            × (self.new ≡ awaiting_nothing (request.started_by caller.0 pid.0 self.old.state))) }
+            × (self.new ≡ awaiting_nothing (request.started_by caller.0 pid.0 self.old.state) self.old.kept)) }
         ensures refused { IfErr result (λ r. (request.start_refusal self.old.state pid.0 ≡ Some r) × (self.new ≡ self.old)) }
     {
         if !self.is_application(pid) {
@@ -139,7 +139,7 @@ impl Scheduler {
     pub fn kill(&mut self, caller: Pid, pid: Pid) -> Result<(), Refusal>
         requires { self.old.turn ≡ Some caller }
         ensures accepted { IfOk result (λ _. (request.kill_refusal self.old.state pid.0 ≡ None)
-            × (self.new ≡ awaiting_nothing (request.killed_by caller.0 pid.0 self.old.state))) }
+            × (self.new ≡ awaiting_nothing (request.killed_by caller.0 pid.0 self.old.state) self.old.kept)) }
         ensures refused { IfErr result (λ r. (request.kill_refusal self.old.state pid.0 ≡ Some r) × (self.new ≡ self.old)) }
     {
         if !self.is_application(pid) {

@@ -5,7 +5,7 @@ ghost use Rattle.mote_types.specs.declared.event.Event.{Event};
 ghost use Rattle.mote_types.specs.declared.event.Pid.{Pid};
 ghost use Rattle.mote_types.specs.declared.event.Stimulus.{Stimulus as Received};
 ghost use Rattle.process_core.specs.Code.OpenWork.{agenda_of};
-ghost use Rattle.process_core.specs.Code.SchedulerView.{awaiting_nothing, job_of, turn_of, callback_of};
+ghost use Rattle.process_core.specs.Code.SchedulerView.{awaiting_nothing, job_in, kept_at_boot, told, turn_of, callback_of};
 ghost use Rattle.process_core.specs.Code.Conditions.{IsApplication};
 ghost use Rattle.process_core.specs.Code.Invariant.{is_in_activation};
 ghost use Rattle.process_core.specs.Scheduler.{at_boot, state_in, wants_round};
@@ -23,7 +23,7 @@ use crate::scheduler_fields::SchedulerFields;
 use crate::walk::Walk;
 use arrayvec::ArrayVec;
 use circular_buffer::HeapCircularBuffer;
-use mote_types::event::{FIRST_APPLICATION, FIRST_FREE, Stimulus};
+use mote_types::event::{FIRST_APPLICATION, FIRST_FREE, Origin, Stimulus};
 use mote_types::reply::Reply;
 use std::alloc::{AllocError, Global};
 use std::marker::Model;
@@ -33,8 +33,8 @@ pub const QUEUE_PLACES: usize = 32;
 
 /// The processes of a mote, its event queue, and the pending work.
 ///
-/// Contracts see three things: the scheduler of the definitions (process list, events, agenda, next event number), the
-/// process whose turn it is, and the callback timer whose expiry was returned just now.
+/// Contracts see four things: the scheduler of the definitions (process list, events, agenda, next event number), the
+/// process whose turn it is, the callback timer whose expiry was returned just now, and the stimuli that are stored here.
 ///
 /// Source: process.h and the page "Processes and events" of Contiki-NG; the states of a process on its way out, the
 /// marks of poll rounds and all sizes are this project's profile.
@@ -71,7 +71,7 @@ impl Scheduler {
     #[inline(never)]
     pub fn new(alloc: Global, applications: u8) -> Result<Scheduler, AllocError>
         requires { applications ≤ 16 }
-        ensures { IfOk result (λ s. s ≡ awaiting_nothing (at_boot applications)) }
+        ensures { IfOk result (λ s. s ≡ awaiting_nothing (at_boot applications) kept_at_boot) }
     {
         let events = HeapCircularBuffer::with_capacity(alloc, QUEUE_PLACES)?;
         let mut starts = ProcessNumbers::new();
@@ -84,13 +84,13 @@ impl Scheduler {
             events,
             next_event: FIRST_FREE as u16,
             front: Front::Nothing,
-            reply: Reply::Done,
+            reply: Stimulus::Answer(Reply::Done),
             synch: plain_event(0),
             stack: no_continuations(),
             polls: Walk::none(),
             base: Base::Boot,
             walk: Walk::over(starts),
-            broadcast: plain_event(0),
+            broadcast: Stimulus::Event(plain_event(0)),
             ready: NextJob::Rest,
         };
         Ok(Scheduler { fields })
@@ -99,11 +99,11 @@ impl Scheduler {
     /// The next job: the first thing on the agenda that the scheduler does not do by itself. Where nothing is on the agenda a
     /// round begins, if a process is marked or an event waits.
     ///
-    /// The buffer `stimulus` then holds the stimulus (TakeTurn) or the event (Serve). For any other result it may hold what was meant
-    /// for a process that did not take it.
-    pub fn next_to(&mut self, stimulus: &mut Stimulus) -> NextJob
+    /// A reply and an event of the queue stay where they lie. What else a process receives is written into the buffer `other`, which for
+    /// any other result may hold what was meant for a process that did not take it. `stimulus` returns the one or the other.
+    pub fn next_in_place(&mut self, other: &mut Stimulus) -> NextJob
         requires { self.old.turn ≡ None }
-        ensures job { ComesTo self.old.state (job_of result stimulus.new) self.new.state }
+        ensures job { ComesTo self.old.state (job_in result self.new.kept other.new) self.new.state }
         ensures turn { self.new.turn ≡ turn_of result }
         ensures callback { self.new.callback ≡ callback_of result }
 
@@ -111,18 +111,32 @@ impl Scheduler {
         ensures active { IfSome self.new.turn (λ p. IsApplication self.new.state.applications p.0
             × (is_in_activation (state_in self.new.state p.0) ≡ true)) }
         ensures served { (p : Pid) → result ≡ Answer.Serve p → (p.0 < 4)
-            × (event : Event) × (stimulus.new ≡ Received.Event event) }
+            × (event : Event) × (other.new ≡ Received.Event event) }
+        ensures heard { (p : Pid) → result ≡ Answer.Hear p → (p.0 < 4)
+            × (event : Event) × (self.new.kept.event ≡ Received.Event event) }
         ensures rest { result ≡ Answer.Rest → (self.new.state.agenda ≡ []) × (wants_round self.new.state ≡ false) }
         ensures applications { self.new.state.applications ≡ self.old.state.applications }
         ensures standing { IsWellFormed self.new.state }
     {
-        let ready = match self.fields.take_front(stimulus) {
+        let ready = match self.fields.take_front(other) {
             Some(ready) => ready,
-            None => self.fields.work_on(stimulus),
+            None => self.fields.work_on(other),
         };
         // Does nothing: the call gives the proof the invariant of a process list, for the clause `standing`.
         self.fields.processes.each_is_once();
         ready
+    }
+
+    /// What a process receives in a turn of this origin, where this is in the buffer that `next_in_place` was passed.
+    #[inline(always)]
+    pub fn stimulus<'a>(&'a self, origin: Origin, other: &'a Stimulus) -> &'a Stimulus
+        ensures { result.now ≡ told origin self.now.kept other.now }
+    {
+        match origin {
+            Origin::Answer => &self.fields.reply,
+            Origin::Event => &self.fields.broadcast,
+            Origin::Synch | Origin::Poll | Origin::Callback => other,
+        }
     }
 
     #[tactic(auto, using(crate::proofs::Sound::few_items, crate::proofs::Sound::room_on_stack))]

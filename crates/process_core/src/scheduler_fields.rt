@@ -8,8 +8,7 @@ use crate::queued::Queued;
 use crate::walk::Walk;
 use arrayvec::ArrayVec;
 use circular_buffer::HeapCircularBuffer;
-use mote_types::event::Event;
-use mote_types::reply::Reply;
+use mote_types::event::{Event, Stimulus};
 
 /// The fields of a scheduler. Its methods keep them in order (`specs/Code/SchedulerFields.antt`), and the scheduler is seen as
 /// what they stand for.
@@ -27,8 +26,8 @@ pub struct SchedulerFields {
     pub next_event: u16,
     /// What the layer above has to report, or reported.
     pub front: Front,
-    /// The reply that a process gets, where the front says so.
-    pub reply: Reply,
+    /// The reply that a process gets, or got last.
+    pub reply: Stimulus,
     /// The event that a process gets at once, where the front says so.
     pub synch: Event,
     /// The work within activations.
@@ -38,8 +37,8 @@ pub struct SchedulerFields {
     pub base: Base,
     /// The processes that boot has not started yet, or that have not got the broadcast yet.
     pub walk: Walk,
-    /// The event that is broadcast.
-    pub broadcast: Event,
+    /// The event that left the queue last: a process gets it, or it is broadcast.
+    pub broadcast: Stimulus,
     /// The job that a function out of line has found.
     pub ready: NextJob,
 }

@@ -32,7 +32,6 @@ impl SchedulerFields {
         }
         match self.front {
             Front::Answer(pid) => {
-                write_reply(stimulus, &self.reply);
                 self.front = Front::Call(pid);
                 Some(NextJob::TakeTurn {
                     pid,
@@ -171,11 +170,11 @@ impl SchedulerFields {
 
     // A round: the poll round, and then the delivery.
     #[inline(always)]
-    fn resume_deliver(&mut self, is_polled: bool, stimulus: &mut Stimulus) -> Option<NextJob>
+    fn resume_deliver(&mut self, is_polled: bool) -> Option<NextJob>
         requires bare { IsBare self.old (Base.Deliver is_polled) }
         requires order { IsInOrder self.old }
         requires idle { self.old.front ≡ Front.Nothing }
-        ensures finds { FindsJob (scheduler_behind self.old) result stimulus.new self.new }
+        ensures finds { (other : Received) → FindsJob (scheduler_behind self.old) result other self.new }
         ensures falls { IfNone result (weight self.new < weight self.old) }
     {
         if !is_polled && self.processes.is_any_marked() {
@@ -184,16 +183,16 @@ impl SchedulerFields {
             return None;
         }
         self.base = Base::Nothing;
-        self.deliver(stimulus)
+        self.deliver()
     }
 
     // The next receiver gets the event, after a poll round.
     #[inline(always)]
-    fn resume_broadcast(&mut self, is_polled: bool, stimulus: &mut Stimulus) -> Option<NextJob>
+    fn resume_broadcast(&mut self, is_polled: bool) -> Option<NextJob>
         requires bare { IsBare self.old (Base.Broadcast is_polled) }
         requires order { IsInOrder self.old }
         requires idle { self.old.front ≡ Front.Nothing }
-        ensures finds { FindsJob (scheduler_behind self.old) result stimulus.new self.new }
+        ensures finds { (other : Received) → FindsJob (scheduler_behind self.old) result other self.new }
         ensures falls { IfNone result (weight self.new < weight self.old) }
     {
         if !is_polled && self.processes.is_any_marked() && !self.walk.is_over() {
@@ -204,8 +203,7 @@ impl SchedulerFields {
         match self.walk.advance() {
             Some(pid) => {
                 self.base = Base::Broadcast { is_polled: false };
-                write_event(stimulus, &self.broadcast);
-                self.give(pid, Origin::Event, stimulus)
+                self.give_event(pid)
             }
             None => {
                 self.base = Base::Nothing;
@@ -235,8 +233,8 @@ impl SchedulerFields {
                     None
                 }
             }
-            Base::Deliver { is_polled } => self.resume_deliver(is_polled, stimulus),
-            Base::Broadcast { is_polled } => self.resume_broadcast(is_polled, stimulus),
+            Base::Deliver { is_polled } => self.resume_deliver(is_polled),
+            Base::Broadcast { is_polled } => self.resume_broadcast(is_polled),
         }
     }
 
@@ -271,7 +269,7 @@ impl SchedulerFields {
                 pid, walk, exits, stimulus,
             ),
             Some(Continuation::Answer(pid)) => {
-                write_reply(stimulus, &Reply::Done);
+                write_reply(&mut self.reply, &Reply::Done);
                 self.front = Front::Call(pid);
                 Some(NextJob::TakeTurn {
                     pid,

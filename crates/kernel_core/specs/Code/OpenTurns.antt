@@ -1,5 +1,5 @@
 -- A kernel within a turn: an application received a stimulus, and its call is awaited.
-use Rattle.std.specs.Prelude.{◌≡◌, ◌≢◌, ◌≤◌, ◌<◌, ◌+◌, ◌*◌, ◌^◌, ◌||◌, ℕ, [], false, Option, None, Some}
+use Rattle.std.specs.Prelude.{◌≡◌, ◌≢◌, ◌≤◌, ◌<◌, ◌+◌, ◌*◌, ◌^◌, ◌||◌, ℕ, [], false, Option, None, Some, if◌then◌else◌}
 use Rattle.std.specs.List.{list_any}
 use Rattle.mote_types.specs.Entries.{is_halt}
 use Rattle.mote_types.specs.declared.entry.Entry.{Entry}
@@ -7,6 +7,7 @@ use Rattle.mote_types.specs.declared.event.Stimulus.{Stimulus}
 use Rattle.mote_types.specs.declared.event.Origin.{Origin}
 use Rattle.mote_types.specs.declared.event.Pid.{Pid}
 use Rattle.node_memory.specs.Code.Placed.{last_owner}
+use Rattle.process_core.specs.Code.SchedulerView.{Kept, told}
 use Rattle.kernel_core.specs.declared.kernel_fields.KernelFields.{KernelFields}
 use Rattle.kernel_core.specs.declared.step.StepOutcome.{StepOutcome}
 use Rattle.kernel_core.specs.declared.turn.Turn.{Turn}
@@ -59,6 +60,10 @@ pub record WorksUpTo (outcome : StepOutcome) (turn : Turn) (before other : Entry
       → GoesOn choices (machine_of old) (stepped outcome turn other) (machine_of new)
   pub worked : HasWorked outcome turn before other old new
 
+-- the turn, with what the application receives
+abbrev pub told_turn : Kept → Turn → Turn
+told_turn kept turn = record turn { stimulus = told turn.origin kept turn.stimulus }
+
 -- what contracts see of a kernel that awaits the call of each turn
 pub record AwaitingMote : Type 0 where
   pub mote : Mote
@@ -72,3 +77,29 @@ awaiting_mote_of turn k = record { mote = mote_of k; turn = turn }
 abbrev pub StandsWell : Option Pid → KernelFields → Type 0
 StandsWell None k = IsInOrder k
 StandsWell (Some pid) k = IsMidTurn pid k
+
+-- what contracts see of a kernel that is in a turn or between two
+pub record WorkingMote : Type 0 where
+  pub machine : Machine
+  pub inputs : ℕ
+  pub entries_left : ℕ
+  -- the application that takes a turn
+  pub turn : Option Pid
+  pub kept : Kept
+
+-- after Halt nobody takes a turn
+abbrev pub open_turn : KernelFields → Option Pid
+open_turn k = if k.halted then None else k.scheduler.turn
+
+abbrev pub working_mote_of : KernelFields → WorkingMote
+working_mote_of k =
+    record {
+      machine = machine_of k;
+      inputs = k.inputs;
+      entries_left = entries_left_in k;
+      turn = open_turn k;
+      kept = k.scheduler.kept;
+    }
+
+abbrev pub mote_in : WorkingMote → Mote
+mote_in r = record { machine = r.machine; inputs = r.inputs; entries_left = r.entries_left }

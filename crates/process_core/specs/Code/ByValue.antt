@@ -33,6 +33,7 @@ served_with pid _ = asked.Job.Rest
 abbrev pub job_with : NextJob → Stimulus → asked.Job
 job_with (NextJob.TakeTurn pid origin) stimulus = asked.Job.Give pid origin stimulus
 job_with (NextJob.Serve pid) stimulus = served_with pid stimulus
+job_with (NextJob.Hear pid) stimulus = served_with pid stimulus
 job_with (NextJob.CallBack pid number arming) stimulus = asked.Job.Callback pid number arming
 job_with NextJob.Round stimulus = asked.Job.Round
 job_with NextJob.Rest stimulus = asked.Job.Rest

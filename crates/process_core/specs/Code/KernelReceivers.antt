@@ -1,5 +1,5 @@
 -- The kernel's processes that are the next receivers of a broadcast.
-use Rattle.std.specs.Prelude.{ℕ, Bool, not, ◌&&◌, ◌==◌, List, ◌∷◌, if◌then◌else◌}
+use Rattle.std.specs.Prelude.{ℕ, Bool, false, not, ◌&&◌, ◌==◌, List, ◌∷◌, if◌then◌else◌}
 use Rattle.std.specs.List.{list_any}
 use Rattle.mote_types.specs.declared.event.Stimulus.{Stimulus}
 use Rattle.process_core.specs.Agenda.{Item}
@@ -9,6 +9,11 @@ use Rattle.process_core.specs.Scheduler.{Scheduler}
 -- whether an event's code is none of these
 abbrev pub is_other_than : List ℕ → ℕ → Bool
 is_other_than codes code = not (list_any (λ known. known == code) codes)
+
+-- whether a stimulus is an event with such a code
+abbrev pub is_other_event : List ℕ → Stimulus → Bool
+is_other_event codes (Stimulus.Event event) = is_other_than codes event.code
+is_other_event codes _ = false
 
 -- what is left of the agenda after those of the kernel's processes that are next, each after a poll round, and would get
 -- an event with another code than these

@@ -13,8 +13,8 @@ use Rattle.process_core.specs.declared.scheduler_fields.SchedulerFields.{Schedul
 use Rattle.process_core.specs.Agenda.{Item}
 
 -- the front, where these are the reply and the event to deliver
-abbrev pub front_items : Front → Reply → Event → List Item
-front_items (Front.Answer p) reply synch = Item.Turn p.0 Origin.Answer (Stimulus.Answer reply) ∷ []
+abbrev pub front_items : Front → Stimulus → Event → List Item
+front_items (Front.Answer p) reply synch = Item.Turn p.0 Origin.Answer reply ∷ []
 front_items (Front.Give p) reply synch = Item.Give p.0 Origin.Synch (Stimulus.Event synch) ∷ []
 front_items (Front.Start p) reply synch = Item.Start p.0 ∷ []
 front_items (Front.Callback p number) reply synch = Item.Give p.0 Origin.Callback (Stimulus.Callback number) ∷ []
@@ -33,16 +33,16 @@ abbrev pub poll_items : List ℕ → List Item
 poll_items polls = map (λ p. Item.PollOne p) polls
 
 -- the receivers of an event, each after a poll round
-abbrev pub receiver_items : Event → List ℕ → List Item
-receiver_items event walk = flat_map (λ p. Item.Polls ∷ Item.Give p Origin.Event (Stimulus.Event event) ∷ []) walk
+abbrev pub receiver_items : Stimulus → List ℕ → List Item
+receiver_items event walk = flat_map (λ p. Item.Polls ∷ Item.Give p Origin.Event event ∷ []) walk
 
 -- they, where the poll round before the next one was begun
-abbrev pub polled_items : Event → List ℕ → List Item
+abbrev pub polled_items : Stimulus → List ℕ → List Item
 polled_items event [] = []
-polled_items event (p ∷ walk) = Item.Give p Origin.Event (Stimulus.Event event) ∷ receiver_items event walk
+polled_items event (p ∷ walk) = Item.Give p Origin.Event event ∷ receiver_items event walk
 
 -- what is done where no process is within an activation and no poll round is going on, for this walk and event
-abbrev pub base_items : Base → List ℕ → Event → List Item
+abbrev pub base_items : Base → List ℕ → Stimulus → List Item
 base_items Base.Nothing walk event = []
 base_items Base.Boot walk event = map (λ p. Item.Start p) walk
 base_items (Base.Deliver true) walk event = Item.Deliver ∷ []

@@ -6,12 +6,11 @@ use Rattle.process_core.specs.declared.open_work.Base.{Base}
 use Rattle.process_core.specs.declared.open_work.Continuation.{Continuation}
 use Rattle.process_core.specs.declared.scheduler_fields.SchedulerFields.{SchedulerFields}
 use Rattle.process_core.specs.declared.queued.Queued as code
-use Rattle.mote_types.specs.declared.event.Event.{Event}
 use Rattle.mote_types.specs.declared.event.Stimulus.{Stimulus}
 use Rattle.process_core.specs.declared.next_job.NextJob as answer
 use Rattle.process_core.specs.Agenda.{Queued}
 use Rattle.process_core.specs.Scheduler.{Scheduler, in_front}
-use Rattle.process_core.specs.Code.SchedulerView.{SchedulerView}
+use Rattle.process_core.specs.Code.SchedulerView.{Kept, SchedulerView}
 use Rattle.process_core.specs.Code.OpenWork.{front_items, behind_front}
 use Rattle.process_core.specs.Code.Nesting.{is_one_of, IsSound}
 
@@ -47,10 +46,18 @@ abbrev pub found : Bool → answer.NextJob → Option answer.NextJob
 found true ready = Some ready
 found false ready = None
 
--- where a kernel process must be served, the caller's buffer holds an event
-abbrev pub HoldsEvent : Option answer.NextJob → Stimulus → Type 0
-HoldsEvent (Some (answer.NextJob.Serve pid)) stimulus = (event : Event) × (stimulus ≡ Stimulus.Event event)
-HoldsEvent _ stimulus = Unit {0}
+abbrev pub kept_in : SchedulerFields → Kept
+kept_in d = record { reply = d.reply; event = d.broadcast }
+
+abbrev pub is_event : Stimulus → Bool
+is_event (Stimulus.Event event) = true
+is_event _ = false
+
+-- a kernel process that must be served gets an event
+abbrev pub HoldsEvent : Option answer.NextJob → Kept → Stimulus → Type 0
+HoldsEvent (Some (answer.NextJob.Serve pid)) kept other = is_event other ≡ true
+HoldsEvent (Some (answer.NextJob.Hear pid)) kept other = is_event kept.event ≡ true
+HoldsEvent _ kept other = Unit {0}
 
 -- no process is within an activation, and no poll round is going on: this is all that is open
 pub record IsBare (d : SchedulerFields) (left : Base) : Type 0 where
@@ -76,7 +83,7 @@ abbrev pub scheduler_of : SchedulerFields → Scheduler ℕ
 scheduler_of d = in_front (front_items d.front d.reply d.synch) (scheduler_behind d)
 
 abbrev pub view_of : SchedulerFields → SchedulerView
-view_of d = record { state = scheduler_of d; turn = turn_in d.front; callback = callback_in d.front }
+view_of d = record { state = scheduler_of d; turn = turn_in d.front; callback = callback_in d.front; kept = kept_in d }
 
 -- a process that a caller starts is one of the mote's
 abbrev pub StartsKnown : ℕ → Front → Type 0
@@ -96,6 +103,7 @@ pub record IsOrdered (d : SchedulerFields) (stack : List Continuation) : Type 0 
   pub room : d.events.capacity ≡ 32
   pub few : d.applications ≤ 16
   pub numbers : d.next_event ≤ 256
+  pub event : is_event d.broadcast ≡ true
 
 abbrev pub IsInOrder : SchedulerFields → Type 0
 IsInOrder d = IsOrdered d (reverse d.stack.items)

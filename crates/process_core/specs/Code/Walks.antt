@@ -6,7 +6,7 @@ use Rattle.process_core.specs.declared.scheduler_fields.SchedulerFields.{Schedul
 use Rattle.process_core.specs.Idle.{is_empty}
 use Rattle.process_core.specs.Code.OpenWork.{front_items}
 use Rattle.process_core.specs.Processes.{is_any_marked, is_kernel_process, is_marked}
-use Rattle.process_core.specs.Code.KernelReceivers.{is_other_than}
+use Rattle.process_core.specs.Code.KernelReceivers.{is_other_event}
 
 -- a walk from its first marked process on
 abbrev pub from_marked : List Process → List ℕ → List ℕ
@@ -35,4 +35,4 @@ receiver_is_next d =
 -- whether a process of the kernel is the next receiver of an event with another code than these, and nothing is before it
 abbrev pub passes_receiver : List ℕ → SchedulerFields → Bool
 passes_receiver codes d =
-    is_kernel_next d.walk && (not (is_any_marked d.processes) && (receiver_is_next d && is_other_than codes d.broadcast.code))
+    is_kernel_next d.walk && (not (is_any_marked d.processes) && (receiver_is_next d && is_other_event codes d.broadcast))

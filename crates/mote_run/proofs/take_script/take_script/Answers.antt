@@ -30,6 +30,7 @@ part-init g c = record {
   };
   no_further = λ s k. nothing_read;
   boxes = search rules;
+  closed = search rules;
   still = search rules;
   clock = search rules;
   inputs = search rules;
@@ -190,6 +191,7 @@ part-preserved g c =
           c.part.invariant.ready c.in_ok-refill.ensures.taken c.in_ok-refill.ensures.piece_limit c.in_ok-refill.ensures.left
           (c.part.invariant.no_further s k);
       boxes = c.part.invariant.boxes;
+      closed = c.part.invariant.closed;
       still = c.part.invariant.still;
       clock = omega (arith, c.in-Ok-false.ensures.some);
       inputs = omega (arith, c.in-Ok-false.ensures.some);
@@ -216,6 +218,7 @@ part-preserved-in-Continue-branch-3 g c =
           c.part.invariant.ready c.in_ok-refill.ensures.taken c.in_ok-refill.ensures.piece_limit c.in_ok-refill.ensures.left
           (c.part.invariant.no_further s k);
       boxes = search rules;
+      closed = c.in_ok-feed-in-Ok-true.ensures.closed;
       still = c.in_ok-feed-in-Ok-true.ensures.still;
       clock = grind arith;
       inputs = grind arith;

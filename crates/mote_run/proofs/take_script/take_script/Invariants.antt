@@ -1,4 +1,4 @@
-use Rattle.std.proofs.Common.{◌≡◌, ◌≤◌, ◌+◌, ◌*◌, ◌-◌, ◌^◌, length, true, false}
+use Rattle.std.proofs.Common.{◌≡◌, ◌≤◌, ◌+◌, ◌*◌, ◌-◌, ◌^◌, None, length, true, false}
 use Rattle.mote_run.proofs.Common.{says_of, is_still, HasCome, IsReady, ReadWhileRunning, moment}
 use Rattle.mote_run.proofs.take_script.take_script.Given as goal
 
@@ -12,6 +12,7 @@ invariant-part g l = record {
       (moment (g.K.ByteSink.given l.fn.sink) l.fn.mote (says_of (λ b. (goal.App-dyn g (b.vtable, b.value)).says b.value) l.fn.apps))
       (g.S.ByteSource.taken l.fn.source) (g.S.ByteSource.taken l.source);
   boxes : length l.apps ≡ l.mote.kernel.machine.scheduler.applications;
+  closed : l.mote.kernel.turn ≡ None;
   still : is_still l.mote.kernel.machine ≡ true;
   clock : l.mote.kernel.machine.clock ≤ l.script.taken * 2 ^ 32;
   inputs : l.mote.kernel.inputs ≤ l.script.taken;

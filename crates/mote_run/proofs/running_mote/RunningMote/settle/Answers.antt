@@ -1,6 +1,8 @@
-use Rattle.std.proofs.Common.{rules, refl, sym}
+use Rattle.std.proofs.Common.{arith, rules, refl, sym}
+use Rattle.mote_types.specs.declared.call.Call.{Call}
 use Rattle.mote_run.proofs.Common.{append-nil, entry_of, Step}
 use Rattle.std.proofs.lemmas.Result.{MatchResult-from_err}
+use Rattle.kernel_core.specs.Code.OpenTurns.{told_turn}
 use Rattle.mote_run.proofs.Ways.{went_further, went_nowhere, went_step, went_written}
 use Rattle.mote_run.proofs.running_mote.RunningMote.settle.Goals as goal
 
@@ -8,7 +10,7 @@ pub entry-init : goal.entry-init
 entry-init g c = record {
   went = λ named. went_nowhere _;
   found =
-      record { applications = refl; clock = refl; inputs = refl; same = refl };
+      record { applications = refl; clock = refl; inputs = refl; closed = c.requires.closed; same = refl };
 }
 
 pub returns-in_err-make_room-clause-goes : goal.returns-in_err-make_room-clause-goes
@@ -19,25 +21,33 @@ returns-in_err-make_room-clause-goes g c = λ named.
 pub returns-in-Rest-clause-goes : goal.returns-in-Rest-clause-goes
 returns-in-Rest-clause-goes g c = λ named.
     went_step Step.Rest (c.entry.invariant.went named) (c.in_ok-make_room.ensures.writes named)
-    c.in-Rest.ensures.machine (record { each = c.in-Rest.ensures.law }) c.in-Rest.ensures.halted (sym (append-nil _))
+    (c.in-Rest.ensures.goes (λ e. absurd (cc)) _) (record { each = λ p next later. refl }) c.in-Rest.ensures.halted (sym (append-nil _))
 
 pub returns-in-Halted-clause-goes : goal.returns-in-Halted-clause-goes
 returns-in-Halted-clause-goes g c = λ named.
     went_step Step.Halted (c.entry.invariant.went named) (c.in_ok-make_room.ensures.writes named)
-    c.in-Halted.ensures.machine (record { each = c.in-Halted.ensures.law }) c.in-Halted.ensures.halted (sym (append-nil _))
+    (c.in-Halted.ensures.goes (λ e. absurd (cc)) (λ p stimulus. Call.Wait)) (record { each = λ p next later. refl }) c.in-Halted.ensures.halted (sym (append-nil _))
 
 pub entry-preserved-in-Turn : goal.entry-preserved-in-Turn
 entry-preserved-in-Turn g c = record {
   went = λ named.
-      went_step (Step.Entry (entry_of c.step_to.new.turn)) (c.entry.invariant.went named) (c.in_ok-make_room.ensures.writes named)
-      c.in-Turn.ensures.machine (record { each = c.in-Turn.ensures.law }) c.in-Turn.ensures.halted c.put_turn.ensures;
+      went_step (Step.Entry (entry_of (told_turn c.next_turn.new.self.kept c.take_turn.new.turn)))
+      (c.entry.invariant.went named) (c.in_ok-make_room.ensures.writes named)
+      (rw (c.take_turn.ensures.machine, c.take_turn.ensures.turn, c.take_turn.ensures.call) (c.in-Turn.ensures.awaits refl _))
+      (record { each = c.take_turn.ensures.law }) (search rules) c.take_turn.ensures.text;
   found = search rules;
 }
+
+pub returns-in-Rest-clause-still : goal.returns-in-Rest-clause-still
+returns-in-Rest-clause-still g c = grind (arith, c.in-Rest.ensures.goes (λ e. absurd (cc)) (λ p stimulus. Call.Wait))
+
+pub returns-in-Halted-clause-still : goal.returns-in-Halted-clause-still
+returns-in-Halted-clause-still g c = grind (arith, c.in-Halted.ensures.goes (λ e. absurd (cc)) (λ p stimulus. Call.Wait))
 
 pub entry-preserved : goal.entry-preserved
 entry-preserved g c = record {
   went = λ named.
-      went_step (Step.Entry c.step_to.new.other) (c.entry.invariant.went named) (c.in_ok-make_room.ensures.writes named)
-      c.in-Other.ensures.machine (record { each = c.in-Other.ensures.law }) c.in-Other.ensures.halted c.put_entry.ensures;
+      went_step (Step.Entry c.next_turn.new.other) (c.entry.invariant.went named) (c.in_ok-make_room.ensures.writes named)
+      (c.in-Other.ensures.goes (λ e. absurd (cc)) _) (record { each = λ p next later. rw (c.in-Other.ensures.untold (λ e. absurd (cc)) p) refl }) c.in-Other.ensures.halted c.put_entry.ensures;
   found = search rules;
 }

@@ -1,4 +1,4 @@
-use Rattle.std.proofs.Common.{◌≡◌, []}
+use Rattle.std.proofs.Common.{◌≡◌, None, []}
 use Rattle.mote_run.proofs.Common.{says_of, Went, moment}
 use Rattle.mote_run.proofs.running_mote.RunningMote.settle.Given as goal
 
@@ -11,6 +11,7 @@ invariant-entry g l = record {
     applications : l.self.kernel.machine.scheduler.applications ≡ l.fn.self.kernel.machine.scheduler.applications;
     clock : l.self.kernel.machine.clock ≡ l.fn.self.kernel.machine.clock;
     inputs : l.self.kernel.inputs ≡ l.fn.self.kernel.inputs;
+    closed : l.self.kernel.turn ≡ None;
     same : g.K.ByteSink.failure_count l.sink ≡ g.K.ByteSink.failure_count l.fn.sink;
   };
 }

@@ -18,4 +18,4 @@ pub invariant_of-result : goal.invariant_of-result
 invariant_of-result c =
     order_at_boot _ (omega arith) (c.over.ensures ∙ c.loop-number.invariant.so_far ∙ ap (range_with_len 4) (omega arith)) (grind arith)
     (grind arith) refl
-    (grind arith) refl refl
+    (grind arith) refl refl (grind arith)

@@ -5,7 +5,7 @@ use Rattle.process_core.proofs.scheduler.Scheduler.pass_poll.Goals as goal
 pub invariant_of-self : goal.invariant_of-self
 invariant_of-self c =
     let kept = order_marked c.self.inside.fields c.set_mark.new.self c.args.pid.0 false c.self.invariant c.set_mark.ensures in
-    record { sound = kept.sound; starts = kept.starts; boots = tt; room = kept.room; few = kept.few; numbers = kept.numbers }
+    record { sound = kept.sound; starts = kept.starts; boots = tt; room = kept.room; few = kept.few; numbers = kept.numbers; event = kept.event }
 
 pub returns : goal.returns
 returns c =

@@ -38,9 +38,9 @@ returns-else-find_boot-clause-finds c =
 pub returns-in-Deliver-clause-finds : goal.returns-in-Deliver-clause-finds
 returns-in-Deliver-clause-finds c =
     polls_end c.args.self.now c.next_marked.new.self c.requires.bare c.in_default.ensures.next c.in_default.ensures.rest
-    c.resume_deliver.ensures.finds
+    (c.resume_deliver.ensures.finds c.args.stimulus.now)
 
 pub returns-in-Broadcast-clause-finds : goal.returns-in-Broadcast-clause-finds
 returns-in-Broadcast-clause-finds c =
     polls_end c.args.self.now c.next_marked.new.self c.requires.bare c.in_default.ensures.next c.in_default.ensures.rest
-    c.resume_broadcast.ensures.finds
+    (c.resume_broadcast.ensures.finds c.args.stimulus.now)

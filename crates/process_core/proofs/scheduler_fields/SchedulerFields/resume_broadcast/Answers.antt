@@ -4,20 +4,19 @@ use Rattle.process_core.proofs.scheduler_fields.SchedulerFields.resume_broadcast
 use Rattle.process_core.proofs.scheduler_fields.SchedulerFields.resume_broadcast.Goals.{else-not-is_polled-via-then-not-is_polled+then-is_any_marked+else-not-is_over, else-not-is_polled-via-then-not-is_polled+else-is_any_marked, else-not-is_polled-via-else-not-is_polled}
 
 pub returns-in-Some-clause-finds : goal.returns-in-Some-clause-finds
-returns-in-Some-clause-finds c =
+returns-in-Some-clause-finds c = λ other.
     let unmarked : (c.args.is_polled ≡ false → is_any_marked c.args.self.now.processes ≡ false) = elim c.else-not-is_polled.branch [
       | else-not-is_polled-via-then-not-is_polled+then-is_any_marked+else-not-is_over w ↦
           λ e. let no : false ≡ true = rw c.in-Some.ensures at (sym w.is_over.ensures ∙ w.if-not-is_over.false) in absurd (cc)
       | else-not-is_polled-via-then-not-is_polled+else-is_any_marked w ↦ λ e. sym w.is_any_marked.ensures ∙ w.if-is_any_marked.false
       | else-not-is_polled-via-else-not-is_polled w ↦ λ e. absurd (cc)
     ] in
-    rw c.write_event.ensures
-    (finds_from
+    finds_from
     (received c.args.self.now c.args.is_polled c.in-Some.pid.0 c.advance.new.self _ _ c.requires.bare c.in-Some.ensures unmarked)
-    (rw c.write_event.ensures at c.give.ensures.finds))
+    (c.give_event.ensures.finds other)
 
 pub returns-then-not-is_over-clause-finds : goal.returns-then-not-is_over-clause-finds
-returns-then-not-is_over-clause-finds c =
+returns-then-not-is_over-clause-finds c = λ other.
     record {
       yields =
           polled_receiver c.args.self.now c.args.is_polled c.args.self.now.walk c.walk_to_poll-self.result c.requires.bare

@@ -4,15 +4,15 @@ use Rattle.process_core.proofs.scheduler_fields.SchedulerFields.resume_deliver.G
 use Rattle.process_core.proofs.scheduler_fields.SchedulerFields.resume_deliver.Goals.{else-not-is_polled-via-then-not-is_polled+else-is_any_marked, else-not-is_polled-via-else-not-is_polled}
 
 pub returns-clause-finds : goal.returns-clause-finds
-returns-clause-finds c =
+returns-clause-finds c = λ other.
     let unmarked : (c.args.is_polled ≡ false → is_any_marked c.args.self.now.processes ≡ false) = elim c.else-not-is_polled.branch [
       | else-not-is_polled-via-then-not-is_polled+else-is_any_marked w ↦ λ e. sym w.is_any_marked.ensures ∙ w.if-is_any_marked.false
       | else-not-is_polled-via-else-not-is_polled w ↦ λ e. absurd (cc)
     ] in
-    finds_from (delivered c.args.self.now c.args.is_polled _ _ c.requires.bare unmarked) c.deliver.ensures.finds
+    finds_from (delivered c.args.self.now c.args.is_polled _ _ c.requires.bare unmarked) (c.deliver.ensures.finds other)
 
 pub returns-then-is_any_marked-clause-finds : goal.returns-then-is_any_marked-clause-finds
-returns-then-is_any_marked-clause-finds c =
+returns-then-is_any_marked-clause-finds c = λ other.
     record {
       yields =
           polled_first c.args.self.now c.args.is_polled c.walk_to_poll-self.result c.requires.bare c.if-not-is_polled.true
