@@ -86,8 +86,9 @@ build_board_driver() {
 
 # Writes the program's settings, in C.
 write_settings() {
-    local heap=4096 mmem=4096 header=16 quota=0 has_record=true runs=NULL shows=NULL i name value
-    [[ -z $script ]] || has_record=false runs=run_board_script shows=show_board_line
+    local heap=4096 mmem=4096 header=16 quota=0 quiet=1 has_record=true runs=NULL shows=NULL i name value
+    # Only a script's transcript needs the kernel's memory for a line.
+    [[ -z $script ]] || quiet=0 has_record=false runs=run_board_script shows=show_board_line
     for ((i = 0; i < ${#sizes[@]}; i++)); do
         name=${sizes[i]%%=*}
         if [[ ${sizes[i]} == *=* ]]; then value=${sizes[i]#*=}; else i=$((i + 1)) value=${sizes[i]}; fi
@@ -100,7 +101,7 @@ write_settings() {
     {
         echo '#include "firmware.h"'
         echo "const struct board_settings board_settings = {"
-        echo "  .sizes = {.mmem = $mmem, .heap = $heap, .header = $header, .has_quota = $((quota > 0)), .quota = $quota},"
+        echo "  .sizes = {.mmem = $mmem, .heap = $heap, .header = $header, .has_quota = $((quota > 0)), .quota = $quota, .quiet = $quiet},"
         echo "  .node = $((10#$node)), .has_record = $has_record, .stops_at_fault = ${stops:-false},"
         echo "  .run_script = $runs, .show_script_line = $shows};"
     } >"$room/settings.c"

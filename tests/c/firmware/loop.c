@@ -17,7 +17,7 @@ enum { HZ = 1000, TICKS = 128, MOST_POINTS = 1000000, MOST_LATE = 64, FEWEST_RUN
 
 const uint32_t board_hz = HZ;
 const struct program_facts program_facts = {.ticks_a_second = TICKS};
-const struct board_settings board_settings = {.sizes = {.mmem = 4096}};
+const struct board_settings board_settings = {.sizes = {.mmem = 4096}, .node = 1};
 const uint8_t *stack_low;
 const void *stack_begin;
 extern const uint8_t board_stack_low_run[];
@@ -250,6 +250,16 @@ stop(const char *format, ...)
 {
   (void)format;
   abort();
+}
+
+void *
+take_bytes(size_t size)
+{
+  void *bytes = calloc(1, size);
+  if(bytes == NULL) {
+    abort();
+  }
+  return bytes;
 }
 
 struct record_head

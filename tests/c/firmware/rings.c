@@ -389,6 +389,23 @@ check_slow_port(void)
   check_outputs();
 }
 
+/* The message of a fault is where the console's input was. */
+static void
+check_report_room(void)
+{
+  uint32_t lost = input_lost(CONSOLE);
+  struct report *report;
+  input_received(CONSOLE, '\n');
+  report = take_report_room();
+  must("a message begins with nothing", report->length == 0);
+  memset(report->text, 'x', sizeof report->text);
+  for(unsigned i = 0; i < 2 * INPUT_ROOM; i++) {
+    input_received(CONSOLE, 'a');
+  }
+  must("no input is taken meanwhile", input_lost(CONSOLE) == lost + 2 * INPUT_ROOM);
+  must("no input is put over it", memchr(report->text, 'a', sizeof report->text) == NULL);
+}
+
 int
 main(void)
 {
@@ -397,7 +414,15 @@ main(void)
   }
   check_closed_rings();
   rings_open();
-  inputs[CONSOLE].room = inputs[RADIO].room = INPUT_ROOM;
+  inputs[CONSOLE].room = INPUT_ROOM;
+  /* A program that doesn't use the radio has no rings for it. */
+  receive(RADIO, 'a');
+  check_inputs();
+  rings_open_radio();
+  inputs[RADIO].room = INPUT_ROOM;
+  receive(RADIO, 0xc0);
+  take_byte(RADIO);
+  take_byte(RADIO);
   fill_inputs();
   use_inputs(RANDOM_CALLS);
   fill_outputs();
@@ -408,5 +433,6 @@ main(void)
   check_stuck_port();
   disable_interrupts();
   check_slow_port();
+  check_report_room();
   return conclude();
 }

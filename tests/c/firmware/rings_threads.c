@@ -131,6 +131,7 @@ int
 main(void)
 {
   rings_open();
+  rings_open_radio();
   check_beside("inputs are taken in their order, or lost and counted", receive_all, takes_inputs);
   check_beside("outputs leave in their order", put_all, takes_outputs);
   check("nothing is left", output_used(CONSOLE) == 0 && !input_is_waiting());

@@ -14,17 +14,17 @@
 enum { STACKING = 0x1010, MEMORY_ADDRESS_VALID = 0x80, DIVISION = 1 << 25, INSTRUCTION = 0x1ff << 16, GUARD_REACH = 8192 };
 enum { EXCEPTION_NUMBER = 0x1ff, SYSTICK = 15, FIRST_INTERRUPT = 16 };
 
-static struct report report;
+static struct report *report;
 
 /* Writes a message as a line of the console, and as a comment of the record. What the rings have leaves before it. */
 static void
 write_report(void)
 {
-  output_put_at_once(CONSOLE, report.text, report.length);
+  output_put_at_once(CONSOLE, report->text, report->length);
   output_put_at_once(CONSOLE, "\n", 1);
   if(is_recording()) {
     output_put_at_once(RECORD, "# ", 2);
-    output_put_at_once(RECORD, report.text, report.length);
+    output_put_at_once(RECORD, report->text, report->length);
     output_put_at_once(RECORD, "\n", 1);
   }
 }
@@ -36,11 +36,11 @@ end_run(int status, const char *format, va_list arguments)
   size_t room;
   int length;
   disable_interrupts();
-  report.length = 0;
-  add_place(&report);
-  room = REPORT_ROOM - report.length;
-  length = vsnprintf(report.text + report.length, room, format, arguments);
-  report.length += MIN((size_t)MAX(length, 0), room - 1);
+  report = take_report_room();
+  add_place(report);
+  room = REPORT_ROOM - report->length;
+  length = vsnprintf(report->text + report->length, room, format, arguments);
+  report->length += MIN((size_t)MAX(length, 0), room - 1);
   write_report();
   board_stop(status);
 }
@@ -49,8 +49,8 @@ void
 halt(void)
 {
   disable_interrupts();
-  report.length = 0;
-  add_halt(&report);
+  report = take_report_room();
+  add_halt(report);
   write_report();
   board_stop(STATUS_HALTED);
 }
@@ -118,7 +118,7 @@ add_hex(uint32_t number)
     digits[--at] = "0123456789abcdef"[number & 15];
     number >>= 4;
   } while(number > 0);
-  add_text(&report, digits + at);
+  add_text(report, digits + at);
 }
 
 static const char *
@@ -139,11 +139,11 @@ static void
 add_interrupt(uint32_t exception)
 {
   if(exception == SYSTICK) {
-    add_text(&report, "in SysTick: ");
+    add_text(report, "in SysTick: ");
   } else if(exception != 0) {
-    add_text(&report, "in interrupt ");
-    add_number(&report, exception - FIRST_INTERRUPT);
-    add_text(&report, ": ");
+    add_text(report, "in interrupt ");
+    add_number(report, exception - FIRST_INTERRUPT);
+    add_text(report, ": ");
   }
 }
 
@@ -151,15 +151,15 @@ add_interrupt(uint32_t exception)
 static void
 report_registers(const uint32_t *frame, uint32_t exception, uint32_t status, uint32_t address)
 {
-  report.length = 0;
-  add_text(&report, "exception ");
-  add_number(&report, exception);
-  add_text(&report, ", status 0x");
+  report->length = 0;
+  add_text(report, "exception ");
+  add_number(report, exception);
+  add_text(report, ", status 0x");
   add_hex(status);
-  add_text(&report, ", address 0x");
+  add_text(report, ", address 0x");
   add_hex(address);
   if(frame != NULL) {
-    add_text(&report, ", at 0x");
+    add_text(report, ", at 0x");
     add_hex(frame[6]);
   }
   write_report();
@@ -181,16 +181,16 @@ report_fault(const uint32_t *frame, uint32_t exception)
     board_stop(STATUS_STOPPED);
   }
   is_over = !is_first;
-  report.length = 0;
+  report = take_report_room();
   if(is_first) {
     first = name_of_fault(status, address);
-    add_place(&report);
+    add_place(report);
     add_interrupt((status & STACKING) != 0 ? 0 : frame[7] & EXCEPTION_NUMBER);
-    add_text(&report, first);
+    add_text(report, first);
   } else {
-    add_text(&report, "contiki: ");
-    add_text(&report, first);
-    add_text(&report, ", and another one where that was reported");
+    add_text(report, "contiki: ");
+    add_text(report, first);
+    add_text(report, ", and another one where that was reported");
   }
   write_report();
   report_registers((status & STACKING) != 0 ? NULL : frame, exception, status, address);

@@ -23,6 +23,8 @@ extern const struct board_settings board_settings;
 /* rings.c */
 enum { PATIENCE = 2 }; /* the seconds for which a port that takes nothing is waited for */
 void rings_open(void);
+void rings_open_radio(void);
+struct report *take_report_room(void);
 bool input_is_waiting(void);
 size_t input_take_line(uint8_t *bytes, size_t room);
 size_t input_take_byte(enum port port, uint8_t *byte);
@@ -36,6 +38,7 @@ size_t output_left(enum port port);
 uint32_t output_lost(enum port port);
 
 /* slip.c */
+void radio_open(void);
 size_t take_frame_bytes(uint8_t *bytes);
 uint32_t bad_frames(void);
 void send_frame(const uint8_t *bytes, size_t length);

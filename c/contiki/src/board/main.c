@@ -29,6 +29,9 @@ open_all(void)
   guard_stack(board_stack_low_run, RUN_GUARD);
   make_tables();
   rings_open();
+  if(board_settings.node != 0) {
+    radio_open();
+  }
   if(is_recording()) {
     record_head(&head);
   }

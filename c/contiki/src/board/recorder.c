@@ -100,6 +100,8 @@ show_turn(const struct toarmuts_call *call)
   line_count++;
   if(call->kind == TOARMUTS_CALL_PRINT) {
     output_put(CONSOLE, call->bytes, call->length);
+  } else if(call->kind == TOARMUTS_CALL_PACKET_OPEN) {
+    radio_open();
   }
   show_line();
 }

@@ -27,6 +27,12 @@ struct output {
 /* Before the rings are open a fault is reported by these. */
 static uint8_t first_bytes[PORTS][FIRST_ROOM];
 
+/* What comes from the console. A fault ends the run, and its message takes this room: no input is taken any more. */
+static union {
+  uint8_t bytes[INPUT_ROOM];
+  struct report report;
+} console_room;
+
 static struct input inputs[INPUTS];
 static struct output outputs[PORTS] = {{.ring = {.bytes = first_bytes[CONSOLE], .room = FIRST_ROOM}},
                                        {.ring = {.bytes = first_bytes[RADIO], .room = FIRST_ROOM}},
@@ -44,16 +50,33 @@ open_ring(struct ring *ring, uint32_t room)
   }
 }
 
-/* Once the mote is open, when the stack of that is free. */
+/* Once the mote is open, when the stack of that is free. Until then no input is taken. */
 void
 rings_open(void)
 {
-  for(unsigned port = 0; port < INPUTS; port++) {
-    open_ring(&inputs[port].ring, INPUT_ROOM);
-  }
-  for(unsigned port = 0; port < PORTS; port++) {
-    open_ring(&outputs[port].ring, output_rooms[port]);
-  }
+  inputs[CONSOLE].ring.bytes = console_room.bytes;
+  inputs[CONSOLE].ring.room = INPUT_ROOM;
+  open_ring(&outputs[CONSOLE].ring, output_rooms[CONSOLE]);
+  open_ring(&outputs[RECORD].ring, output_rooms[RECORD]);
+}
+
+/* The radio's, once the program uses it: most programs don't. Until then all that comes there is lost. Interrupts are disabled. */
+void
+rings_open_radio(void)
+{
+  open_ring(&inputs[RADIO].ring, INPUT_ROOM);
+  open_ring(&outputs[RADIO].ring, output_rooms[RADIO]);
+}
+
+/* The room for the message of a fault. Interrupts are disabled. */
+struct report *
+take_report_room(void)
+{
+  struct ring *ring = &inputs[CONSOLE].ring;
+  ring->room = 0;
+  atomic_store(&ring->taken, ring->put);
+  console_room.report.length = 0;
+  return &console_room.report;
 }
 
 /* Inputs. */

@@ -12,9 +12,21 @@ bad_frames(void)
 }
 
 /* What was gathered of the frame that arrives. */
-static uint8_t gathered[MOST];
+static uint8_t *gathered;
 static size_t gathered_length;
 static bool is_escaped, is_bad;
+
+/* Gives the radio its memory, once: a program that neither receives nor sends frames has none for it. */
+void
+radio_open(void)
+{
+  if(gathered == NULL) {
+    uint32_t before = disable_interrupts();
+    gathered = take_bytes(MOST);
+    rings_open_radio();
+    restore_interrupts(before);
+  }
+}
 
 /* Takes the whole frame, if it is a good one; returns its length or 0. */
 static size_t
@@ -71,6 +83,7 @@ send_frame(const uint8_t *bytes, size_t length)
 {
   uint8_t slip[2 * MOST + 2];
   size_t at = 0;
+  radio_open();
   slip[at++] = END;
   for(size_t i = 0; i < length && i < MOST; i++) {
     bool is_special = bytes[i] == END || bytes[i] == ESC;
