@@ -352,6 +352,16 @@ def test_fault_while_a_port_takes_nothing(build: Builder, boards: list[Emulated]
     assert b"the program called exit\n" in it.heard["record"], it.heard["record"][-300:]
 
 
+def test_without_a_record(build: Builder, boards: list[Emulated], tmp_path: Path) -> None:
+    """As it is told, the board writes nothing to its third port, also at a fault; it does all else."""
+    it = start(boards, build(LARGE, HERE / "faults.c", "--no-record", "--stop-at-fault"), LARGE, tmp_path / "board")
+    it.until("console", b"ready")
+    it.send("console", b"null\n")
+    it.until("console", b"a crash: an invalid address (SIGSEGV)\n")
+    it.pump(0.3)
+    assert it.heard["record"] == b""
+
+
 def test_stop_at_fault(build: Builder, boards: list[Emulated], tmp_path: Path) -> None:
     """As it is told, the board stops instead."""
     it = start(boards, build(LARGE, HERE / "faults.c", "--stop-at-fault"), LARGE, tmp_path / "board")
@@ -484,7 +494,8 @@ def test_run_at_a_terminal(contiki: Contiki, build: Builder, tmp_path: Path) -> 
      "--picture, --gdb, --build and --cc"),
     (["--board", LARGE, "-o", "image", "--record", "file"], "--record FILE and --radio are for --run: the image writes its record to "
      "the third port"),
-    (["--run"], "-o, --run, --script, --radio and --stop-at-fault are for --board"),
+    (["--board", LARGE, "--run", "--record", "file", "--no-record"], "--record FILE is the image's record: leave out --no-record"),
+    (["--run"], "-o, --run, --script, --radio, --no-record and --stop-at-fault are for --board"),
     (["--board", LARGE, "-o", "image", "--heap", "x"], "--heap needs a number"),
     (["--board", LARGE, "-o", "image", "--quiet"], "a board writes its whole transcript: leave out --quiet"),
     (["--board", LARGE, "-o", "image", "--node", "70000"], "a mote's number is at most 65535"),

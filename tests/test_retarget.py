@@ -12,8 +12,10 @@ from typing import Any, Iterator
 
 import pytest
 
+from retarget.clears import with_clears_sunk
 from retarget.compiler import clang, text_of
 from retarget.forms import DATA_LAYOUT
+from retarget.hints import without_hints
 from retarget.layout import alignment_at, offsets
 from retarget.module import retargeted
 from retarget.refusal import Refused
@@ -225,3 +227,101 @@ def test_data_layout_is_clangs(name: str, tmp_path: Path) -> None:
     told = subprocess.run(words, check=True, capture_output=True, text=True).stdout
     assert f'target datalayout = "{target.data_layout}"' in told
     assert f'target triple = "{target.triple}"' in told
+
+
+CLEAR = "  call void @llvm.memset.p0.i32(ptr %a, i8 0, i32 8, i1 false)"
+USE = "  store i8 1, ptr %a, align 1"
+BRANCH = "  br i1 %flag, label %{}, label %{}"
+
+
+def place_of_clear(first: str, **blocks: str) -> str:
+    """The block in which a local is cleared, which the first block makes and clears, and goes on so. Each block's lines are parted by
+    semicolons: `use`, and the names of the blocks after it."""
+    lines = ["define void @f(i1 %flag) {", "start:", "  %a = alloca [8 x i8], align 8", CLEAR]
+    for label, text in [("", first), *blocks.items()]:
+        lines += [f"{label}:"] if label else []
+        for part in text.split("; "):
+            words = part.split()
+            lines.append(USE if words == ["use"] else BRANCH.format(*words) if len(words) == 2 else
+                         "  ret void" if words == ["ret"] else f"  br label %{part}")
+    found = with_clears_sunk("\n".join([*lines, "}"])).splitlines()
+    assert sorted(found) == sorted([*lines, "}"])
+    return next(it[:-1] for it in reversed(found[:found.index(CLEAR)]) if it.endswith(":"))
+
+
+def test_clear_sinks() -> None:
+    """To the last block that is before all uses, but into no loop."""
+    assert place_of_clear("one two", one="use; ret", two="ret") == "one"
+    assert place_of_clear("one two", one="use; ret", two="use; ret") == "start"
+    assert place_of_clear("one two", one="three four", two="ret", three="use; ret", four="use; ret") == "one"
+    assert place_of_clear("one two", one="use; three", two="three", three="use; ret") == "start"
+    assert place_of_clear("one", one="two three", two="use; two three", three="ret") == "one"
+    assert place_of_clear("one", one="two", two="use; one three", three="ret") == "start"
+    assert place_of_clear("one", one="two", two="two three", three="use; ret") == "three"
+    assert place_of_clear("use; one", one="use; ret") == "start"
+    assert place_of_clear("one", one="ret", dead="use; ret") == "start"
+    assert place_of_clear("one", one="use; ret", dead="use; one") == "one"
+
+
+def test_clear_stays_where_more_is_done() -> None:
+    """A local that is cleared twice, or in part of which something else is stored first."""
+    for more in (CLEAR, USE, "  %b = getelementptr i8, ptr %a, i64 4"):
+        text = "\n".join(["define void @f() {", "start:", "  %a = alloca [8 x i8], align 8", CLEAR, more, "  br label %one", "one:", USE,
+                          "  ret void", "}", ""])
+        assert with_clears_sunk(text) == text
+
+
+def random_function(chance: random.Random) -> str:
+    count = chance.randrange(2, 9)
+    lines = ["define void @f(i1 %flag) {", "b0:"]
+    for name in "abc":
+        lines += [f"  %{name} = alloca [8 x i8], align 8", CLEAR.replace("%a", f"%{name}")]
+    for number in range(count):
+        lines += [f"b{number}:"] if number else []
+        lines += [USE.replace("1,", f"{chance.randrange(99)},").replace("%a", f"%{chance.choice('abc')}")
+                  for _ in range(chance.randrange(3) if number else 0)]
+        after = [f"b{chance.randrange(1, count)}" for _ in range(chance.randrange(3))]
+        lines.append("  ret void" if not after else f"  br label %{after[0]}" if len(after) == 1 else BRANCH.format(*after))
+    return "\n".join([*lines, "}"])
+
+
+def walk(text: str, chance: random.Random) -> dict[str, list[str]]:
+    """What a way through a function does with each local."""
+    blocks = {part.split(":")[0]: part.splitlines()[1:] for part in re.findall(r"^\w+:(?:\n .*)*", text, re.M)}
+    done: dict[str, list[str]] = {name: [] for name in "abc"}
+    label = "b0"
+    for _ in range(30):
+        for line in blocks[label]:
+            for name in re.findall(r"ptr %([abc])", line):
+                done[name].append(line)
+        after = re.findall(r"label %(\w+)", blocks[label][-1])
+        if not after:
+            break
+        label = chance.choice(after)
+    return done
+
+
+@pytest.mark.parametrize("seed", range(300))
+def test_each_way_does_the_same(seed: int) -> None:
+    """Each way through a function does the same with each local, in the same order; where it doesn't use one it may not clear it."""
+    before = random_function(random.Random(seed))
+    after = with_clears_sunk(before)
+    for way in range(50):
+        one, other = (walk(text, random.Random(way)) for text in (before, after))
+        assert all(one[name] == other[name] or (len(one[name]) == 1 and not other[name]) for name in "abc"), (before, after)
+
+
+HINTED = """define internal void @"a::bc"(ptr noundef %a0) #1 {
+define internal void @"a::b"(ptr noundef %a0) unnamed_addr #1 {
+define internal void @"a::d"() #2 {
+attributes #1 = { noinline nounwind }
+attributes #2 = { nounwind noinline }
+"""
+
+
+def test_hints_are_taken_out() -> None:
+    """Of the functions that are named, and of no other one."""
+    assert without_hints(HINTED, ["a::b", "a::d", "a::e"]) == HINTED.replace('a::b"(ptr noundef %a0) unnamed_addr #1', 'a::b"(ptr noundef '
+                                                                             '%a0) unnamed_addr #3').replace("() #2", "() #4") \
+        + "attributes #3 = { nounwind }\nattributes #4 = { nounwind }\n"
+    assert without_hints(HINTED.replace("noinline", "cold"), ["a::b"]) == HINTED.replace("noinline", "cold")

@@ -43,8 +43,14 @@ def text_of(module: Path) -> str:
                      "-o", "-", module])
 
 
-def compile_text(text: Path, target: Target, to: Path, *more: str, level: str = "-Os") -> None:
-    run_tool([clang(), *target.options, level, "-c", "-x", "ir", text, "-o", to, *OPTIONS, *more])
+def compile_text(text: Path, target: Target, to: Path, *more: str, level: str = "-Os", runs: int = 1) -> None:
+    """Compiles a module, after so many runs of LLVM's passes in all: a further one leaves out copies that the one before couldn't."""
+    words: list[str | Path] = [clang(), *target.options, level, "-x", "ir", *OPTIONS, *more]
+    for number in range(1, runs):
+        optimized = to.with_suffix(f".{number}.ll")
+        run_tool([*words, "-S", "-emit-llvm", text, "-o", optimized])
+        text = optimized
+    run_tool([*words, "-c", text, "-o", to])
 
 
 def make_archive(objects: Sequence[Path], to: Path) -> None:

@@ -30,6 +30,7 @@ check_board() {
     [[ " ${words[*]} " != *' --quiet '* ]] || give_up "a board writes its whole transcript: leave out --quiet" 64
     [[ -n $out || -n $run ]] || give_up "--board needs -o IMAGE, or --run" 64
     [[ -n $run || -z $record$radio ]] || give_up "--record FILE and --radio are for --run: the image writes its record to the third port" 64
+    [[ -z $record || -z $unrecorded ]] || give_up "--record FILE is the image's record: leave out --no-record" 64
     [[ -z $script || -f $script ]] || give_up "$script: no such file" 64
 }
 
@@ -87,6 +88,7 @@ build_board_driver() {
 # Writes the program's settings, in C.
 write_settings() {
     local heap=4096 mmem=4096 header=16 quota=0 quiet=1 has_record=true runs=NULL shows=NULL i name value
+    [[ -z $unrecorded ]] || has_record=false
     # Only a script's transcript needs the kernel's memory for a line.
     [[ -z $script ]] || quiet=0 has_record=false runs=run_board_script shows=show_board_line
     for ((i = 0; i < ${#sizes[@]}; i++)); do

@@ -57,7 +57,9 @@ rings_open(void)
   inputs[CONSOLE].ring.bytes = console_room.bytes;
   inputs[CONSOLE].ring.room = INPUT_ROOM;
   open_ring(&outputs[CONSOLE].ring, output_rooms[CONSOLE]);
-  open_ring(&outputs[RECORD].ring, output_rooms[RECORD]);
+  if(board_settings.has_record || board_settings.run_script != NULL) {
+    open_ring(&outputs[RECORD].ring, output_rooms[RECORD]);
+  }
 }
 
 /* The radio's, once the program uses it: most programs don't. Until then all that comes there is lost. Interrupts are disabled. */
