@@ -94,7 +94,7 @@ def test_text_is_left_out(build: Builder) -> None:
 
 @pytest.mark.parametrize("what,told_as", [
     ("static volatile char all[66000]", "variables and stack don't fit in the board's RAM"),
-    ("static volatile char all[52000]", "variables and stack don't fit in the board's RAM"),
+    ("static volatile char all[56000]", "variables and stack don't fit in the board's RAM"),
     ("static const char all[300000] = {1}", "code and constants don't fit in the board's flash"),
 ])
 @pytest.mark.parametrize("level", ["-O0", "-Os"])

@@ -90,8 +90,8 @@ outputs_keep_up(void)
   return keep_up;
 }
 
-/* Takes a line or a frame, if one is whole. */
-static bool
+/* Takes a line or a frame, if one is whole. It isn't inlined: otherwise the turns of timers would have its bytes on the stack, too. */
+static __attribute__((noinline)) bool
 take_input(void)
 {
   uint8_t bytes[LINE_ROOM];
