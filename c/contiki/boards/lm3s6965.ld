@@ -4,6 +4,6 @@ MEMORY
   FLASH (rx)  : ORIGIN = 0, LENGTH = 256K
   RAM   (rwx) : ORIGIN = 0x20000000, LENGTH = 64K
 }
-stack_size_open = 7K;
+stack_size_open = 11K;
 stack_size = 8K;
 INCLUDE board.ld
