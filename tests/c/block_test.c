@@ -5,7 +5,7 @@
 enum { ROOM = 1 << 17, MARGIN = 64, APPLICATIONS = 3, PARTS = 100 };
 
 static uint8_t first_bytes[ROOM + 2 * MARGIN] __attribute__((aligned(16))), second_bytes[ROOM + 2 * MARGIN] __attribute__((aligned(16)));
-static const struct toarmuts_configuration sizes = TOARMUTS_DEFAULTS;
+static const struct toarmuts_configuration sizes = TOARMUTS_DEFAULTS, quiet = {4096, 4096, 16, 0, 0, 1};
 
 static void
 mark(uint8_t *bytes)
@@ -63,6 +63,7 @@ check_sizes(void)
     check("and no fewer", try_room(MARGIN + gap, used + 15 - gap, &sizes) == TOARMUTS_OUT_OF_MEMORY);
   }
   check("a larger memory", try_room(MARGIN, ROOM, &large) == TOARMUTS_DONE && toarmuts_block_used() - used == large.mmem - sizes.mmem);
+  check("a quiet mote has no room for a line", try_room(MARGIN, ROOM, &quiet) == TOARMUTS_DONE && used - toarmuts_block_used() > 4096);
   check("there is no block after it", toarmuts_open(&sizes, APPLICATIONS, &mote) == TOARMUTS_OUT_OF_MEMORY);
 }
 
@@ -83,7 +84,7 @@ step_of(struct toarmuts_mote *mote, const struct toarmuts_call *call, const char
   return step;
 }
 
-/* Two motes with the same calls, each in its block, have the same lines. */
+/* Two motes with the same calls, each in its block, have the same lines, also where one is quiet. */
 static void
 check_two(void)
 {
@@ -97,7 +98,7 @@ check_two(void)
   mark(second_bytes);
   check("the first one", toarmuts_open_in(first_bytes + MARGIN, ROOM, &sizes, APPLICATIONS, &first) == TOARMUTS_DONE);
   used = toarmuts_block_used();
-  check("the second one", toarmuts_open_in(second_bytes + MARGIN, used, &sizes, APPLICATIONS, &second) == TOARMUTS_DONE);
+  check("the second one", toarmuts_open_in(second_bytes + MARGIN, used, &quiet, APPLICATIONS, &second) == TOARMUTS_DONE);
   for(long i = 0; i < 100000 && same; i++) {
     struct toarmuts_call call = random_call();
     const char *input = inputs[random_below(3)];

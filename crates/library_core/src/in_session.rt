@@ -176,6 +176,21 @@ fn put_entry_line(
     }
 }
 
+/// The same, where the line is made on the stack.
+// Out of line, so that only a quiet mote needs that much of the stack.
+#[inline(never)]
+fn put_quiet_line(session: &Session, line: &mut [u8], length: &mut usize) -> u32
+    ensures status { result ≡ line_status_of (size_of line.old) session.now.last }
+    ensures line { result ≡ 0 → IsLastLine (take length.new line.new) session.now }
+    ensures fits { result ≡ 0 → length.new ≤ size_of line.new }
+    ensures rest { result ≡ 0 → drop length.new line.new ≡ drop length.new line.old }
+    ensures length { result ≡ 20 → IsSomeAnd session.now.last (λ entry. length.new + 1 ≡ size_of (entry_line entry)) }
+    ensures no_line { result ≢ 0 → line.new ≡ line.old }
+    ensures no_length { result ≢ 0 → result ≢ 20 → length.new ≡ length.old }
+{
+    put_entry_line(session, &mut OutputBuffer::new(), line, length)
+}
+
 /// Puts the line of the last entry, without its end, to the front of the buffer.
 pub fn put_last_line(open_mote: &mut OpenMote, line: &mut [u8], length: &mut usize) -> u32
     ensures session { open_mote.new.session ≡ open_mote.old.session }
@@ -187,5 +202,8 @@ pub fn put_last_line(open_mote: &mut OpenMote, line: &mut [u8], length: &mut usi
     ensures no_line { result ≢ 0 → line.new ≡ line.old }
     ensures no_length { result ≢ 0 → result ≢ 20 → length.new ≡ length.old }
 {
-    put_entry_line(&open_mote.session, &mut open_mote.line, line, length)
+    match &mut open_mote.line {
+        Some(text) => put_entry_line(&open_mote.session, text, line, length),
+        None => put_quiet_line(&open_mote.session, line, length),
+    }
 }

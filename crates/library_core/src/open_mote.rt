@@ -1,9 +1,10 @@
 //! What an open mote has, and how one is opened.
 
-ghost use Rattle.std.specs.Prelude.{◌≡◌, ◌↔◌, false, IfErr, IfOk, IsErrOf};
-ghost use Rattle.kernel_core.specs.Machine.{is_bootable};
+ghost use Rattle.std.specs.Prelude.{◌≡◌, ◌↔◌, None, false, true, IfErr, IfOk, IsErrOf};
+ghost use Rattle.kernel_core.specs.Machine.{booted, is_bootable};
 ghost use Rattle.library_core.specs.Steps.{IsOpened};
 
+use kernel_core::awaiting_kernel::AwaitingKernel;
 use mote_session::session::Session;
 use mote_session::{BootFault, Config};
 use mote_text::output_buffer::OutputBuffer;
@@ -15,8 +16,8 @@ use std::alloc::{AllocError, Global};
 #[derive(Drop)]
 pub struct OpenMote {
     pub session: Session,
-    /// On the heap apart: who opens a mote makes the two one after the other, and moves only the session over the stack.
-    pub line: Box<OutputBuffer>,
+    /// None in a quiet mote.
+    pub line: Option<Box<OutputBuffer>>,
 }
 
 /// Whether a mote boots with this configuration.
@@ -32,7 +33,7 @@ fn can_boot(config: &Config) -> bool
     sizes.are_allowed(config.apps) && config.apps <= MOST_APPLICATIONS
 }
 
-// Each of these three is out of line, so that what it takes of the stack is given back at once.
+// Those that are out of line give back at once what they take of the stack.
 
 /// Room for a line, on the heap.
 #[inline(never)]
@@ -43,56 +44,56 @@ fn line_on_heap(alloc: Global) -> Result<Box<OutputBuffer>, AllocError> {
     }
 }
 
-/// Puts a session on the heap, with room for a line.
+/// The same, where the mote isn't quiet.
+fn room_for_line(alloc: Global, is_quiet: bool) -> Result<Option<Box<OutputBuffer>>, AllocError> {
+    if is_quiet {
+        return Ok(None);
+    }
+    match line_on_heap(alloc) {
+        Ok(line) => Ok(Some(line)),
+        Err(refused) => Err(refused),
+    }
+}
+
+/// Puts a session over a kernel that has just booted on the heap, with this room for a line.
 #[inline(never)]
 fn held(
     alloc: Global,
-    session: Session,
-    line: Box<OutputBuffer>,
+    config: Config,
+    kernel: AwaitingKernel,
+    line: Option<Box<OutputBuffer>>,
 ) -> Result<Box<OpenMote>, BootFault>
-    ensures session { IfOk result (λ mote. mote.value.session ≡ session) }
+    requires machine { kernel.mote.machine ≡ booted config }
+    requires inputs { kernel.mote.inputs ≡ 0 }
+    requires turn { kernel.turn ≡ None }
+    requires bootable { is_bootable config ≡ true }
+    ensures opened { IfOk result (λ mote. IsOpened config mote.value.session) }
     ensures fault { IfErr result (λ fault. fault ≡ BootFault.Memory) }
 {
+    let session = Session::over(kernel, config);
     match Box::new(alloc, OpenMote { session, line }) {
         Ok(open_mote) => Ok(open_mote),
         Err(_) => Err(BootFault::Memory),
     }
 }
 
-/// A mote at boot, with this room for a line.
-#[inline(never)]
-fn boot_with(
-    alloc: Global,
-    config: Config,
-    line: Box<OutputBuffer>,
-) -> Result<Box<OpenMote>, BootFault>
-    ensures opened { IfOk result (λ mote. IsOpened config mote.value.session) }
-    ensures bad_sizes { IsErrOf result BootFault.BadSizes ↔ (is_bootable config ≡ false) }
-{
-    // No `?`: it would take room on the stack for two sessions more.
-    match Session::boot(alloc, config) {
-        Ok(session) => match held(alloc, session, line) {
-            Ok(open_mote) => Ok(open_mote),
-            Err(fault) => Err(fault),
-        },
-        Err(fault) => Err(fault),
-    }
-}
-
-/// A mote at boot.
+/// A mote at boot. A quiet one has no room for a line.
 ///
 /// # Errors
 ///
 /// `BadSizes` exactly if no mote boots with this configuration, otherwise `Memory`.
-pub fn boot(alloc: Global, config: Config) -> Result<Box<OpenMote>, BootFault>
+pub fn boot(alloc: Global, config: Config, is_quiet: bool) -> Result<Box<OpenMote>, BootFault>
     ensures opened { IfOk result (λ mote. IsOpened config mote.value.session) }
     ensures bad_sizes { IsErrOf result BootFault.BadSizes ↔ (is_bootable config ≡ false) }
 {
     if !can_boot(&config) {
         return Err(BootFault::BadSizes);
     }
-    let Ok(line) = line_on_heap(alloc) else {
+    let Ok(line) = room_for_line(alloc, is_quiet) else {
         return Err(BootFault::Memory);
     };
-    boot_with(alloc, config, line)
+    match AwaitingKernel::boot(alloc, config) {
+        Ok(kernel) => held(alloc, config, kernel, line),
+        Err(fault) => Err(fault),
+    }
 }

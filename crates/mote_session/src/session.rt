@@ -1,6 +1,6 @@
 //! A mote asked step by step.
 
-ghost use Rattle.std.specs.Prelude.{◌≡◌, ◌≢◌, ◌≤◌, ◌+◌, ◌^◌, ◌++◌, ◌↔◌, ◌||◌, None, Some, nat_le, nat_lt, not, false, true, is_some, IfErr, IfOk, IfSome, IfNone, IsErrOf, IsOkAnd, IsSomeAnd};
+ghost use Rattle.std.specs.Prelude.{◌≡◌, ◌≢◌, ◌≤◌, ◌+◌, ◌^◌, ◌++◌, ◌↔◌, ◌||◌, None, Some, nat_le, nat_lt, not, false, true, is_some, IfErr, IfOk, IfSome, IfNone, IsErrOf, IsSomeAnd};
 ghost use Rattle.mote_text.specs.EntryText.{entry_line};
 ghost use Rattle.mote_text.specs.Code.Appending.{HasRoom};
 ghost use Rattle.mote_text.specs.Code.EntryLines.{entry_line_limit};
@@ -238,31 +238,43 @@ impl Session {
     /// # Errors
     ///
     /// `BadSizes` exactly where no mote boots with this configuration; otherwise `Memory` where memory is refused.
-    // Out of line, so that the room on the stack that a boot takes is given back at once.
-    #[inline(never)]
     pub fn boot(alloc: Global, config: Config) -> Result<Session, BootFault>
         ensures booted { IfOk result (λ session. (session.machine ≡ booted config) × (session.inputs ≡ 0)
             × (session.turn ≡ None) × (session.last ≡ None)) }
         ensures history { IfOk result (λ session. KeepsPromise (at_boot config) session) }
         ensures bad_sizes { IsErrOf result BootFault.BadSizes ↔ (is_bootable config ≡ false) }
     {
-        histories_keep_promise();
         match AwaitingKernel::boot(alloc, config) {
-            Ok(kernel) => Session::of(kernel),
+            Ok(kernel) => Ok(Session::over(kernel, config)),
             Err(fault) => Err(fault),
         }
     }
 
-    /// A session over a kernel that awaits no call.
-    // Out of line, so that what it takes of the stack isn't added to what the kernel takes while it is made. A result, since `boot` would
-    // take room for a second session to make one of it.
-    #[inline(never)]
-    fn of(kernel: AwaitingKernel) -> Result<Session, BootFault>
-        requires { kernel.turn ≡ None }
-        ensures { IsOkAnd result (λ session. (session.machine ≡ kernel.mote.machine) × (session.inputs ≡ kernel.mote.inputs)
-            × (session.turn ≡ None) × (session.last ≡ None)) }
+    /// A session over a kernel that has just booted with this configuration.
+    // Apart from `boot`: who has the kernel made first has no room for a session on the stack meanwhile.
+    #[inline(always)]
+    pub fn over(kernel: AwaitingKernel, config: Config) -> Session
+        requires machine { kernel.mote.machine ≡ booted config }
+        requires inputs { kernel.mote.inputs ≡ 0 }
+        requires turn { kernel.turn ≡ None }
+        requires bootable { is_bootable config ≡ true }
+        ensures booted { (result.machine ≡ booted config) × (result.inputs ≡ 0) × (result.turn ≡ None) × (result.last ≡ None) }
+        ensures history { KeepsPromise (at_boot config) result }
     {
-        Ok(Session {
+        histories_keep_promise();
+        // The clauses name it.
+        let _ = config;
+        Session::of(kernel)
+    }
+
+    /// A session over a kernel that awaits no call.
+    #[inline(always)]
+    fn of(kernel: AwaitingKernel) -> Session
+        requires { kernel.turn ≡ None }
+        ensures { (result.machine ≡ kernel.mote.machine) × (result.inputs ≡ kernel.mote.inputs) × (result.turn ≡ None)
+            × (result.last ≡ None) }
+    {
+        Session {
             kernel,
             even: Turn::none_yet(),
             odd: Turn::none_yet(),
@@ -270,7 +282,7 @@ impl Session {
             other: Entry::Halt,
             last: LastEntry::Missing,
             values: DigitValues::new(),
-        })
+        }
     }
 
     /// Works until an application must take a turn, until another entry is made, or until there is rest.

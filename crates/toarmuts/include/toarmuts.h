@@ -52,7 +52,7 @@ struct toarmuts_configuration {
   uint32_t header;    /* a header in heap memory: 16 or 8 */
   uint32_t has_quota; /* 0: each process may take all managed memory that is free, and quota says nothing */
   uint32_t quota;     /* managed memory for each application and for the frames: a multiple of 4 from 4 to 65,536 */
-  uint32_t quiet;     /* not 0: the transcript is a quiet one */
+  uint32_t quiet;     /* not 0: the transcript of toarmuts_run is a quiet one */
 };
 
 /* The defaults of the program mote. */
@@ -302,8 +302,8 @@ struct toarmuts_application {
 
 enum toarmuts_input_kind { TOARMUTS_TICK, TOARMUTS_SERIAL, TOARMUTS_FRAME };
 
-/* Opens a mote with this number of applications (0 to 16), processes 4, 5, .. All its memory is allocated here. `quiet` of the
- * configuration is ignored. */
+/* Opens a mote with this number of applications (0 to 16), processes 4, 5, .. All its memory is allocated here: with `quiet`
+ * of the configuration 4 KB less, and then each toarmuts_line needs 10 KB of stack, and is slower. */
 uint32_t toarmuts_open(const struct toarmuts_configuration *configuration, uint32_t applications, struct toarmuts_mote *mote);
 
 /* Passes a line of a script, without its line end. An empty line and a comment are DONE and do nothing. */

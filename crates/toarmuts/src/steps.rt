@@ -28,7 +28,8 @@ use library_core::turn::PlainTurn;
 use mote_session::{BootFault, Config};
 use std::alloc::Global;
 
-/// Opens a mote with `applications` applications: processes 4, 5, .. All memory that it will use is allocated here.
+/// Opens a mote with `applications` applications: processes 4, 5, .. All memory that it will use is allocated here, for a
+/// quiet one no room for a line: `toarmuts_line` makes each line on the stack then.
 #[unsafe(no_mangle)]
 pub extern "C" fn toarmuts_open(
     alloc: Global,
@@ -58,7 +59,7 @@ pub extern "C" fn toarmuts_open(
         quota: sizes.quota,
         header: sizes.header,
     };
-    match boot(alloc, config) {
+    match boot(alloc, config, configuration.is_quiet()) {
         Ok(open_mote) => {
             mote.put(alloc, open_mote);
             DONE
