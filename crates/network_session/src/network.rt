@@ -81,7 +81,11 @@ fn hand_in(motes: &mut Vec<Session>, m: usize, input: Input) -> Result<(), Netwo
 }
 
 /// Passes a frame to one mote.
-fn hand_frame_in(motes: &mut Vec<Session>, m: usize, bytes: &ArrayVec<u8, 127>) -> Result<(), NetworkFault>
+fn hand_frame_in(
+    motes: &mut Vec<Session>,
+    m: usize,
+    bytes: &ArrayVec<u8, 127>,
+) -> Result<(), NetworkFault>
     requires { m < length motes.old.items }
     ensures handed { IfOk result (λ _. HandedIn m (λ mote. Handed.Frame bytes.now) motes.old.items motes.new.items) }
     ensures accepted { IfOk result (λ _. (mote : SessionView) → slice_get motes.old.items m ≡ Some mote → mote_refusal (Handed.Frame bytes.now) mote ≡ None) }
