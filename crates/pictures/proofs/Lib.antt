@@ -25,6 +25,7 @@ pub mod Room
 pub mod RowClocks
 mod RowExamples
 pub mod RowTitles
+pub mod Says
 mod TitleExamples
 pub mod TurnParts
 pub mod Waits

@@ -4,7 +4,8 @@ use Rattle.std.specs.List.{starts_with}
 use Rattle.pictures.specs.declared.transcript.line.Ending.{Ending}
 use Rattle.pictures.specs.declared.transcript.line.Line.{Line}
 use Rattle.pictures.specs.declared.transcript.line.Note.{Note}
-use Rattle.pictures.specs.Transcript.Lines.{ending_in, line_text}
+use Rattle.pictures.specs.Transcript.Forms.{Says}
+use Rattle.pictures.specs.Transcript.Lines.{ending_in}
 
 -- a call that prints or sends
 abbrev pub shows_call : List ℕ → Bool
@@ -20,7 +21,11 @@ is_shown (Line.Ending ending) = true
 
 -- the line says that
 abbrev pub MayStay : List ℕ → Type 0
-MayStay line = (read : Line) × (line ≡ line_text read) × (is_shown read ≡ true)
+MayStay line = (read : Line) × Says line read × (is_shown read ≡ true)
+
+-- it says that, and nothing else
+abbrev pub MustStay : List ℕ → Type 0
+MustStay line = MayStay line × ((read : Line) → Says line read → is_shown read ≡ true)
 
 -- how the script ended, whatever the mote did
 abbrev pub is_of_script : Option Ending → Bool

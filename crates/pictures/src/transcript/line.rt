@@ -1,9 +1,11 @@
 //! The lines of a transcript.
 
-ghost use Rattle.std.specs.Prelude.{◌≡◌, true, codes, option_and_then, IfSome};
-ghost use Rattle.pictures.specs.Transcript.Forms.{is_input, is_line, is_note};
+ghost use Rattle.std.specs.Prelude.{◌≡◌, true, codes, is_some, option_and_then, IfNone, IfSome};
+ghost use Rattle.pictures.specs.Transcript.Code.{is_input_text, is_note_text};
+ghost use Rattle.pictures.specs.Transcript.Forms.{Says, is_ending, is_input, is_line, is_note};
 ghost use Rattle.pictures.specs.Transcript.Lines.{after_prefix, ending_in, ending_text, input_text, line_text, note_text, ticks_by, ticks_in, line_ticks};
 ghost use Rattle.pictures.specs.Transcript.Words.{is_bytes, read_number};
+ghost use Rattle.pictures.specs.declared.transcript.line.Line.{Line};
 
 use crate::transcript::forms::{is_bytes, number};
 use crate::transcript::turn::{Turn, read_turn};
@@ -50,7 +52,8 @@ pub enum Line<'a> {
 
 /// The digits of bytes, where the word has them.
 fn digits_in(word: &str) -> Option<&str>
-    ensures { IfSome result (λ digits. (digits.now ≡ word.now) × (is_bytes word.now ≡ true)) }
+    ensures written { IfSome result (λ digits. (digits.now ≡ word.now) × (is_bytes word.now ≡ true)) }
+    ensures whole { is_some result ≡ is_bytes word.now }
 {
     if is_bytes(word) { Some(word) } else { None }
 }
@@ -58,6 +61,7 @@ fn digits_in(word: &str) -> Option<&str>
 fn read_input(text: &str) -> Option<Input<'_>>
     ensures written { IfSome result (λ input. text.now ≡ input_text input) }
     ensures form { IfSome result (λ input. is_input input ≡ true) }
+    ensures whole { is_some result ≡ is_input_text text.now }
     ensures ticks { option_and_then ticks_by result ≡ option_and_then read_number (after_prefix (codes "tick ") text.now) }
 {
     if let Some(ticks) = text.strip_prefix("tick ") {
@@ -72,6 +76,7 @@ fn read_input(text: &str) -> Option<Input<'_>>
 fn read_note(text: &str) -> Option<Note<'_>>
     ensures written { IfSome result (λ note. text.now ≡ note_text note) }
     ensures form { IfSome result (λ note. is_note note ≡ true) }
+    ensures whole { is_some result ≡ is_note_text text.now }
 {
     match text.strip_prefix("lost ") {
         Some(word) => Some(Note::Lost(number(word)?)),
@@ -81,6 +86,7 @@ fn read_note(text: &str) -> Option<Note<'_>>
 
 pub(crate) fn read_ending(line: &str) -> Option<Ending>
     ensures written { IfSome result (λ ending. line.now ≡ ending_text ending) }
+    ensures form { IfSome result (λ ending. is_ending ending ≡ true) }
     ensures whole { result ≡ ending_in line.now }
 {
     match line {
@@ -98,6 +104,8 @@ pub(crate) fn read_ending(line: &str) -> Option<Ending>
 pub fn read_line(line: &str) -> Option<Line<'_>>
     ensures written { IfSome result (λ read. line.now ≡ line_text read) }
     ensures form { IfSome result (λ read. is_line read ≡ true) }
+    ensures says { IfSome result (λ read. Says line.now read) }
+    ensures none { IfNone result ((read : Line) → Says line.now read → ⊥) }
     ensures ticks { option_and_then line_ticks result ≡ ticks_in line.now }
 {
     if let Some(text) = line.strip_prefix("> ") {

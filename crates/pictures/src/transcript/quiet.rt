@@ -1,7 +1,7 @@
 //! Quiet transcripts.
 
-ghost use Rattle.std.specs.Prelude.{◌≡◌, ◌<◌, false, All, length, map, slice_index_or, [], eqb};
-ghost use Rattle.std.specs.Bool.{OnTrue};
+ghost use Rattle.std.specs.Prelude.{◌≡◌, ◌<◌, true, false, All, length, map, slice_index_or, [], eqb};
+ghost use Rattle.std.specs.Bool.{OnFalse, OnTrue};
 ghost use Rattle.std.specs.List.{starts_with};
 ghost use Rattle.pictures.specs.Transcript.Quiet as spec;
 
@@ -22,7 +22,8 @@ fn shows(call: &str) -> bool
 
 /// Whether a quiet transcript may have the line: a turn that prints or sends, a frame that was sent, or how the run ended.
 fn may_stay(line: &str) -> bool
-    ensures { OnTrue result (spec.MayStay line.now) }
+    ensures stays { OnTrue result (spec.MayStay line.now) }
+    ensures goes { OnFalse result (spec.MustStay line.now → ⊥) }
 {
     match read_line(line) {
         Some(Line::Turn(turn)) => shows(turn.call),
@@ -32,7 +33,8 @@ fn may_stay(line: &str) -> bool
 }
 
 fn may_all_stay(lines: &[&str]) -> bool
-    ensures { OnTrue result (All (λ line. spec.MayStay line.now) lines.now) }
+    ensures stay { OnTrue result (All (λ line. spec.MayStay line.now) lines.now) }
+    ensures goes { OnFalse result (All (λ line. spec.MustStay line.now) lines.now → ⊥) }
 {
     for line in lines {
         if !may_stay(line) {
@@ -58,6 +60,8 @@ pub fn is_quiet(lines: &[&str]) -> bool
     ensures some { OnTrue result (0 < length lines.now) }
     ensures first { OnTrue result (spec.ends_script (slice_index_or (map (λ line. line.now) lines.now) 0 []) ≡ false) }
     ensures shown { OnTrue result (All (λ line. spec.MayStay line.now) lines.now) }
+    ensures other { OnFalse result (0 < length lines.now → spec.ends_script (slice_index_or (map (λ line. line.now) lines.now) 0 []) ≡ false
+        → All (λ line. spec.MustStay line.now) lines.now → ⊥) }
 {
     !lines.is_empty() && !ends_script(lines[0]) && may_all_stay(lines)
 }

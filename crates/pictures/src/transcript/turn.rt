@@ -1,9 +1,11 @@
 //! The turns of lines.
 
-ghost use Rattle.std.specs.Prelude.{◌≡◌, ◌≤◌, ◌<◌, true, IfSome};
-ghost use Rattle.pictures.specs.Transcript.Code.{words_in};
+ghost use Rattle.std.specs.Prelude.{◌≡◌, ◌≤◌, ◌<◌, true, IfNone, IfSome};
+ghost use Rattle.pictures.specs.Transcript.Code.{origin_in, words_in};
+ghost use Rattle.pictures.specs.Transcript.Forms.{IsTurnLine};
 ghost use Rattle.pictures.specs.Transcript.Lines.{origin_text, turn_text};
 ghost use Rattle.pictures.specs.Transcript.Turns as spec;
+ghost use Rattle.pictures.specs.declared.transcript.turn.Turn.{Turn};
 
 use crate::transcript::forms::{Form, first_word, have_forms, number};
 
@@ -34,7 +36,8 @@ pub struct Turn<'a> {
 }
 
 fn origin_of(word: &str) -> Option<Origin>
-    ensures { IfSome result (λ origin. word.now ≡ origin_text origin) }
+    ensures written { IfSome result (λ origin. word.now ≡ origin_text origin) }
+    ensures whole { result ≡ origin_in word.now }
 {
     match word {
         "event" => Some(Origin::Event),
@@ -155,6 +158,8 @@ pub fn read_turn(line: &str) -> Option<Turn<'_>>
     ensures process { IfSome result (λ turn. (4 ≤ turn.pid) × (turn.pid < 20)) }
     ensures written { IfSome result (λ turn. line.now ≡ turn_text turn) }
     ensures form { IfSome result (λ turn. spec.is_turn turn ≡ true) }
+    ensures first { IfSome result (λ turn. IsTurnLine line.now turn) }
+    ensures none { IfNone result ((turn : Turn) → IsTurnLine line.now turn → ⊥) }
 {
     let (front, call) = line.split_once(" -> ")?;
     let (pid, rest) = front.split_once(' ')?;
