@@ -1,7 +1,7 @@
 //! What leads from one row to a later one.
 
 ghost use Rattle.std.specs.Prelude.{All};
-ghost use Rattle.std.specs.Bool.{OnTrue};
+ghost use Rattle.std.specs.Bool.{OnFalse, OnTrue};
 ghost use Rattle.pictures.specs.Spans.{EndsLater};
 
 use std::alloc::Global;
@@ -13,7 +13,8 @@ pub(crate) trait Span: Copy {
 
     /// Whether it ends in a later row than the one where it begins, or in none.
     fn ends_later(&self) -> bool
-        ensures { OnTrue result (leads_on self.now) };
+        ensures later { OnTrue result (leads_on self.now) }
+        ensures single { OnFalse result (leads_on self.now → ⊥) };
 }
 
 /// The spans that have ended so far.
@@ -68,7 +69,8 @@ impl<T: Span> Spans<T> {
 
 /// Whether a later row than the first is the last one, or none.
 pub(crate) fn ends_later(first: usize, last: Option<usize>) -> bool
-    ensures { OnTrue result (EndsLater first last) }
+    ensures later { OnTrue result (EndsLater first last) }
+    ensures single { OnFalse result (EndsLater first last → ⊥) }
 {
     match last {
         Some(last) => first < last,

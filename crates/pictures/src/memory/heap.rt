@@ -1,6 +1,6 @@
 //! A heap in which calls are executed as in the mote, by the same code.
 
-ghost use Rattle.std.specs.Prelude.{◌≡◌, ◌⊎◌, ◌≤◌, Some, None, IsSome, IfSome, IfOk};
+ghost use Rattle.std.specs.Prelude.{◌≡◌, ◌⊎◌, ◌≤◌, Some, None, IsSome, IsSomeAnd, IfOk};
 ghost use Rattle.std.specs.Bool.{OnTrue, OnFalse};
 ghost use Rattle.mote_types.specs.Code.Conditions.{IsName};
 ghost use Rattle.heap_core.specs.HeapStore.{empty_heap, allocated, reallocated, freed, place, stats_of};
@@ -31,11 +31,11 @@ impl Model for LiveHeap {
 }
 
 impl LiveHeap {
-    /// A heap of `size` bytes, without a block. `None` where the arena has no room for it.
+    /// A heap of `size` bytes, without a block: the arena always has room for it, so the answer is never `None`.
     pub fn new(alloc: Global, size: u32, header: u32) -> Result<Option<LiveHeap>, AllocError>
         requires size { IsHeapSize size }
         requires header { IsHeaderLength header }
-        ensures { IfOk result (λ heap. IfSome heap (λ heap. heap ≡ empty_heap size header)) }
+        ensures { IfOk result (λ heap. IsSomeAnd heap (λ heap. heap ≡ empty_heap size header)) }
     {
         let mut arena = Arena::new(alloc, size)?;
         let Some(span) = arena.carve(size) else {
