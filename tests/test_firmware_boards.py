@@ -237,6 +237,27 @@ def test_flood_of_the_radio(contiki: Contiki, build: Builder, boards: list[Emula
     check_replay(contiki, tmp_path / "record", it, source)
 
 
+@pytest.mark.parametrize("before,after,bad", [(b"\xc0early\xc0", b"", 0), (b"early\xc0\xc0half of ", b"a frame\xc0", 1)],
+                         ids=["between two frames", "amid a frame"])
+def test_radio_that_opens_late(contiki: Contiki, build: Builder, boards: list[Emulated], tmp_path: Path, before: bytes, after: bytes,
+                               bad: int) -> None:
+    """What comes before `packet-open` is lost and counted, with the rest of a frame that has begun; the first frame after it arrives."""
+    source = HERE / "late.c"
+    it = start(boards, build(LARGE, source), LARGE, tmp_path / "board")
+    it.until("record", b"# check ")
+    it.send("radio", before)
+    it.pump(0.5)
+    it.send("console", b"open\n")
+    it.until("console", b"open\n")
+    it.send("radio", after + b"whole\xc0")
+    it.until("console", b"a frame of 5 bytes\n")
+    it.until("record", b"frame " + b"whole".hex().encode() + b"\n# check ")
+    assert b"early".hex().encode() not in it.heard["record"] and it.heard["console"].count(b"frame") == 1
+    lost = sum(map(int, re.findall(rb"^# radio: (\d+) bytes lost$", it.heard["record"], re.M)))
+    assert lost == len(before) + len(after.removesuffix(b"\xc0")) and it.heard["record"].count(b"# radio: 1 bad frames\n") == bad
+    check_replay(contiki, tmp_path / "record", it, source)
+
+
 def test_record_that_nobody_reads(contiki: Contiki, build: Builder, boards: list[Emulated], tmp_path: Path) -> None:
     """Where the record's port is too slow the board goes on, and the record ends with a line that says so: it never has a gap."""
     source = CONTIKI / "mote/blink.c"

@@ -65,6 +65,8 @@ PLANTED = {
     "what is lost after a gap isn't counted": ("rings", "rings.c", [("      count_up(&input->lost);\n      return;", "      return;")]),
     "a frame with a gap is passed": ("rings", "rings.c", [("    ring_put(&input->ring, SLIP_ESC);\n", "")]),
     "after a gap in a frame nothing is put any more": ("rings", "rings.c", [("    input->has_gap = false;\n", "")]),
+    "the first frame of a radio that opens late is lost": ("rings", "rings.c", [("has_gap = byte != SLIP_END;", "has_gap = true;")]),
+    "the end of a frame is taken for one": ("rings", "rings.c", [("has_gap = byte != SLIP_END;", "has_gap = false;")]),
     "what follows a gap is put": ("rings", "rings.c", [("byte != SLIP_END || ring_used", "ring_used")]),
     "lost outputs count as one": ("rings", "rings.c", [("lost += (uint32_t)length", "lost += 1")]),
     "an output refuses what fits": ("rings", "rings.c", [("length > output_left(port)", "length >= output_left(port)")]),

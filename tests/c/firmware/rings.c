@@ -8,6 +8,8 @@
 #include "../check.h"
 
 #include <stdlib.h>
+#include <sys/wait.h>
+#include <unistd.h>
 
 enum { MOST_ALL = 64, MOST_ROOM = 1024, INPUT_ROOM = 512, LONG_LINE = 256, LINE_ROOM = 200, TEXT_ROOM = 40 };
 
@@ -165,6 +167,7 @@ receive(enum port port, uint8_t byte)
   if(left < (is_in_gap ? 2 : 1) || (is_in_gap && byte != 0xc0)) {
     inputs[port].lost++;
     has_gap |= port == RADIO;
+    has_gap &= inputs[port].room > 0 || byte != 0xc0; /* where the radio isn't open a gap ends with its frame */
   } else {
     if(is_in_gap) {
       push(&inputs[port], 0xdb);
@@ -406,6 +409,39 @@ check_report_room(void)
   must("no input is put over it", memchr(report->text, 'a', sizeof report->text) == NULL);
 }
 
+/* A program that doesn't use the radio has no rings for it. One may begin to use it after a frame, or amid one. */
+static void
+open_radio_late(const char *before)
+{
+  for(; *before != '\0'; before++) {
+    receive(RADIO, (uint8_t)*before);
+    check_inputs();
+  }
+  rings_open_radio();
+  inputs[RADIO].room = INPUT_ROOM;
+  for(const char *byte = "c\300d\300"; *byte != '\0'; byte++) {
+    receive(RADIO, (uint8_t)*byte);
+    check_inputs();
+  }
+  while(inputs[RADIO].length > 0) {
+    take_byte(RADIO);
+  }
+  take_byte(RADIO);
+}
+
+/* The radio is opened once in a process. */
+static void
+open_radio_amid_a_frame(void)
+{
+  int status = -1;
+  pid_t child = fork();
+  if(child == 0) {
+    open_radio_late("a\300b");
+    _exit(0);
+  }
+  must("a radio that opens amid a frame", waitpid(child, &status, 0) == child && status == 0);
+}
+
 int
 main(void)
 {
@@ -415,14 +451,8 @@ main(void)
   check_closed_rings();
   rings_open();
   inputs[CONSOLE].room = INPUT_ROOM;
-  /* A program that doesn't use the radio has no rings for it. */
-  receive(RADIO, 'a');
-  check_inputs();
-  rings_open_radio();
-  inputs[RADIO].room = INPUT_ROOM;
-  receive(RADIO, 0xc0);
-  take_byte(RADIO);
-  take_byte(RADIO);
+  open_radio_amid_a_frame();
+  open_radio_late("a\300");
   fill_inputs();
   use_inputs(RANDOM_CALLS);
   fill_outputs();

@@ -94,12 +94,20 @@ put_input(struct input *input, uint8_t byte, bool is_end)
   }
 }
 
-/* What is left of a frame that lost a byte is lost, too, and an escape before its end makes it a bad one: the mote must not have it. */
+/*
+ * What is left of a frame that lost a byte is lost, too, and an escape before its end makes it a bad one: the mote must not have it. Before
+ * the radio is open all is lost; the first frame that begins after that arrives.
+ */
 void
 input_received(enum port port, uint8_t byte)
 {
   struct input *input = &inputs[port];
   if(port == RECORD) {
+    return;
+  }
+  if(port == RADIO && input->ring.room == 0) {
+    input->has_gap = byte != SLIP_END;
+    count_up(&input->lost);
     return;
   }
   if(input->has_gap) {
