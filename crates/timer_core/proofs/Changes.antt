@@ -1,5 +1,5 @@
 -- How changes of the table affect the cells and the timer list.
-use Rattle.timer_core.proofs.Words.{◌≡◌, ℕ, ◌<◌, ◌≤◌, true, false, List, [], ◌∷◌, ◌++◌, length, refl, sym, subst, ◌∙◌, ap, arith, set, get_or, Option, Some, None, is_armed, replicate, All, ◌^◌, list_any, length-set, All-set, Timer, Cell, LinkedCell, slot_of, timer_at, led_to, link_of, IsNamed, all_timers, is_timer, Timers, no_timers, armed_with, stop_timer, next_of, flag_of, listed_from, named_cells, AreFlagged, Names, IsTable, timers_of, zero_linked, Follows}
+use Rattle.timer_core.proofs.Words.{◌≡◌, ℕ, ◌<◌, ◌≤◌, Bool, true, false, List, [], ◌∷◌, ◌++◌, length, refl, sym, subst, ◌∙◌, ap, arith, set, get_or, Option, Some, None, is_armed, replicate, All, ◌^◌, list_any, length-set, All-set, Timer, Cell, LinkedCell, slot_of, timer_at, led_to, link_of, IsNamed, all_timers, is_timer, Timers, no_timers, armed_with, stop_timer, next_of, flag_of, listed_from, named_cells, AreFlagged, Names, IsTable, timers_of, zero_linked, Follows}
 use Rattle.timer_core.specs.declared.table.TimerTable.TheInside.{Inside}
 use Rattle.timer_core.proofs.NameLemmas.{slot_at}
 use Rattle.timer_core.proofs.Cells.{cells_set, cells_kept, cells_at_boot}
@@ -14,7 +14,7 @@ pub record StandsFor (table : Inside) (timers : Timers) : Type 0 where
   pub value : timers_of table ≡ timers
 
 abbrev HasStarts : List LinkedCell → Type 0
-HasStarts cells = All (λ linked_cell. linked_cell.cell.start ≤ 2 ^ 63) cells
+HasStarts cells = All (λ linked_cell. linked_cell.start ≤ 2 ^ 63) cells
 
 stands_for : (table : Inside) (timers : Timers) → length table.cells ≡ 192 → HasStarts table.cells → AreFlagged table.cells timers.armed
     → named_cells all_timers table.cells ≡ timers.cells → Relinked table.cells (led_to table.first) timers.armed → StandsFor table timers
@@ -23,9 +23,13 @@ stands_for table timers slots starts flags cells r = grind arith
 pub timers_at_boot : timers_of (record { cells = replicate 192 zero_linked; first = None }) ≡ no_timers
 timers_at_boot = grind (arith, cells_at_boot, listed_from_none)
 
+-- an entry with this cell
+abbrev pub with_links : Cell → Bool → Option ℕ → LinkedCell
+with_links cell is_armed next = record { start = cell.start; interval = cell.interval; is_armed = is_armed; next = next }
+
 module _ (cells : List LinkedCell) where
-  starts_set : (k : ℕ) (x : LinkedCell) → x.cell.start ≤ 2 ^ 63 → HasStarts cells → HasStarts (set cells k x)
-  starts_set k x h starts = All-set (λ linked_cell. linked_cell.cell.start ≤ 2 ^ 63) cells k x h starts
+  starts_set : (k : ℕ) (x : LinkedCell) → x.start ≤ 2 ^ 63 → HasStarts cells → HasStarts (set cells k x)
+  starts_set k x h starts = All-set (λ linked_cell. linked_cell.start ≤ 2 ^ 63) cells k x h starts
 
   -- the slot's cell, marked as off the list
   abbrev pub unflagged : ℕ → LinkedCell
@@ -38,7 +42,7 @@ module _ (cells : List LinkedCell) where
   link_at k = (get_or cells k zero_linked).next
 
   start_at : (t : Timer) → slot_of t < length cells → HasStarts cells
-      → (get_or cells (slot_of t) zero_linked).cell.start ≤ 2 ^ 63
+      → (get_or cells (slot_of t) zero_linked).start ≤ 2 ^ 63
   start_at t within starts = grind arith
 
 -- the table after its head, in slot k, was removed from the list
@@ -97,13 +101,13 @@ module _ (table : Inside) where
           list_any (is_timer t) (listed_from table.cells (led_to table.first)) ≡ true →
           StandsFor
           (record {
-            cells = set table.cells (slot_of t) (record { cell = cell; is_armed = flag_of table.cells t; next = link_of table.cells t });
+            cells = set table.cells (slot_of t) (with_links cell (flag_of table.cells t) (link_of table.cells t));
             first = table.first;
           })
           (armed_with t cell (timers_of table))
       cell_changed h named start e =
           let within : slot_of t < length table.cells = grind arith in
-          let x : LinkedCell = record { cell = cell; is_armed = flag_of table.cells t; next = link_of table.cells t } in
+          let x : LinkedCell = with_links cell (flag_of table.cells t) (link_of table.cells t) in
           rw e (stands_for _ _ (length-set table.cells (slot_of t) x ∙ h.slots) (starts_set table.cells (slot_of t) x start h.starts)
           (flags_kept table.cells t x _ named within h.flags refl) (cells_set table.cells t x named)
           (relinked_kept table.cells (led_to table.first) t x within refl h.listed))
@@ -112,14 +116,14 @@ module _ (table : Inside) where
       pub head_added : IsTable table → IsNamed t → cell.start ≤ 2 ^ 63 →
           list_any (is_timer t) (listed_from table.cells (led_to table.first)) ≡ false →
           StandsFor (record {
-            cells = set table.cells (slot_of t) (record { cell = cell; is_armed = true; next = table.first });
+            cells = set table.cells (slot_of t) (with_links cell true table.first);
             first =
                 Some (slot_of t);
           })
           (armed_with t cell (timers_of table))
       head_added h named start e =
           let within : slot_of t < length table.cells = grind arith in
-          let x : LinkedCell = record { cell = cell; is_armed = true; next = table.first } in
+          let x : LinkedCell = with_links cell true table.first in
           rw e (stands_for _ _ (length-set table.cells (slot_of t) x ∙ h.slots) (starts_set table.cells (slot_of t) x start h.starts)
           (flags_added table.cells t x _ named within h.flags refl) (cells_set table.cells t x named)
           (subst (λ link. Relinked (set table.cells (slot_of t) x) link (t ∷ listed_from table.cells (led_to table.first)))

@@ -51,7 +51,7 @@ table_at_boot =
       slots = refl;
       listed = grind arith;
       flags = λ t h. ap (λ (c : LinkedCell). c.is_armed) (get_or-replicate 192 (slot_of t) zero_linked zero_linked (slot_below t h));
-      starts = All-replicate (λ linked_cell. linked_cell.cell.start ≤ 2 ^ 63) 192 zero_linked (lit≤ tt);
+      starts = All-replicate (λ linked_cell. linked_cell.start ≤ 2 ^ 63) 192 zero_linked (lit≤ tt);
     }
 
 module _ (cells : List LinkedCell) where

@@ -9,6 +9,7 @@ unfoldable pub use Rattle.std.specs.List.{IsDistinct}
 pub use Rattle.std.specs.Prelude.{All, None, Option, Some, filter, find, map, replicate, ◌^◌}
 pub use Rattle.mote_types.specs.declared.event.Pid.{Pid}
 pub use Rattle.timer_core.specs.Code.Armings.{Armings, callback_slot, is_present_arming, no_armings, present_arming, renumbered}
+pub use Rattle.timer_core.specs.Code.LinkedCells.{cell_in}
 pub use Rattle.timer_core.specs.Code.Links.{AreApart, AreFlagged, IsList, IsTable, Names, cell_under, flag_of, led_to, link_of, linked, named_cells, next_of, timers_of, zero_linked}
 unfoldable pub use Rattle.timer_core.specs.Code.Links.{listed_from}
 pub use Rattle.timer_core.specs.Code.Neighbours.{EndsWith, Follows}

@@ -3,6 +3,7 @@ pub mod Armings
 pub mod Conditions
 pub mod DueTimers
 pub mod Earliest
+pub mod LinkedCells
 pub mod Links
 pub mod Neighbours
 pub mod Numbered

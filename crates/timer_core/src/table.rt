@@ -1,12 +1,13 @@
 //! All cells in one table. Those of the armed timers are linked, which makes the timer list.
 
 ghost use Rattle.std.specs.Prelude.{◌≡◌, ◌≤◌, ◌^◌, true};
+ghost use Rattle.timer_core.specs.Code.LinkedCells.{cell_in};
 ghost use Rattle.timer_core.specs.Code.Neighbours.{Follows};
 ghost use Rattle.timer_core.specs.Code.Outlooks.{IsOutlook, IsPassed};
 ghost use Rattle.timer_core.specs.Code.Slots.{timer_at};
 ghost use Rattle.timer_core.specs.Code.Conditions.{IsNamed};
 ghost use Rattle.timer_core.specs.Deadlines.{earlier_of, next_deadline};
-ghost use Rattle.timer_core.specs.Timers.{no_timers, cell_of, is_armed, armed_with, stop_timer, without_event_timers, without_callback_timers};
+ghost use Rattle.timer_core.specs.Timers.{no_timers, cell_of, deadline, is_armed, armed_with, stop_timer, without_event_timers, without_callback_timers};
 
 use crate::timer::{Cell, Timer};
 use mote_types::event::Pid;
@@ -16,22 +17,43 @@ use std::marker::Model;
 const TIMERS: usize = 192;
 
 /// A cell, whether its timer is on the timer list, and if so the slot of the next timer.
+///
+/// The cell's fields, and no `Cell`: they and the others take 16 bytes, where a `Cell` takes 16 alone.
 #[derive(Clone, Copy, Drop)]
 pub(crate) struct LinkedCell {
-    cell: Cell,
+    start: u64,
+    interval: u32,
     is_armed: bool,
     next: Option<u8>,
 }
 
 /// As at boot.
 const ZERO: LinkedCell = LinkedCell {
-    cell: Cell {
-        start: 0,
-        interval: 0,
-    },
+    start: 0,
+    interval: 0,
     is_armed: false,
     next: None,
 };
+
+impl LinkedCell {
+    /// The cell.
+    fn cell(self) -> Cell
+        ensures { result ≡ cell_in self }
+    {
+        Cell {
+            start: self.start,
+            interval: self.interval,
+        }
+    }
+
+    /// When the timer runs out, in ticks since boot.
+    fn deadline(self) -> u64
+        requires { self.start ≤ 2 ^ 63 }
+        ensures { result ≡ deadline (cell_in self) }
+    {
+        self.cell().deadline()
+    }
+}
 
 /// The earlier of two moments, where there is a second one.
 fn sooner(moment: u64, other: Option<u64>) -> u64
@@ -103,7 +125,7 @@ impl TimerTable {
         ensures value { result ≡ cell_of timer self.now }
         ensures start { result.start ≤ 2 ^ 63 }
     {
-        self.cells[timer.slot()].cell
+        self.cells[timer.slot()].cell()
     }
 
     /// Whether the timer is on the list.
@@ -123,10 +145,15 @@ impl TimerTable {
     {
         let slot = timer.slot();
         if self.is_armed(timer) {
-            self.cells[slot].cell = cell;
+            self.cells[slot] = LinkedCell {
+                start: cell.start,
+                interval: cell.interval,
+                ..self.cells[slot]
+            };
         } else {
             self.cells[slot] = LinkedCell {
-                cell,
+                start: cell.start,
+                interval: cell.interval,
                 is_armed: true,
                 next: self.first,
             };
@@ -194,7 +221,7 @@ impl TimerTable {
             None => self.first,
         };
         while let Some(slot) = link {
-            let deadline = self.cells[slot as usize].cell.deadline();
+            let deadline = self.cells[slot as usize].deadline();
             if deadline <= clock {
                 return Outlook::Due { slot, passed };
             }
@@ -215,7 +242,7 @@ impl TimerTable {
         let mut link = self.first;
         while let Some(slot) = link {
             let linked = self.cells[slot as usize];
-            earliest = Some(sooner(linked.cell.deadline(), earliest));
+            earliest = Some(sooner(linked.deadline(), earliest));
             link = linked.next;
         }
         earliest

@@ -8,11 +8,12 @@ use Rattle.timer_core.specs.declared.table.LinkedCell.{LinkedCell}
 use Rattle.timer_core.specs.declared.table.TimerTable.TheInside.{Inside}
 use Rattle.timer_core.specs.Names.{all_timers, is_timer}
 use Rattle.timer_core.specs.Code.Conditions.{IsNamed}
+use Rattle.timer_core.specs.Code.LinkedCells.{cell_in}
 use Rattle.timer_core.specs.Code.Slots.{slot_of, timer_at}
 use Rattle.timer_core.specs.Timers.{NamedCell, Timers, zero_cell}
 
 abbrev pub zero_linked : LinkedCell
-zero_linked = record { cell = zero_cell; is_armed = false; next = None }
+zero_linked = record { start = 0; interval = 0; is_armed = false; next = None }
 
 -- the timer that a link leads to
 abbrev pub led_to : Option ℕ → Option Timer
@@ -63,7 +64,7 @@ pub record IsTable (table : Inside) : Type 0 where
   pub slots : length table.cells ≡ 192
   pub listed : IsList table.cells (led_to table.first)
   pub flags : AreFlagged table.cells (listed_from table.cells (led_to table.first))
-  pub starts : All (λ linked_cell. linked_cell.cell.start ≤ 2 ^ 63) table.cells
+  pub starts : All (λ linked_cell. linked_cell.start ≤ 2 ^ 63) table.cells
 
 -- the cell of a timer among these
 abbrev pub cell_under : Timer → List NamedCell → Cell
@@ -73,7 +74,7 @@ cell_under timer cells = option_map_or (λ named. named.cell) (find (λ named. i
 abbrev pub named_cells : List Timer → List LinkedCell → List NamedCell
 named_cells [] cells = []
 named_cells (timer ∷ names) [] = []
-named_cells (timer ∷ names) (linked_cell ∷ cells) = record { timer = timer; cell = linked_cell.cell } ∷ named_cells names cells
+named_cells (timer ∷ names) (linked_cell ∷ cells) = record { timer = timer; cell = cell_in linked_cell } ∷ named_cells names cells
 
 abbrev pub timers_of : Inside → Timers
 timers_of table = record { cells = named_cells all_timers table.cells; armed = listed_from table.cells (led_to table.first) }
