@@ -1,5 +1,5 @@
 -- Re-exports the names and lemmas that the proofs here cite. Declares nothing.
-pub use Rattle.mmem_core.proofs.Words.{HandleTable, IsLaidOut, LieApart, List, ManagedStore, None, Option, Place, Some, Span, ap, arith, contents, get_or, get_or-set_same, last_end, length, length-map, length-replicate, min, number_of, place_in, refl, region_of, replicate, room_of, rules, sum_by-replicate, sum_by-set, inl, slice_range, slice_set, store_of, subst, sym, unused, up4, written, zeros, ℕ, ◌*◌, ◌+◌, ◌-◌, ◌<◌, ◌^◌, ◌∙◌, ◌≡◌, ◌≤◌}
+pub use Rattle.mmem_core.proofs.Words.{HandleTable, IsLaidOut, LieApart, List, ManagedStore, None, Option, Place, Some, Span, ap, arith, contents, get_or, get_or-map, get_or-set_same, get_or_past, last_end, length, length-map, length-replicate, map-set, min, number_of, place_in, refl, region_of, replicate, room_of, rules, sum_by-replicate, sum_by-set, inl, slice_range, slice_set, store_of, subst, sym, unused, up4, written, zeros, ℕ, ◌*◌, ◌+◌, ◌-◌, ◌<◌, ◌^◌, ◌∙◌, ◌≡◌, ◌≤◌}
 pub use Rattle.mmem_core.proofs.Apart.{blocks_apart}
 pub use Rattle.mmem_core.proofs.PlaceLemmas.{LieApart-added, LieApart-freed, LieApart-none, begins_behind, bytes_moved-freed, bytes_moved-same, bytes_moved-set, last_end-added, last_le, len_le_room, live_from_room, placed}
 pub use Rattle.mmem_core.proofs.RingLemmas.{ends, higher_below, last_below, last_is, shown, hidden, linked_appended, linked_removed, lower_below, next_below, no_links}

@@ -6,3 +6,4 @@ pub mod Ring
 pub mod Room
 pub mod Separation
 pub mod Shares
+pub mod StoredPlaces

@@ -9,6 +9,7 @@
 mod mmem;
 mod order;
 mod place;
+mod place_table;
 mod quotas;
 
 pub use mmem::Mmem;

@@ -10,9 +10,10 @@ ghost use Rattle.mmem_core.specs.Code.Conditions.{IsManagedSize, length_of};
 
 use crate::order::Order;
 use crate::place::Place;
+use crate::place_table::PlaceTable;
 use crate::quotas::Quotas;
 use arena_core::{Arena, Span};
-use mote_types::block_name::{Key, NAMES, number_of};
+use mote_types::block_name::{Key, number_of};
 use mote_types::event::Pid;
 use mote_types::refusal::Refusal;
 use mote_types::rounding::rounded;
@@ -37,7 +38,7 @@ fn process_index(pid: Pid) -> usize
 #[derive(Drop)]
 pub struct Mmem {
     span: Span,
-    places: [Option<Place>; NAMES],
+    places: PlaceTable,
     order: Order,
     quotas: Quotas,
     used: u32,
@@ -91,7 +92,7 @@ impl Mmem {
                 each: quota,
                 owners,
             },
-            places: [None; NAMES],
+            places: PlaceTable::new(),
             order: Order::new(),
             used: 0,
             taken: [0; PROCESSES],
@@ -140,7 +141,7 @@ impl Mmem {
     {
         match self.order.last() {
             Some(number) => {
-                let place = self.places[number].unwrap();
+                let place = self.places.block(number);
                 place.at + rounded(place.len) as u32
             }
             None => 0,
@@ -175,9 +176,9 @@ impl Mmem {
         let mut end = 0;
         let mut next = self.order.first();
         while let Some(number) = next {
-            let place = self.places[number].unwrap();
+            let place = self.places.block(number);
             let moved = place.slide_down(arena, self.span, end);
-            self.places[number] = Some(place.moved_to(end));
+            self.places.put(number, place.moved_to(end));
             self.slid = self.slid.saturating_add(moved);
             end += rounded(place.len) as u32;
             next = self.order.next(number);
@@ -204,7 +205,7 @@ impl Mmem {
             },
             0,
         );
-        self.places[number] = Some(Place { at, len: n });
+        self.places.put(number, Place { at, len: n });
         self.order.append(number);
         self.used += rounded(n) as u32;
         self.taken[process_index(key.0)] += rounded(n) as u32;
@@ -222,9 +223,9 @@ impl Mmem {
     {
         let _ = arena;
         let number = number_of(key);
-        let place = self.places[number].unwrap();
+        let place = self.places.block(number);
         self.order.remove(number);
-        self.places[number] = None;
+        self.places.clear(number);
         self.used -= rounded(place.len) as u32;
         self.taken[process_index(key.0)] -= rounded(place.len) as u32;
     }
@@ -236,7 +237,7 @@ impl Mmem {
         requires live { IsSome (block_of key.0.0 key.1 (store_of self.now arena.now.bytes)) }
         ensures { block_of key.0.0 key.1 (store_of self.now arena.now.bytes) ≡ Some result.now }
     {
-        let place = self.places[number_of(key)].unwrap();
+        let place = self.places.block(number_of(key));
         arena.bytes(Span {
             at: self.span.at + place.at,
             len: place.len,
@@ -252,7 +253,7 @@ impl Mmem {
         ensures block { store_of self.now arena.new.bytes ≡ with_bytes key.0.0 key.1 at bytes.now (store_of self.now arena.old.bytes) }
         ensures rest { KeepsToSpan self.now self.now arena.old arena.new }
     {
-        let place = self.places[number_of(key)].unwrap();
+        let place = self.places.block(number_of(key));
         let target = arena.bytes_mut(Span {
             at: self.span.at + place.at + at,
             len: bytes.len() as u32,
@@ -274,8 +275,8 @@ impl Mmem {
         let source = number_of(source);
         let target = number_of(target);
         if source != target {
-            let from = self.places[source].unwrap();
-            let to = self.places[target].unwrap();
+            let from = self.places.block(source);
+            let to = self.places.block(target);
             arena.copy(self.span.at + from.at, self.span.at + to.at, from.len);
         }
     }
@@ -311,7 +312,7 @@ impl Mmem {
         requires { IsName key.0.0 key.1 }
         ensures { (bytes : List ℕ) → IsWithin self.now bytes → result ≡ length_of key.0.0 key.1 (store_of self.now bytes) }
     {
-        self.places[number_of(key)].map(|place| place.len)
+        self.places.get(number_of(key)).map(|place| place.len)
     }
 
     /// No two live blocks share a byte of the arena, and each one's bytes are read from the part that it takes.

@@ -1,4 +1,4 @@
-use Rattle.mmem_core.proofs.Lemmas.{length-map, length, get_or, rules, ◌≡◌, ◌<◌, None, sym, ap, ◌∙◌, arith, number_of, ManagedStore, unused, place_in, last_end, HandleTable, store_of, region_of, begins_behind, bytes_moved-set, bytes_moved-same, placed, no_place, get_or-blocks, block_in, unused-added}
+use Rattle.mmem_core.proofs.Lemmas.{length-map, length, get_or, rules, ◌≡◌, ◌<◌, None, sym, ap, ◌∙◌, arith, number_of, ManagedStore, unused, place_in, last_end, HandleTable, store_of, region_of, begins_behind, bytes_moved-set, bytes_moved-same, placed, shown, no_place, get_or-blocks, block_in, unused-added}
 use Rattle.mmem_core.proofs.mmem.Mmem.alloc.Goals as goal
 
 pub returns-then-avail-size-clause-refused : goal.returns-then-avail-size-clause-refused
@@ -22,7 +22,7 @@ returns c =
     let none = no_place (region_of old bytes) (place_in old.places i)
     (sym (get_or-blocks (region_of old bytes) old.places i) ∙ c.requires.unused) in
     let n = c.args.n in let store = store_of middle c.make_room.new.arena.bytes in
-    let names = ap (λ (t : HandleTable). length t.places) c.self.view_is in
+    let names = ap (λ (t : HandleTable). length t.places) c.self.view_is in let count = (shown c.self.invariant.0).names in
     let below : i < length (store_of old bytes).blocks =
     grind (arith, length-map, block_in) in
     let below' : i < length store.blocks = grind arith in

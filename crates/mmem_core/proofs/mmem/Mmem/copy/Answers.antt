@@ -4,8 +4,8 @@ use Rattle.mmem_core.proofs.mmem.Mmem.copy.Goals as goal
 pub returns-then-source-target : goal.returns-then-source-target
 returns-then-source-target c =
     let lie = seen_apart c.self.view_is c.self.invariant.1 in
-    let t = c.args.self.now in let bytes = c.args.arena.now.bytes in let from = c.unwrap-from.result in
-    let to = c.unwrap-to.result in let i = number_of c.args.source.0.0 c.args.source.1 in let j =
+    let t = c.args.self.now in let bytes = c.args.arena.now.bytes in let from = c.block-from.result in
+    let to = c.block-to.result in let i = number_of c.args.source.0.0 c.args.source.1 in let j =
     number_of c.args.target.0.0 c.args.target.1 in
     let live : place_in t.places i ≡ Some from = grind arith in
     let live' : place_in t.places j ≡ Some to = grind arith in

@@ -4,8 +4,8 @@ use Rattle.mmem_core.proofs.mmem.Mmem.end.Goals as goal
 pub last-requires : goal.last-requires
 last-requires c = last_below (shown c.self.invariant.0)
 
-pub unwrap-place-requires : goal.unwrap-place-requires
-unwrap-place-requires c = grind (arith, (shown c.self.invariant.0).last 272 (inl refl))
+pub block-place-requires-clause-live : goal.block-place-requires-clause-live
+block-place-requires-clause-live c = grind (arith, (shown c.self.invariant.0).last 272 (inl refl))
 
 pub overflow_add-result : goal.overflow_add-result
 overflow_add-result c = grind arith

@@ -3,15 +3,15 @@ use Rattle.mmem_core.proofs.mmem.Mmem.free.Goals as goal
 
 pub invariant_of-self : goal.invariant_of-self
 invariant_of-self c =
-    let m = c.self.inside in let number = c.number_of-number.result in let place = c.unwrap-place.result in
-    let named : number < length m.places = omega arith in
+    let m = c.self.inside in let number = c.number_of-number.result in let place = c.block-place.result in
+    let named : number < length m.places = omega (arith, (shown c.self.invariant.0).names) in
     let laid_out : IsLaidOut (slice_set m.places number None) c.remove.new.self (m.used - c.rounded.result) m.span.len = record {
       linked = rw c.remove.ensures (hidden (linked_removed (shown c.self.invariant.0) c.self.invariant.1 number
           (c.self.invariant.1.no_empty number (λ none. absurd (cc)))));
       total = grind (arith, sum_by-set);
       fits = omega (arith, c.self.invariant.0.fits);
     } in
-    let p = c.args.key.0.0 in let h = c.args.key.1 in (
+    let p = c.args.key.0.0 in let h = c.args.key.1 in rw c.clear.ensures (
       laid_out,
       LieApart-freed m.places m.span.len number named c.self.invariant.1,
       c.self.invariant.2,
@@ -23,6 +23,7 @@ invariant_of-self c =
 
 pub returns : goal.returns
 returns c =
+    let names = (shown c.self.invariant.0).names in
     record {
       block = grind (
         arith,
@@ -36,7 +37,7 @@ returns c =
     }
 
 pub overflow_sub-self-2 : goal.overflow_sub-self-2
-overflow_sub-self-2 c = grind (arith, room_le_taken)
+overflow_sub-self-2 c = grind (arith, room_le_taken, (shown c.self.invariant.0).names)
 
 pub remove-requires : goal.remove-requires
 remove-requires c =

@@ -12,7 +12,7 @@ invariant_of-self c =
     let unused = unused_place t lie bytes c.requires.within (number_of p h) c.requires.fresh in
     let none : place_in m.places number ≡ None = grind arith in
     let none' : place_in m.places (number_of p h) ≡ None = grind arith in
-    let below : number < length m.places = omega (arith, c.number_of-number.ensures.within) in
+    let below : number < length m.places = omega (arith, c.number_of-number.ensures.within, (shown c.self.invariant.0).names) in
     let room : last_end m.places + up4 n ≤ m.span.len = grind arith in
     let at : c.end-at.result ≡ last_end m.places = grind arith in
     let fresh = placed c.end-at.result n in let places = slice_set m.places number fresh in
@@ -24,7 +24,7 @@ invariant_of-self c =
       fits = grind arith;
     } in
     let apart : LieApart places m.span.len =
-    rw at (LieApart-added m.places number n below m.span.len c.self.invariant.1 c.requires.some_bytes room) in (
+    rw at (LieApart-added m.places number n below m.span.len c.self.invariant.1 c.requires.some_bytes room) in rw c.put.ensures (
       laid_out,
       apart,
       c.self.invariant.2,
@@ -46,7 +46,7 @@ pub returns : goal.returns
 returns c =
     let lie = seen_apart c.self.view_is c.self.invariant.1 in
     let m = c.self.inside in let t = c.args.self.now in let number = c.number_of-number.result in
-    let n = c.args.n in
+    let n = c.args.n in let names = (shown c.self.invariant.0).names in
     let is = added t lie c.args.arena.now.bytes c.requires.within t.slid number n (omega arith) in
     record {
       block = grind arith;

@@ -4,7 +4,7 @@ use Rattle.mmem_core.proofs.mmem.Mmem.write.Goals as goal
 pub returns : goal.returns
 returns c =
     let lie = seen_apart c.self.view_is c.self.invariant.1 in
-    let t = c.args.self.now in let bytes = c.args.arena.now.bytes in let place = c.unwrap-place.result in
+    let t = c.args.self.now in let bytes = c.args.arena.now.bytes in let place = c.block-place.result in
     let i = number_of c.args.key.0.0 c.args.key.1 in
     let live : place_in t.places i ≡ Some place = grind arith in
     let block = block_is t lie bytes c.requires.within i place live in
