@@ -15,7 +15,7 @@ import pytest
 from retarget.clears import with_clears_sunk
 from retarget.compiler import clang, text_of
 from retarget.forms import DATA_LAYOUT
-from retarget.hints import without_hints
+from retarget.hints import with_inlining
 from retarget.layout import alignment_at, offsets
 from retarget.module import retargeted
 from retarget.refusal import Refused
@@ -319,9 +319,9 @@ attributes #2 = { nounwind noinline }
 """
 
 
-def test_hints_are_taken_out() -> None:
+def test_hints_are_turned_around() -> None:
     """Of the functions that are named, and of no other one."""
-    assert without_hints(HINTED, ["a::b", "a::d", "a::e"]) == HINTED.replace('a::b"(ptr noundef %a0) unnamed_addr #1', 'a::b"(ptr noundef '
+    assert with_inlining(HINTED, ["a::b", "a::d", "a::e"]) == HINTED.replace('a::b"(ptr noundef %a0) unnamed_addr #1', 'a::b"(ptr noundef '
                                                                              '%a0) unnamed_addr #3').replace("() #2", "() #4") \
-        + "attributes #3 = { nounwind }\nattributes #4 = { nounwind }\n"
-    assert without_hints(HINTED.replace("noinline", "cold"), ["a::b"]) == HINTED.replace("noinline", "cold")
+        + "attributes #3 = { alwaysinline nounwind }\nattributes #4 = { nounwind alwaysinline }\n"
+    assert with_inlining(HINTED.replace("noinline", "cold"), ["a::b"]) == HINTED.replace("noinline", "cold")
