@@ -4,6 +4,8 @@
 //! and each byte of a capture, is promised by `pictures`. How a script's links are read, what frames are called, and where a picture
 //! has what, is only tested.
 
+ghost use Rattle.mote_picture.specs.NetworkStatuses.{IsReportedWith};
+
 mod chart;
 mod cursor;
 mod flying;
@@ -80,10 +82,16 @@ fn draw<R: AllocGlobal + io::Input + Print + Eprint>(
 }
 
 /// Reports why nothing is written, and returns the status that the program exits with.
-fn report<R: Print + Eprint>(rt: &R, undrawn: Undrawn) -> u8 {
+fn report<R: Print + Eprint>(rt: &R, undrawn: Undrawn) -> u8
+    ensures { IsReportedWith undrawn result }
+{
     match undrawn {
         Undrawn::Program(failure) => finish(rt, PROGRAM, Err(failure)),
-        undrawn => {
+        Undrawn::BadRange(_, _)
+        | Undrawn::BadScript(_)
+        | Undrawn::NoLine(_)
+        | Undrawn::Quiet
+        | Undrawn::Late => {
             let _ = eprintln!(rt; "{}: {undrawn}", PROGRAM.name);
             undrawn.status()
         }

@@ -1,5 +1,8 @@
 //! Why the program writes nothing.
 
+ghost use Rattle.std.specs.Prelude.{◌≡◌};
+ghost use Rattle.mote_picture.specs.NetworkStatuses.{status_of};
+
 use command_line::Failure;
 use mote_types::fault::BootFault;
 use pictures::network::CaptureFault;
@@ -25,7 +28,9 @@ pub(crate) enum Undrawn {
 
 impl Undrawn {
     /// The status that the program exits with.
-    pub(crate) fn status(&self) -> u8 {
+    pub(crate) fn status(&self) -> u8
+        ensures { result ≡ status_of self.now }
+    {
         match self {
             Undrawn::Program(failure) => failure.status(),
             Undrawn::BadRange(_, _) => 64,
@@ -35,6 +40,10 @@ impl Undrawn {
 }
 
 impl fmt::Display for Undrawn {
+    ghost use Rattle.mote_picture.specs.NetworkStatuses.{text_of};
+
+    ghost output = { text_of };
+
     fn fmt<W: fmt::Write>(&self, f: &mut fmt::Formatter<W>) -> fmt::Result {
         match self {
             Undrawn::Program(failure) => failure.fmt(f),
@@ -52,24 +61,40 @@ impl fmt::Display for Undrawn {
 }
 
 impl From<Failure<'static>> for Undrawn {
+    ghost use Rattle.mote_picture.specs.declared.network.undrawn.Undrawn.TheVariants.{Program};
+
+    ghost from_gives = { λ failure undrawn. undrawn ≡ Program failure };
+
     fn from(failure: Failure<'static>) -> Self {
         Undrawn::Program(failure)
     }
 }
 
 impl From<AllocError> for Undrawn {
+    ghost use Rattle.mote_picture.specs.NetworkStatuses.{out_of_memory};
+
+    ghost from_gives = { λ _ undrawn. undrawn ≡ out_of_memory };
+
     fn from(error: AllocError) -> Self {
         Undrawn::Program(Failure::from(error))
     }
 }
 
 impl<T: Drop> From<AllocFailed<T>> for Undrawn {
+    ghost use Rattle.mote_picture.specs.NetworkStatuses.{out_of_memory};
+
+    ghost from_gives = { λ _ undrawn. undrawn ≡ out_of_memory };
+
     fn from(error: AllocFailed<T>) -> Self {
         Undrawn::Program(Failure::from(error))
     }
 }
 
 impl From<CaptureFault> for Undrawn {
+    ghost use Rattle.mote_picture.specs.NetworkStatuses.{without_capture};
+
+    ghost from_gives = { λ fault undrawn. undrawn ≡ without_capture fault };
+
     fn from(fault: CaptureFault) -> Self {
         match fault {
             CaptureFault::Late => Undrawn::Late,
