@@ -4,6 +4,9 @@
 //! and each byte of a capture, is promised by `pictures`. How a script's links are read, what frames are called, and where a picture
 //! has what, is only tested.
 
+ghost use Rattle.std.specs.Prelude.{◌≡◌, true, false, max, IfOk};
+ghost use Rattle.pictures.specs.Network.Capture.{pcap_of};
+ghost use Rattle.pictures.specs.Svg.Markup.{IsDocument};
 ghost use Rattle.mote_picture.specs.NetworkStatuses.{IsReportedWith};
 
 mod chart;
@@ -56,7 +59,10 @@ fn has_no_clock(alloc: Global, run: &Run<'_>) -> Result<bool, AllocError> {
 }
 
 /// What the words ask for of a run.
-fn written(alloc: Global, run: &Run<'_>, wish: Wish) -> Result<Vec<u8>, Undrawn> {
+fn written(alloc: Global, run: &Run<'_>, wish: Wish) -> Result<Vec<u8>, Undrawn>
+    ensures capture { wish.pcap ≡ true → IfOk result (λ text. text.items ≡ pcap_of (max wish.clock_second 1) run.now.lines.items) }
+    ensures chart { wish.pcap ≡ false → IfOk result (λ text. IsDocument text.items) }
+{
     if has_no_clock(alloc, run)? {
         return Err(Undrawn::Quiet);
     }
