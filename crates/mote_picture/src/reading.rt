@@ -1,6 +1,6 @@
 //! The lines of a transcript.
 
-ghost use Rattle.std.specs.Prelude.{◌≡◌, ◌==◌, All, IfOk, IfErr, IfSome};
+ghost use Rattle.std.specs.Prelude.{◌≡◌, ◌==◌, All, IfOk, IfErr, IfNone, IfSome};
 ghost use Rattle.std.specs.List.{slice_split};
 ghost use Rattle.pictures.specs.Rows.{bytes_of};
 ghost use Rattle.mote_picture.specs.Reading as spec;
@@ -15,8 +15,11 @@ use std::str;
 fn line_of(bytes: &[u8]) -> Option<&str>
     ensures same { IfSome result (λ line. line.now ≡ bytes.now) }
     ensures read { IfSome result (λ line. IsLine line.now) }
+    ensures none { IfNone result (IsLine bytes.now → ⊥) }
 {
-    let text = str::from_utf8(bytes).ok()?;
+    let Ok(text) = str::from_utf8(bytes) else {
+        return None;
+    };
     match read_line(text) {
         Some(_) => Some(text),
         None => None,

@@ -31,7 +31,14 @@ returns-in_default-clause-unread c =
     let size : length (bytes_of c.args.parts.now) ≡ length c.args.parts.now =
     length-map c.args.parts.now (λ (part : Bor (List ℕ)). part.now) in
     let before : c.loop-index.index ≡ c.loop-index.index + 1 - 1 = omega arith in
-    (omega arith, omega (arith, size), subst (λ n. All IsLine (take n (bytes_of c.args.parts.now))) before c.loop-index.invariant.read)
+    let here = text_is c.args.parts.now c.loop-index.index _ refl in
+    let none : IsLine (slice_index_or (bytes_of c.args.parts.now) c.loop-index.index []) → ⊥ =
+    λ line. c.in_default.ensures.none (subst IsLine here line) in (
+      omega arith,
+      omega (arith, size),
+      subst (λ n. All IsLine (take n (bytes_of c.args.parts.now))) before c.loop-index.invariant.read,
+      subst (λ n. IsLine (slice_index_or (bytes_of c.args.parts.now) n []) → ⊥) before none,
+    )
 
 pub returns-clause-read : goal.returns-clause-read
 returns-clause-read c =
