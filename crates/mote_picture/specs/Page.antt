@@ -7,13 +7,13 @@ use Rattle.mote_picture.specs.Data.{IsHarmless, json_string}
 abbrev pub ended_lines : List (Bor (List ℕ)) → List ℕ
 ended_lines lines = flat_map (λ line. line.now ++ codes "\n") lines
 
--- data that begins with a text, by the name of `text`
-abbrev pub begins_with : List ℕ → List ℕ → List ℕ
-begins_with text rest = codes "{\"text\":" ++ json_string text ++ rest
+-- data that begins with a text and a title, by these names
+abbrev pub begins_with : List ℕ → List ℕ → List ℕ → List ℕ
+begins_with text title rest = codes "{\"text\":" ++ json_string text ++ codes ",\"title\":" ++ json_string title ++ rest
 
 -- a page: its front, data without any `<`, and its back; the data begins with the lines from one to another, where the widest range of
--- clocks gives all lines
-pub record IsPage (lines : List (Bor (List ℕ))) (from to : ℕ) (front back page : List ℕ) : Type 0 where
+-- clocks gives all lines, and the title
+pub record IsPage (lines : List (Bor (List ℕ))) (title : List ℕ) (from to : ℕ) (front back page : List ℕ) : Type 0 where
   pub first : ℕ
   pub end : ℕ
   pub order : first ≤ end
@@ -21,5 +21,5 @@ pub record IsPage (lines : List (Bor (List ℕ))) (from to : ℕ) (front back pa
   pub from_start : from ≡ 0 → first ≡ 0
   pub to_end : to ≡ 2 ^ 64 - 1 → end ≡ length lines
   pub rest : List ℕ
-  pub is_harmless : IsHarmless (begins_with (ended_lines (slice_range lines first end)) rest)
-  pub whole : page ≡ front ++ begins_with (ended_lines (slice_range lines first end)) rest ++ back
+  pub is_harmless : IsHarmless (begins_with (ended_lines (slice_range lines first end)) title rest)
+  pub whole : page ≡ front ++ begins_with (ended_lines (slice_range lines first end)) title rest ++ back

@@ -32,13 +32,15 @@ fn ended_lines(alloc: Global, lines: &[&str]) -> Result<String, AllocError>
     Ok(text)
 }
 
-/// Data that begins with a text.
-fn data_of(alloc: Global, text: &str, rest: &Data) -> Result<Data, AllocError>
-    ensures { IfOk result (λ members. members ≡ begins_with text.now rest.now) }
+/// Data that begins with a text and a title.
+fn data_of(alloc: Global, text: &str, title: &str, rest: &Data) -> Result<Data, AllocError>
+    ensures { IfOk result (λ members. members ≡ begins_with text.now title.now rest.now) }
 {
     let mut members = Data::new(alloc);
     members.put("{\"text\":")?;
     members.say(text)?;
+    members.put(",\"title\":")?;
+    members.say(title)?;
     members.append(rest)?;
     Ok(members)
 }
@@ -63,12 +65,12 @@ fn page_between(
     front: &str,
     back: &str,
 ) -> Result<Vec<u8>, AllocError>
-    ensures { IfOk result (λ page. IsPage lines.now named.now.from named.now.to front.now back.now page.items) }
+    ensures { IfOk result (λ page. IsPage lines.now title.now named.now.from named.now.to front.now back.now page.items) }
 {
     let shown = shown_of(lines, named.from, named.to);
     let text = ended_lines(alloc, &lines[shown.first..shown.end])?;
-    let rest = rest_of(alloc, lines, shown, title, named)?;
-    let members = data_of(alloc, text.as_str(), &rest)?;
+    let rest = rest_of(alloc, lines, shown, named)?;
+    let members = data_of(alloc, text.as_str(), title, &rest)?;
     members.is_harmless();
     filled(alloc, front, &members, back)
 }
@@ -95,7 +97,7 @@ pub(crate) fn page_of(
     title: &str,
     named: &Named<'_>,
 ) -> Result<Vec<u8>, AllocError>
-    ensures { IfOk result (λ page. IsPage lines.now named.now.from named.now.to (HEAD.now ++ STYLE.now ++ BODY.now)
+    ensures { IfOk result (λ page. IsPage lines.now title.now named.now.from named.now.to (HEAD.now ++ STYLE.now ++ BODY.now)
         (FOOT.now ++ SCRIPT.now ++ END.now) page.items) }
 {
     let front = joined(alloc, HEAD, STYLE, BODY)?;

@@ -1,5 +1,5 @@
-//! What the data of a page has besides the text of the transcript: names and sizes, the words for each line, and what holds at the lines.
-//! Numbers of lines are those in the whole transcript, from 0 on; where an end never comes it is null.
+//! What the data of a page has besides the text of the transcript and the title: names and sizes, the words for each line, and what
+//! holds at the lines. Numbers of lines are those in the whole transcript, from 0 on; where an end never comes it is null.
 
 use crate::named::Named;
 use crate::page::data::Data;
@@ -209,10 +209,9 @@ impl Lists<'_> {
         &self,
         out: &mut Data,
         lines: &[&str],
-        title: &str,
         named: &Named<'_>,
     ) -> Result<(), AllocError> {
-        push_run(out, lines, self.shown, self.facts, title, named)?;
+        push_run(out, lines, self.shown, self.facts, named)?;
         push_words(self.alloc, out, lines, self.shown, self.marks())?;
         self.push_clocks(out)?;
         self.push_replies(out)?;
@@ -254,11 +253,8 @@ fn push_run(
     lines: &[&str],
     shown: Shown,
     facts: &Facts,
-    title: &str,
     named: &Named<'_>,
 ) -> Result<(), AllocError> {
-    push_name(out, "title")?;
-    out.say(title)?;
     push_texts(out, "names", named.names.as_slice())?;
     push_name(out, "quiet")?;
     out.decide(is_quiet(lines))?;
@@ -301,13 +297,12 @@ fn push_words(
     out.say(words.as_str())
 }
 
-/// Appends all members after the text of the transcript, to the end of the data.
+/// Appends all members after the title, to the end of the data.
 fn push_rest(
     alloc: Global,
     out: &mut Data,
     lines: &[&str],
     shown: Shown,
-    title: &str,
     named: &Named<'_>,
 ) -> Result<(), AllocError> {
     let facts = facts_of(alloc, lines, named.sizes)?;
@@ -316,18 +311,17 @@ fn push_rest(
         shown,
         facts: &facts,
     };
-    lists.push_rest(out, lines, title, named)
+    lists.push_rest(out, lines, named)
 }
 
-/// All members after the text of the transcript, to the end of the data.
+/// All members after the title, to the end of the data.
 pub(crate) fn rest_of(
     alloc: Global,
     lines: &[&str],
     shown: Shown,
-    title: &str,
     named: &Named<'_>,
 ) -> Result<Data, AllocError> {
     let mut rest = Data::new(alloc);
-    push_rest(alloc, &mut rest, lines, shown, title, named)?;
+    push_rest(alloc, &mut rest, lines, shown, named)?;
     Ok(rest)
 }

@@ -9,8 +9,9 @@ returns c =
     let first = c.shown_of-shown.result.first in
     let end = c.shown_of-shown.result.end in
     let text : c.as_str.result.now ≡ ended_lines (slice_range c.args.lines.now first end) = c.as_str.ensures.value ∙ c.in_ok-text.ensures in
-    let members : c.in_ok-members.members ≡ begins_with (ended_lines (slice_range c.args.lines.now first end)) c.in_ok-rest.rest =
-    c.in_ok-members.ensures ∙ ap (λ front. begins_with front c.in_ok-rest.rest) text in
+    let members : c.in_ok-members.members
+    ≡ begins_with (ended_lines (slice_range c.args.lines.now first end)) c.args.title.now c.in_ok-rest.rest =
+    c.in_ok-members.ensures ∙ ap (λ front. begins_with front c.args.title.now c.in_ok-rest.rest) text in
     IfOk-weaker c.filled.result _ _
     (λ page same. record {
       first = first;
