@@ -1,12 +1,12 @@
 -- Examples: strings of data, lines, titles and statuses.
-use Rattle.std.proofs.Common.{◌≡◌, List, ◌∷◌, [], length, true, false, Some, codes, refl, arith}
+use Rattle.std.proofs.Common.{◌≡◌, List, ◌∷◌, [], length, true, false, Some, None, codes, refl, arith}
 use Rattle.clap.specs.Walk.{Row}
 use Rattle.command_line.specs.CommandLine.{names_of}
 use Rattle.command_line.specs.Statuses.{bad_sizes}
 use Rattle.command_line.specs.declared.failure.Failure.{Failure}
 use Rattle.mote_picture.specs.declared.undrawn.Undrawn.{Undrawn}
 use Rattle.mote_picture.specs.Data.{has_no_opening, json_string}
-use Rattle.mote_picture.specs.Named.{MayReport, is_for_networks, title_of}
+use Rattle.mote_picture.specs.Named.{MayReport, clock_written, is_for_networks, title_of}
 use Rattle.mote_picture.specs.Reading.{parts_of}
 use Rattle.mote_picture.specs.Statuses.{status_of, text_of}
 
@@ -52,6 +52,11 @@ ended = refl
 no_lines : (parts_of [] ≡ []) × (parts_of (codes "\n") ≡ [] ∷ [])
 no_lines = (refl, refl)
 
+-- clocks have 64 bits
+clocks : (clock_written (codes "18446744073709551615") ≡ Some 18446744073709551615)
+    × (clock_written (codes "18446744073709551616") ≡ None) × (clock_written (codes "5k") ≡ None)
+clocks = (refl, refl, refl)
+
 title : title_of (codes "mote_picture" ∷ codes "--page" ∷ codes "relay" ∷ []) ≡ codes "mote relay"
 title = refl
 
@@ -66,7 +71,7 @@ module _ (rows : List Row) where
   sixteen is many = omega (arith, is, many)
 
   no_range : MayReport rows (Undrawn.BadRange 5 9) → ⊥
-  no_range back = omega (arith, back)
+  no_range back = omega (arith, back.2)
 
   not_for_the_words : MayReport rows Undrawn.QuietRange → ⊥
   not_for_the_words refused = refused

@@ -1,2 +1,4 @@
 mod Examples
+pub mod Clocks
+pub mod CommandLine
 pub mod Harmless

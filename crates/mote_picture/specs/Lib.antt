@@ -1,3 +1,4 @@
+pub mod CommandLine
 pub mod Data
 pub mod FrameTables
 pub mod Named

@@ -1,12 +1,13 @@
 //! What the arguments name.
 
-ghost use Rattle.std.specs.Prelude.{◌≡◌, ◌≤◌, ◌++◌, true, flat_map, IfOk, IfErr, string_bytes};
+ghost use Rattle.std.specs.Prelude.{◌≡◌, ◌≤◌, ◌++◌, true, false, flat_map, IfOk, IfErr, string_bytes};
 ghost use Rattle.clap.specs.Walk.{rows_of, texts};
 ghost use Rattle.clap.specs.Words.{found_of};
 ghost use Rattle.command_line.specs.CommandLine.{sizes_of};
 ghost use Rattle.node_memory.specs.Sizes.{are_sizes};
+ghost use Rattle.mote_picture.specs.CommandLine.{matches_in};
 ghost use Rattle.mote_picture.specs.Named as spec;
-ghost use Rattle.mote_picture.specs.Named.{IsBackwards, IsFit, IsNamed, IsOfWords, MayReport, title_word};
+ghost use Rattle.mote_picture.specs.Named.{IsBackwards, IsForm, IsNamed, IsOfWords, IsSet, IsUnset, MayReport, title_word};
 
 use crate::options::parse;
 use crate::undrawn::Undrawn;
@@ -60,24 +61,43 @@ fn sizes_for(matches: &ArgMatches<'_>, applications: usize) -> Result<Sizes, Fai
     })
 }
 
+/// Whether a flag is used.
+fn flag_in(matches: &ArgMatches<'_>, flag: &str) -> bool
+    ensures set { IsSet (rows_of (found_of matches.now)) flag.now → result ≡ true }
+    ensures unset { IsUnset (rows_of (found_of matches.now)) flag.now → result ≡ false }
+{
+    matches.get_flag(flag)
+}
+
 /// The form to write. The parser refuses `--page` with `--vcd`.
-fn form_of(matches: &ArgMatches<'_>) -> Form {
-    if matches.get_flag("page") {
+fn form_of(matches: &ArgMatches<'_>) -> Form
+    ensures { IsForm (rows_of (found_of matches.now)) result }
+{
+    if flag_in(matches, "page") {
         Form::Page
-    } else if matches.get_flag("vcd") {
+    } else if flag_in(matches, "vcd") {
         Form::Dump
     } else {
         Form::Picture
     }
 }
 
+/// The clock of an option, otherwise another one. The parser lets no other text through.
+fn clock_in(matches: &ArgMatches<'_>, option: &str, otherwise: u64) -> u64
+    ensures { result ≡ spec.clock_of option.now otherwise (rows_of (found_of matches.now)) }
+{
+    matches.get_one::<u64>(option).unwrap_or(otherwise)
+}
+
 /// The clocks from which and up to which the run is shown.
 fn range_of(matches: &ArgMatches<'_>) -> Result<(u64, u64), Undrawn>
+    ensures from { IfOk result (λ range. range.0 ≡ spec.from_of (rows_of (found_of matches.now))) }
+    ensures to { IfOk result (λ range. range.1 ≡ spec.to_of (rows_of (found_of matches.now))) }
     ensures order { IfOk result (λ range. range.0 ≤ range.1) }
-    ensures refused { IfErr result IsBackwards }
+    ensures refused { IfErr result (IsBackwards (rows_of (found_of matches.now))) }
 {
-    let from = matches.get_one::<u64>("from").unwrap_or(0);
-    let to = matches.get_one::<u64>("to").unwrap_or(u64::MAX);
+    let from = clock_in(matches, "from", 0);
+    let to = clock_in(matches, "to", u64::MAX);
     if from > to {
         return Err(Undrawn::BadRange(from, to));
     }
@@ -99,7 +119,7 @@ fn named_by<'a>(alloc: Global, matches: &ArgMatches<'a>) -> Result<Named<'a>, Un
         from,
         to,
         sizes,
-        unfolded: matches.get_flag("unfolded"),
+        unfolded: flag_in(matches, "unfolded"),
     })
 }
 
@@ -110,8 +130,8 @@ fn named_by<'a>(alloc: Global, matches: &ArgMatches<'a>) -> Result<Named<'a>, Un
 /// What the parser finds in the arguments, then more than sixteen names, then invalid sizes, then a range that ends before it
 /// begins. `Memory` where memory was refused.
 pub fn read_words<'a>(alloc: Global, words: &'a [&'a str]) -> Result<Named<'a>, Undrawn>
-    ensures named { IfOk result IsFit }
-    ensures refused { IfErr result IsOfWords }
+    ensures named { IfOk result (IsNamed (matches_in (texts words.now))) }
+    ensures refused { IfErr result (IsOfWords (matches_in (texts words.now))) }
 {
     let matches = parse(alloc, words)?;
     named_by(alloc, &matches)

@@ -1,5 +1,11 @@
 //! The command line: its options beside those that mote has, and the text of its help.
 
+ghost use Rattle.std.specs.Prelude.{◌≡◌, false, IfErr, IfOk};
+ghost use Rattle.clap.specs.Walk.{texts};
+ghost use Rattle.clap.specs.Words.{app_of, found_of, rows_of, rule_of};
+ghost use Rattle.mote_picture.specs.CommandLine as spec;
+ghost use Rattle.mote_picture.specs.CommandLine.{IsByParser};
+
 use clap::{Arg, ArgMatches, Command, value_parser};
 use command_line::{Failure, Program, flag, names_argument, number_option, with_sizes};
 use std::alloc::{AllocError, Global};
@@ -37,22 +43,41 @@ pub(crate) const PROGRAM: Program = Program {
     after_help: AFTER_HELP,
 };
 
+fn from_option<'a>(alloc: Global) -> Arg<'a>
+    ensures rule { rule_of result ≡ spec.from_option }
+    ensures local { result.global ≡ false }
+{
+    let help = "Shows the run from this clock on";
+    number_option(alloc, "from", value_parser!(u64), help).default_value("0")
+}
+
+fn to_option<'a>(alloc: Global) -> Arg<'a>
+    ensures rule { rule_of result ≡ spec.to_option }
+    ensures local { result.global ≡ false }
+{
+    let help = "Shows the run up to this clock";
+    number_option(alloc, "to", value_parser!(u64), help)
+}
+
 /// The options for the part of the run that is shown.
-fn with_range<'a>(alloc: Global, command: Command<'a>) -> Result<Command<'a>, AllocError> {
-    let from = "Shows the run from this clock on";
-    let to = "Shows the run up to this clock";
-    command
-        .arg(number_option(alloc, "from", value_parser!(u64), from).default_value("0"))?
-        .arg(number_option(alloc, "to", value_parser!(u64), to))
+fn with_range<'a>(alloc: Global, command: Command<'a>) -> Result<Command<'a>, AllocError>
+    ensures { IfOk result (λ ranged. app_of ranged ≡ spec.with_range (app_of command.entry)) }
+{
+    command.arg(from_option(alloc))?.arg(to_option(alloc))
 }
 
 /// The flag for a page, which is no dump.
-fn page_flag<'a>(alloc: Global) -> Result<Arg<'a>, AllocError> {
+fn page_flag<'a>(alloc: Global) -> Result<Arg<'a>, AllocError>
+    ensures rule { IfOk result (λ page. rule_of page ≡ spec.page_flag) }
+    ensures local { IfOk result (λ page. page.global ≡ false) }
+{
     flag(alloc, "page", PAGE).conflicts_with("vcd")
 }
 
 /// The command line as the parser gets it.
-fn command<'a>(alloc: Global, program: Program) -> Result<Command<'a>, AllocError> {
+fn command<'a>(alloc: Global, program: Program) -> Result<Command<'a>, AllocError>
+    ensures { IfOk result (λ command. app_of command ≡ spec.program program.name.now) }
+{
     let command = Command::new(alloc, program.name)
         .version(program.version)
         .about(ABOUT)
@@ -73,7 +98,10 @@ fn command<'a>(alloc: Global, program: Program) -> Result<Command<'a>, AllocErro
 pub(crate) fn parse<'a>(
     alloc: Global,
     words: &'a [&'a str],
-) -> Result<ArgMatches<'a>, Failure<'static>> {
+) -> Result<ArgMatches<'a>, Failure<'static>>
+    ensures matches { IfOk result (λ matches. rows_of (found_of matches) ≡ spec.matches_in (texts words.now)) }
+    ensures refused { IfErr result IsByParser }
+{
     let command = command(alloc, PROGRAM)?;
     Ok(command.try_get_matches_from(words)?)
 }

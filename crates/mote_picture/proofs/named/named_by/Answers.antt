@@ -40,11 +40,16 @@ returns-clause-named c =
     c.unwrap_or-given.ensures in
     let count = as_many c.unwrap_or-given.result.now rows read in
     record {
+      form = c.form_of.ensures;
       names = ap texts c.in_ok-names.ensures.items ∙ read;
       few = subst (λ n. n ≤ 16) count c.in_ok-sizes.ensures.few;
       sizes = c.in_ok-sizes.ensures.sizes;
       allowed = subst (λ n. are_sizes (sizes_of rows) n ≡ true) count c.in_ok-sizes.ensures.allowed;
+      from = c.in_ok-from.ensures.from;
+      to = c.in_ok-from.ensures.to;
       order = c.in_ok-from.ensures.order;
+      unfolded = c.flag_in.ensures.set;
+      folded = c.flag_in.ensures.unset;
     }
 
 pub returns-in_err-sizes-clause-refused : goal.returns-in_err-sizes-clause-refused
