@@ -13,3 +13,4 @@ pub mod Owners
 pub mod PlacedBlocks
 pub mod Places
 pub mod Separation
+pub mod StoredPlaces

@@ -7,9 +7,10 @@ ghost use Rattle.heap_core.specs.Code.Conditions.{IsHeapSize, IsHeaderLength, le
 ghost use Rattle.heap_core.specs.Code.BlockOrder.{LieApart};
 
 use crate::chunk::Place;
+use crate::place_table::PlaceTable;
 use crate::region::Region;
 use arena_core::{Arena, Span};
-use mote_types::block_name::{Key, NAMES, number_of};
+use mote_types::block_name::{Key, number_of};
 use mote_types::reply::HeapStats;
 use std::marker::Model;
 
@@ -49,7 +50,7 @@ impl Heap {
                 span,
                 header,
                 footprint: 0,
-                places: [None; NAMES],
+                places: PlaceTable::new(),
                 newest: None,
                 freed: 0,
                 lowest: None,
@@ -77,7 +78,7 @@ impl Heap {
         let place = self.region.place(arena, n)?;
         let name = number_of(key);
         self.region.put_block(arena, place, name as u32, n, None);
-        self.region.places[name] = Some(place.at);
+        self.region.places.put(name, place.at);
         Some(())
     }
 
@@ -101,7 +102,7 @@ impl Heap {
         let chunk = self.region.live_chunk(arena, name as u32);
         let Some(room) = self.region.room_in_place(arena, chunk, n) else {
             let at = self.region.relocate(arena, chunk, name as u32, n)?;
-            self.region.places[name] = Some(at);
+            self.region.places.put(name, at);
             return Some(());
         };
         self.region.resize(arena, chunk, name as u32, room, n);
@@ -121,7 +122,7 @@ impl Heap {
         let name = number_of(key);
         let chunk = self.region.live_chunk(arena, name as u32);
         self.region.set_aside(arena, chunk);
-        self.region.places[name] = None;
+        self.region.places.clear(name);
     }
 
     /// The bytes of a name's block.

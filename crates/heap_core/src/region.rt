@@ -2,8 +2,8 @@
 
 ghost use Rattle.std.specs.Prelude.{◌≡◌, ◌≤◌, ◌%◌};
 
+use crate::place_table::PlaceTable;
 use arena_core::Span;
-use mote_types::block_name::NAMES;
 
 /// The span of a heap, the length of its headers, how much of it is divided into chunks, and where the chunk of each name's
 /// block begins. All other data is in the headers.
@@ -15,7 +15,7 @@ pub struct Region {
     /// The end of the highest chunk. What is above it is the top gap.
     pub footprint: u32,
     /// For each live name the position of its chunk, by the name's number.
-    pub places: [Option<u32>; NAMES],
+    pub places: PlaceTable,
     /// The chunk that was freed last, of those that are not joined yet. Each is linked to the one freed before it.
     pub newest: Option<u32>,
     /// Their number.

@@ -26,7 +26,7 @@ impl Region {
         requires name { name < 272 }
         ensures { result ≡ find (owned_by name) (chunks_of self.now arena.now.bytes) }
     {
-        let at = self.places[name as usize]?;
+        let at = self.places.get(name as usize)?;
         Some(self.chunk_at(arena, at))
     }
 

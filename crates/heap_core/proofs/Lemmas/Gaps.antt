@@ -249,3 +249,16 @@ elsewhere_placed {heap} {B} has {n} {target} some live e same =
       | inl top ↦ grind arith
       | inr low ↦ grind (arith, around has low.gap.stands)
     ]
+
+-- A chunk has a header, so a new block is below the highest position that 16 bits have.
+module _ {heap : Region} {B : List ℕ} (has : HasChunks heap B) {n : ℕ} (some : 1 ≤ n) where
+  pub low_placed : {target : Place} → place n (store_of heap B) ≡ Some target → target.at < 65535
+  low_placed {target} e = elim (place_cases has some e) [
+    | inl top ↦ omega (arith, top.fits, heap.header_least, heap.small)
+    | inr low ↦ grind (arith, around has low.gap.stands, heap.inside, heap.small)
+  ]
+
+  pub low_moved : (found : Option Place) (at : ℕ) → place n (store_of heap B) ≡ found
+      → option_map (λ (target : Place). target.at) found ≡ Some at → at < 65535
+  low_moved None at e there = absurd (cc)
+  low_moved (Some target) at e there = let same : target.at ≡ at = cc in omega (arith, low_placed e, same)

@@ -1,7 +1,7 @@
 -- Names that the proofs of this crate use: from std, the crates below, and its own specs.
 pub use Rattle.std.proofs.Common.{Bool, List, [], ap, arith, drop, eqb, false, get_or, inl, inr, leb, length, ltb, not, refl, replicate, rules, slice_range, slice_set, subst, suc, sum_by, sym, take, true, zero, ℕ, ◌%◌, ◌*◌, ◌++◌, ◌+◌, ◌-◌, ◌<◌, ◌^◌, ◌∙◌, ◌∷◌, ◌≡◌, ◌≢◌, ◌≤◌, ◌⊎◌}
 pub use Rattle.std.proofs.lemmas.Bool.{cases_Bool, cases_eq, cases_lt, cond-false, cond-true, eq-eqb, false≢true, le-leb, le-ltb, leb-true, lt-leb, lt-ltb, ltb-false, ltb-true, ne_eqb}
-pub use Rattle.std.proofs.lemmas.List.{append-nil, append_assoc, drop-replicate, get_or-set_other, get_or-set_same, length-append, length-map, length-replicate, length-set, map-append, take-append-le, take-replicate, take-take}
+pub use Rattle.std.proofs.lemmas.List.{append-nil, append_assoc, drop-replicate, get_or-map, get_or-set_other, get_or-set_same, length-append, length-map, length-replicate, length-set, map-append, map-set, take-append-le, take-replicate, take-take}
 pub use Rattle.std.proofs.lemmas.List.Elements.{All-nil, filter-append}
 pub use Rattle.std.proofs.lemmas.List.Sums.{sum_by-cons}
 pub use Rattle.std.proofs.lemmas.Nat.{from_le_bytes-to_le_bytes_4, mul-le}

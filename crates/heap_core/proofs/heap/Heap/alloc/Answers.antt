@@ -1,4 +1,4 @@
-use Rattle.heap_core.proofs.Lemmas.{rules, arith, [], ◌≡◌, ℕ, ◌≤◌, sym, ap, ◌∙◌, subst, Option, find, resized, Place, Region, Block, has_name, block_at, with_block, place, heap_of, IsLaidOut, chunks_of, store_of, Some, None, count, put_named, linked_is, joined_is, named_with, count_absent, map_none, placed_more, resized_none}
+use Rattle.heap_core.proofs.Lemmas.{rules, arith, [], ◌≡◌, ℕ, ◌≤◌, sym, ap, ◌∙◌, subst, Option, find, resized, Place, Region, Block, has_name, block_at, with_block, place, heap_of, IsLaidOut, chunks_of, store_of, Some, None, count, put_named, linked_is, joined_is, named_with, count_absent, map_none, placed_more, resized_none, low_placed}
 use Rattle.heap_core.proofs.heap.Heap.alloc.Goals as goal
 use Rattle.heap_core.proofs.heap.Heap.alloc.Goals.{After-join}
 
@@ -19,6 +19,9 @@ returns-in_err-place-clause-refused c =
 pub returns-in_err-place-clause-linked : goal.returns-in_err-place-clause-linked
 returns-in_err-place-clause-linked c = let j = c.join.ensures in
     linked_is c.join.new.self c.join.new.arena.bytes j.joins.chunks j.joins.gaps j.joins.freed j.none
+
+pub put-requires-clause-at : goal.put-requires-clause-at
+put-requires-clause-at c = low_placed c.join.ensures.joins.chunks c.requires.some_bytes (sym c.in_ok-place.ensures)
 
 pub returns : goal.returns
 unfolding chunks_of

@@ -1,4 +1,4 @@
-use Rattle.heap_core.proofs.Lemmas.{refl, arith, length-replicate, chunks_of, none_placed}
+use Rattle.heap_core.proofs.Lemmas.{refl, ap, ◌∙◌, arith, get_or, length, length-replicate, chunks_of, none_placed}
 use Rattle.heap_core.proofs.Lemmas.Names.{nowhere}
 use Rattle.heap_core.proofs.heap.Heap.new.Goals as goal
 
@@ -9,7 +9,10 @@ returns-clause-laid_out c bytes within =
       chunks = grind arith;
       named = λ name. omega arith;
       places =
-          record { entries = length-replicate 272 nowhere; told = λ name less. none_placed 272 name };
+          record {
+            entries = ap length c.new.ensures ∙ length-replicate 272 nowhere;
+            told = λ name less. ap (λ places. get_or places name nowhere) c.new.ensures ∙ none_placed 272 name;
+          };
       gaps =
           grind arith;
       freed = grind arith;

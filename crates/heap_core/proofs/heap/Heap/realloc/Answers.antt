@@ -1,4 +1,4 @@
-use Rattle.heap_core.proofs.Lemmas.{Resizing, moved_elsewhere, elsewhere, arith, rules, ◌≡◌, ℕ, ◌≤◌, List, sym, ap, ◌∙◌, subst, Option, option_map, resized, Chunk, Place, Region, Block, HeapStore, block_at, find_block, with_block, without_block, place, reallocated, heap_of, IsLaidOut, chunks_of, store_of, ArePlaced, at_place, bytes_in_chunk, block_in_chunk, without_place, Some, None, count, without_place_is, plain, none_unnamed, put_named, joined_laid, in_place, moved_nowhere, named_after, placed_there, placed_moved, stored}
+use Rattle.heap_core.proofs.Lemmas.{Resizing, low_moved, refl, moved_elsewhere, elsewhere, arith, rules, ◌≡◌, ℕ, ◌≤◌, List, sym, ap, ◌∙◌, subst, Option, option_map, resized, Chunk, Place, Region, Block, HeapStore, block_at, find_block, with_block, without_block, place, reallocated, heap_of, IsLaidOut, chunks_of, store_of, ArePlaced, at_place, bytes_in_chunk, block_in_chunk, without_place, Some, None, count, without_place_is, plain, none_unnamed, put_named, joined_laid, in_place, moved_nowhere, named_after, placed_there, placed_moved, stored}
 use Rattle.heap_core.proofs.heap.Heap.realloc.Goals as goal
 use Rattle.heap_core.proofs.heap.Heap.realloc.Goals.{After-live_chunk-chunk}
 
@@ -42,6 +42,11 @@ module _ (c : After-live_chunk-chunk) where
   told o is =
       subst (λ (r : Region). after (heap_of r c.args.arena.now.bytes) ≡ o) c.self.view_is
       (ap after (sym c.join.ensures.joins.blocks ∙ all) ∙ is)
+
+pub put-requires-clause-at : goal.put-requires-clause-at
+put-requires-clause-at c =
+    low_moved c.join.ensures.joins.chunks c.requires.some_bytes
+    (place c.args.n (store_of c.join.new.self c.join.new.arena.bytes)) c.in_ok-at.at refl (sym c.in_ok-at.ensures.at)
 
 pub returns-in_default : goal.returns-in_default
 unfolding chunks_of
