@@ -6,7 +6,7 @@ ghost use Rattle.medium_core.specs.Code.Heap.{Pile};
 ghost use Rattle.medium_core.specs.Code.Queue.{HasRoom, InOrder, is_overtaken, last_due};
 ghost use Rattle.medium_core.specs.Flights.{IsSeenAs, first_flight, next_due, with_flight, with_flights};
 
-use crate::flight::Flight;
+use crate::flight::{Flight, copied};
 use crate::flight_heap::FlightHeap;
 use arrayvec::ArrayVec;
 use std::alloc::{AllocError, Global};
@@ -163,8 +163,44 @@ impl Flights {
         self.room - self.overtaking.len() - self.queue.len()
     }
 
+    /// Adds a frame that is on its way, after all that arrive no later.
+    // Mostly at the end of the queue: each function that is passed a whole flight copies it.
+    pub(crate) fn add_frame(
+        &mut self,
+        due: u64,
+        from: usize,
+        position: usize,
+        to: usize,
+        bytes: &ArrayVec<u8, 127>,
+    )
+        requires { length self.old.flights < self.old.room }
+        ensures { self.new ≡ record self.old {
+          flights = with_flight (record { due = due; from = from; position = position; to = to; bytes = bytes.now }) self.old.flights;
+        } }
+    {
+        let bytes = copied(bytes);
+        if last_arrival(&self.queue) <= due {
+            self.queue.push_back_reserved(Flight {
+                due,
+                from,
+                position,
+                to,
+                bytes,
+            });
+        } else {
+            self.add(Flight {
+                due,
+                from,
+                position,
+                to,
+                bytes,
+            });
+        }
+    }
+
     /// Adds one, after all that arrive no later.
-    pub(crate) fn add(&mut self, flight: Flight)
+    #[inline(never)]
+    fn add(&mut self, flight: Flight)
         requires { length self.old.flights < self.old.room }
         ensures { self.new ≡ record self.old { flights = with_flight flight self.old.flights } }
     {

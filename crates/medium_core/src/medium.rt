@@ -9,7 +9,7 @@ ghost use Rattle.medium_core.specs.Flights.{IsSeenAs, next_due, with_flights};
 ghost use Rattle.medium_core.specs.Links.{after_frame, fate, is_link};
 
 use crate::fault::MediumFault;
-use crate::flight::{Flight, copied};
+use crate::flight::Flight;
 use crate::flights::{Arriving, Flights};
 use crate::link::{Fate, Link};
 use arrayvec::ArrayVec;
@@ -60,13 +60,7 @@ fn send_over_one(
     let free = flights.free();
     let due = clock + link.delay as u64;
     if let Fate::Carried = link.fate(free) {
-        flights.add(Flight {
-            due,
-            from,
-            position,
-            to: link.to,
-            bytes: copied(bytes),
-        });
+        flights.add_frame(due, from, position, link.to, bytes);
     }
     *link = link.after(free);
 }
