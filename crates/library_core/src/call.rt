@@ -1,6 +1,6 @@
 //! A call as C passes it.
 
-ghost use Rattle.std.specs.Prelude.{◌≡◌, ◌<◌, ◌≤◌, if◌then◌else◌, nat_le, take, Some, None};
+ghost use Rattle.std.specs.Prelude.{◌≡◌, ◌<◌, ◌≤◌, if◌then◌else◌, nat_le, take, Some, None, IfSome, IfNone};
 ghost use Rattle.library_core.specs.Calls.{byte_at, call_said, chunk_of, number_at, payload_of};
 
 use crate::kind;
@@ -77,156 +77,183 @@ impl PlainCall {
     }
 
     /// A call about processes and events.
-    fn process_call(&self) -> Option<Call>
+    fn process_call(&self, call: &mut Call) -> Option<()>
         requires { (1 ≤ self.now.kind) × (self.now.kind ≤ 8) }
-        ensures { result ≡ call_said self.now }
+        ensures said { IfSome result (λ _. call_said self.now ≡ Some call.new) }
+        ensures none { IfNone result (call_said self.now ≡ None) }
     {
         match self.kind {
-            kind::POST => Some(Call::Post(self.byte(0)?, self.byte(1)?, self.carried()?)),
-            kind::BROADCAST => Some(Call::Broadcast(self.byte(0)?, self.carried()?)),
-            kind::POST_SYNCH => Some(Call::PostSynch(
+            kind::POST => *call = Call::Post(self.byte(0)?, self.byte(1)?, self.carried()?),
+            kind::BROADCAST => *call = Call::Broadcast(self.byte(0)?, self.carried()?),
+            kind::POST_SYNCH => *call = Call::PostSynch(
                 self.byte(0)?,
                 self.byte(1)?,
                 self.carried()?,
-            )),
-            kind::POLL => Some(Call::Poll(self.byte(0)?)),
-            kind::START => Some(Call::Start(self.byte(0)?)),
-            kind::KILL => Some(Call::Kill(self.byte(0)?)),
-            kind::IS_RUNNING => Some(Call::IsRunning(self.byte(0)?)),
-            kind::ALLOC_EVENT => Some(Call::AllocEvent),
-            _ => None,
+            ),
+            kind::POLL => *call = Call::Poll(self.byte(0)?),
+            kind::START => *call = Call::Start(self.byte(0)?),
+            kind::KILL => *call = Call::Kill(self.byte(0)?),
+            kind::IS_RUNNING => *call = Call::IsRunning(self.byte(0)?),
+            kind::ALLOC_EVENT => *call = Call::AllocEvent,
+            _ => return None,
         }
+        Some(())
     }
 
     /// A call about timers and the clock, or one that ends a turn with no service.
-    fn timer_call(&self) -> Option<Call>
+    fn timer_call(&self, call: &mut Call) -> Option<()>
         requires { (9 ≤ self.now.kind) × (self.now.kind ≤ 19) }
-        ensures { result ≡ call_said self.now }
+        ensures said { IfSome result (λ _. call_said self.now ≡ Some call.new) }
+        ensures none { IfNone result (call_said self.now ≡ None) }
     {
         match self.kind {
-            kind::TIMER_SET => Some(Call::TimerSet(self.byte(0)?, self.size(1))),
-            kind::TIMER_STOP => Some(Call::TimerStop(self.byte(0)?)),
-            kind::TIMER_RESET => Some(Call::TimerReset(self.byte(0)?)),
-            kind::TIMER_RESTART => Some(Call::TimerRestart(self.byte(0)?)),
-            kind::TIMER_EXPIRED => Some(Call::TimerExpired(self.byte(0)?)),
-            kind::CALLBACK_SET => Some(Call::CallbackSet(self.byte(0)?, self.size(1))),
-            kind::CALLBACK_STOP => Some(Call::CallbackStop(self.byte(0)?)),
-            kind::CLOCK => Some(Call::Clock),
-            kind::PRINT => Some(Call::Print(self.chunk()?)),
-            kind::WAIT => Some(Call::Wait),
-            kind::EXIT => Some(Call::Exit),
-            _ => None,
+            kind::TIMER_SET => *call = Call::TimerSet(self.byte(0)?, self.size(1)),
+            kind::TIMER_STOP => *call = Call::TimerStop(self.byte(0)?),
+            kind::TIMER_RESET => *call = Call::TimerReset(self.byte(0)?),
+            kind::TIMER_RESTART => *call = Call::TimerRestart(self.byte(0)?),
+            kind::TIMER_EXPIRED => *call = Call::TimerExpired(self.byte(0)?),
+            kind::CALLBACK_SET => *call = Call::CallbackSet(self.byte(0)?, self.size(1)),
+            kind::CALLBACK_STOP => *call = Call::CallbackStop(self.byte(0)?),
+            kind::CLOCK => *call = Call::Clock,
+            kind::PRINT => *call = Call::Print(self.chunk()?),
+            kind::WAIT => *call = Call::Wait,
+            kind::EXIT => *call = Call::Exit,
+            _ => return None,
         }
+        Some(())
     }
 
     /// A call about managed memory.
-    fn mmem_call(&self) -> Option<Call>
+    fn mmem_call(&self, call: &mut Call) -> Option<()>
         requires { (20 ≤ self.now.kind) × (self.now.kind ≤ 25) }
-        ensures { result ≡ call_said self.now }
+        ensures said { IfSome result (λ _. call_said self.now ≡ Some call.new) }
+        ensures none { IfNone result (call_said self.now ≡ None) }
     {
         match self.kind {
-            kind::MMEM_ALLOC => Some(Call::MmemAlloc(self.byte(0)?, self.size(1))),
-            kind::MMEM_FREE => Some(Call::MmemFree(self.byte(0)?)),
-            kind::MMEM_WRITE => Some(Call::MmemWrite(self.byte(0)?, self.size(1), self.chunk()?)),
-            kind::MMEM_READ => Some(Call::MmemRead(self.byte(0)?, self.size(1), self.byte(2)?)),
-            kind::MMEM_COPY => Some(Call::MmemCopy(self.byte(0)?, self.byte(1)?)),
-            kind::MMEM_AVAIL => Some(Call::MmemAvail),
-            _ => None,
+            kind::MMEM_ALLOC => *call = Call::MmemAlloc(self.byte(0)?, self.size(1)),
+            kind::MMEM_FREE => *call = Call::MmemFree(self.byte(0)?),
+            kind::MMEM_WRITE => *call = Call::MmemWrite(self.byte(0)?, self.size(1), self.chunk()?),
+            kind::MMEM_READ => *call = Call::MmemRead(self.byte(0)?, self.size(1), self.byte(2)?),
+            kind::MMEM_COPY => *call = Call::MmemCopy(self.byte(0)?, self.byte(1)?),
+            kind::MMEM_AVAIL => *call = Call::MmemAvail,
+            _ => return None,
         }
+        Some(())
     }
 
     /// A call about heap memory.
-    fn heap_call(&self) -> Option<Call>
+    fn heap_call(&self, call: &mut Call) -> Option<()>
         requires { (26 ≤ self.now.kind) × (self.now.kind ≤ 31) }
-        ensures { result ≡ call_said self.now }
+        ensures said { IfSome result (λ _. call_said self.now ≡ Some call.new) }
+        ensures none { IfNone result (call_said self.now ≡ None) }
     {
         match self.kind {
-            kind::HEAP_ALLOC => Some(Call::HeapAlloc(self.byte(0)?, self.size(1))),
-            kind::HEAP_REALLOC => Some(Call::HeapRealloc(self.byte(0)?, self.size(1))),
-            kind::HEAP_FREE => Some(Call::HeapFree(self.byte(0)?)),
-            kind::HEAP_WRITE => Some(Call::HeapWrite(self.byte(0)?, self.size(1), self.chunk()?)),
-            kind::HEAP_READ => Some(Call::HeapRead(self.byte(0)?, self.size(1), self.byte(2)?)),
-            kind::HEAP_STATS => Some(Call::HeapStats),
-            _ => None,
+            kind::HEAP_ALLOC => *call = Call::HeapAlloc(self.byte(0)?, self.size(1)),
+            kind::HEAP_REALLOC => *call = Call::HeapRealloc(self.byte(0)?, self.size(1)),
+            kind::HEAP_FREE => *call = Call::HeapFree(self.byte(0)?),
+            kind::HEAP_WRITE => *call = Call::HeapWrite(self.byte(0)?, self.size(1), self.chunk()?),
+            kind::HEAP_READ => *call = Call::HeapRead(self.byte(0)?, self.size(1), self.byte(2)?),
+            kind::HEAP_STATS => *call = Call::HeapStats,
+            _ => return None,
         }
+        Some(())
     }
 
     /// A call about pools.
-    fn memb_call(&self) -> Option<Call>
+    fn memb_call(&self, call: &mut Call) -> Option<()>
         requires { (32 ≤ self.now.kind) × (self.now.kind ≤ 36) }
-        ensures { result ≡ call_said self.now }
+        ensures said { IfSome result (λ _. call_said self.now ≡ Some call.new) }
+        ensures none { IfNone result (call_said self.now ≡ None) }
     {
         match self.kind {
-            kind::MEMB_ALLOC => Some(Call::MembAlloc(self.byte(0)?)),
-            kind::MEMB_FREE => Some(Call::MembFree(self.byte(0)?, self.byte(1)?)),
-            kind::MEMB_WRITE => Some(Call::MembWrite(
+            kind::MEMB_ALLOC => *call = Call::MembAlloc(self.byte(0)?),
+            kind::MEMB_FREE => *call = Call::MembFree(self.byte(0)?, self.byte(1)?),
+            kind::MEMB_WRITE => *call = Call::MembWrite(
                 self.byte(0)?,
                 self.byte(1)?,
                 self.size(2),
                 self.chunk()?,
-            )),
-            kind::MEMB_READ => Some(Call::MembRead(
+            ),
+            kind::MEMB_READ => *call = Call::MembRead(
                 self.byte(0)?,
                 self.byte(1)?,
                 self.size(2),
                 self.byte(3)?,
-            )),
-            kind::MEMB_NUM_FREE => Some(Call::MembNumFree(self.byte(0)?)),
-            _ => None,
+            ),
+            kind::MEMB_NUM_FREE => *call = Call::MembNumFree(self.byte(0)?),
+            _ => return None,
         }
+        Some(())
     }
 
     /// A call about lists.
-    fn list_call(&self) -> Option<Call>
+    fn list_call(&self, call: &mut Call) -> Option<()>
         requires { (37 ≤ self.now.kind) × (self.now.kind ≤ 45) }
-        ensures { result ≡ call_said self.now }
+        ensures said { IfSome result (λ _. call_said self.now ≡ Some call.new) }
+        ensures none { IfNone result (call_said self.now ≡ None) }
     {
         match self.kind {
-            kind::LIST_ADD => Some(Call::ListAdd(self.byte(0)?, self.byte(1)?)),
-            kind::LIST_PUSH => Some(Call::ListPush(self.byte(0)?, self.byte(1)?)),
-            kind::LIST_INSERT => Some(Call::ListInsert(
+            kind::LIST_ADD => *call = Call::ListAdd(self.byte(0)?, self.byte(1)?),
+            kind::LIST_PUSH => *call = Call::ListPush(self.byte(0)?, self.byte(1)?),
+            kind::LIST_INSERT => *call = Call::ListInsert(
                 self.byte(0)?,
                 self.byte(1)?,
                 self.byte(2)?,
-            )),
-            kind::LIST_POP => Some(Call::ListPop(self.byte(0)?)),
-            kind::LIST_CHOP => Some(Call::ListChop(self.byte(0)?)),
-            kind::LIST_REMOVE => Some(Call::ListRemove(self.byte(0)?, self.byte(1)?)),
-            kind::LIST_HEAD => Some(Call::ListHead(self.byte(0)?)),
-            kind::LIST_NEXT => Some(Call::ListNext(self.byte(0)?, self.byte(1)?)),
-            kind::LIST_LENGTH => Some(Call::ListLength(self.byte(0)?)),
-            _ => None,
+            ),
+            kind::LIST_POP => *call = Call::ListPop(self.byte(0)?),
+            kind::LIST_CHOP => *call = Call::ListChop(self.byte(0)?),
+            kind::LIST_REMOVE => *call = Call::ListRemove(self.byte(0)?, self.byte(1)?),
+            kind::LIST_HEAD => *call = Call::ListHead(self.byte(0)?),
+            kind::LIST_NEXT => *call = Call::ListNext(self.byte(0)?, self.byte(1)?),
+            kind::LIST_LENGTH => *call = Call::ListLength(self.byte(0)?),
+            _ => return None,
         }
+        Some(())
     }
 
     /// A call about packets.
-    fn packet_call(&self) -> Option<Call>
+    fn packet_call(&self, call: &mut Call) -> Option<()>
         requires { (46 ≤ self.now.kind) × (self.now.kind ≤ 50) }
-        ensures { result ≡ call_said self.now }
+        ensures said { IfSome result (λ _. call_said self.now ≡ Some call.new) }
+        ensures none { IfNone result (call_said self.now ≡ None) }
     {
         match self.kind {
-            kind::PACKET_OPEN => Some(Call::PacketOpen),
-            kind::PACKET_READ => Some(Call::PacketRead(self.size(0), self.byte(1)?)),
-            kind::PACKET_DONE => Some(Call::PacketDone),
-            kind::PACKET_COUNT => Some(Call::PacketCount),
-            kind::PACKET_SEND => Some(Call::PacketSend(self.byte(0)?)),
+            kind::PACKET_OPEN => *call = Call::PacketOpen,
+            kind::PACKET_READ => *call = Call::PacketRead(self.size(0), self.byte(1)?),
+            kind::PACKET_DONE => *call = Call::PacketDone,
+            kind::PACKET_COUNT => *call = Call::PacketCount,
+            kind::PACKET_SEND => *call = Call::PacketSend(self.byte(0)?),
+            _ => return None,
+        }
+        Some(())
+    }
+
+    /// Puts the call that this says into the buffer. None where there is no such kind, a number is out of its range, or there are too
+    /// many bytes: then the buffer may have any call.
+    pub fn put(&self, call: &mut Call) -> Option<()>
+        ensures said { IfSome result (λ _. call_said self.now ≡ Some call.new) }
+        ensures none { IfNone result (call_said self.now ≡ None) }
+    {
+        match self.kind {
+            kind::POST..=kind::ALLOC_EVENT => self.process_call(call),
+            kind::TIMER_SET..=kind::EXIT => self.timer_call(call),
+            kind::MMEM_ALLOC..=kind::MMEM_AVAIL => self.mmem_call(call),
+            kind::HEAP_ALLOC..=kind::HEAP_STATS => self.heap_call(call),
+            kind::MEMB_ALLOC..=kind::MEMB_NUM_FREE => self.memb_call(call),
+            kind::LIST_ADD..=kind::LIST_LENGTH => self.list_call(call),
+            kind::PACKET_OPEN..=kind::PACKET_SEND => self.packet_call(call),
             _ => None,
         }
     }
 
-    /// The call that this says. None where there is no such kind, a number is out of its range, or there are too many bytes.
+    /// The call that this says, as `put` puts it.
     pub fn call(&self) -> Option<Call>
         ensures { result ≡ call_said self.now }
     {
-        match self.kind {
-            kind::POST..=kind::ALLOC_EVENT => self.process_call(),
-            kind::TIMER_SET..=kind::EXIT => self.timer_call(),
-            kind::MMEM_ALLOC..=kind::MMEM_AVAIL => self.mmem_call(),
-            kind::HEAP_ALLOC..=kind::HEAP_STATS => self.heap_call(),
-            kind::MEMB_ALLOC..=kind::MEMB_NUM_FREE => self.memb_call(),
-            kind::LIST_ADD..=kind::LIST_LENGTH => self.list_call(),
-            kind::PACKET_OPEN..=kind::PACKET_SEND => self.packet_call(),
-            _ => None,
+        let mut call = Call::Wait;
+        match self.put(&mut call) {
+            Some(()) => Some(call),
+            None => None,
         }
     }
 }

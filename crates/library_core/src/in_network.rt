@@ -23,6 +23,7 @@ use medium_core::link::Link;
 use mote_session::session::Session;
 use mote_session::{BootFault, Config};
 use mote_text::output_buffer::OutputBuffer;
+use mote_types::call::Call;
 use mote_types::entry::Input;
 use mote_types::event::MOST_APPLICATIONS;
 use network_steps::steps::NetworkSteps;
@@ -194,9 +195,10 @@ pub fn submit_call(steps: &mut NetworkSteps, plain: &PlainCall) -> u32
     if steps.turn().is_none() {
         return NO_TURN;
     }
-    let Some(call) = plain.call() else {
+    let mut call = Call::Wait;
+    if plain.put(&mut call).is_none() {
         return NO_CALL;
-    };
+    }
     match steps.submit(call) {
         Ok(()) => DONE,
         Err(fault) => fault_status(fault),

@@ -13,6 +13,7 @@ use crate::status::{DONE, NO_CALL, NO_FRAME, NO_ROOM, NO_TIMER, NO_TURN, refusal
 use crate::turn::PlainTurn;
 use mote_session::session::{Next, Session};
 use mote_text::output_buffer::OutputBuffer;
+use mote_types::call::Call;
 use mote_types::entry::Input;
 
 /// Feeds the input of a line of a script.
@@ -104,9 +105,10 @@ pub fn take_call(session: &mut Session, plain: &PlainCall) -> u32
     if session.turn().is_none() {
         return NO_TURN;
     }
-    let Some(call) = plain.call() else {
+    let mut call = Call::Wait;
+    if plain.put(&mut call).is_none() {
         return NO_CALL;
-    };
+    }
     match session.submit(call) {
         Ok(()) => DONE,
         Err(refusal) => refusal_status(refusal),
