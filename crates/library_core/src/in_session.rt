@@ -10,6 +10,7 @@ ghost use Rattle.library_core.specs.Steps.{GoesNext, HasSent, IsLastLine, TakesC
 use crate::call::PlainCall;
 use crate::open_mote::OpenMote;
 use crate::status::{DONE, NO_CALL, NO_FRAME, NO_ROOM, NO_TIMER, NO_TURN, refusal_status};
+use crate::tick_line::ticks_said;
 use crate::turn::PlainTurn;
 use mote_session::session::{Next, Session};
 use mote_text::output_buffer::OutputBuffer;
@@ -22,7 +23,11 @@ pub fn feed_line(session: &mut Session, line: &[u8]) -> u32
     ensures fed { result ≡ 0 → TakesScriptLine line.now session.old session.new }
     ensures unchanged { result ≢ 0 → session.new ≡ session.old }
 {
-    match session.feed(line) {
+    let fed = match ticks_said(line) {
+        Some(ticks) => session.feed_ticks(ticks),
+        None => session.feed(line),
+    };
+    match fed {
         Ok(()) => DONE,
         Err(refusal) => refusal_status(refusal),
     }

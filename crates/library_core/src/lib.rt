@@ -25,5 +25,6 @@ pub mod refusal;
 pub mod running;
 mod sizes;
 pub mod status;
+mod tick_line;
 pub mod turn;
 mod unboxed;
