@@ -132,8 +132,8 @@ put_bytes(const void *bytes, size_t length)
 }
 
 /* Has the library write the line of the last entry after the transcript so far. It is no part of that until it is kept. Returns its length
- * with its end. */
-static size_t
+ * with its end. Each line needs this and keep_line, and the driver is compiled by -O1, which inlines only what says so. */
+static inline size_t
 take_line(void)
 {
   size_t length;
@@ -169,7 +169,7 @@ move_line(size_t length)
 }
 
 /* Adds that line to the transcript. A handler of signals finds it there whole, or not at all. */
-static void
+static inline void
 keep_line(size_t length)
 {
   if(only_mote != 0 || used + length > ROOM) {
