@@ -3,12 +3,16 @@
 import re
 import shutil
 import sys
+import threading
+import time
+from importlib.machinery import SourceFileLoader
+from importlib.util import module_from_spec, spec_from_loader
 from pathlib import Path
 
 import pytest
 
-from small_tree import Tree
-from tools import needs, succeed
+from small_tree import Tree, wait_until
+from tools import ROOT, needs, succeed
 
 pytestmark = needs("rt")
 BUILT = """import sys
@@ -157,3 +161,30 @@ def test_failure(tree: Tree, edits: str) -> None:
     """What fails isn't taken as proved, and its last line and status are those of `rt ci`."""
     assert prove_all(tree, FAULTS="1", TOARMUTS_EDITS=edits)[-1] == "7 passed, 1 failed" and tree.ran.returncode == 1
     assert not built(tree) and not (tree.crate("mote") / "out/proved").exists() and not (tree.crate("mote") / "out/checked").exists()
+
+
+@pytest.mark.parametrize(("most", "beside"), [(4, 2), (3, 1), (1, 1)])
+def test_checks_at_once(most: int, beside: int) -> None:
+    """Half as many edits as there may be are tried beside `rt ci`, and all after it."""
+    loader = SourceFileLoader("tests_proofs", str(ROOT / "tests/proofs"))
+    spec = spec_from_loader("tests_proofs", loader)
+    assert spec is not None
+    module = module_from_spec(spec)
+    loader.exec_module(module)
+    begun, may_end = [], threading.Event()
+    checks = module.Checks(most)
+
+    def check(number: int) -> int:
+        begun.append(number)
+        assert may_end.wait(60)
+        return number
+
+    wanted = [checks.submit(check, number) for number in range(6)]
+    for number in beside, most:
+        wait_until(lambda: len(begun) >= number)
+        time.sleep(0.2)
+        assert len(begun) == number
+        checks.run_all()
+    may_end.set()
+    assert sorted(it.result(60) for it in wanted) == list(range(6))
+    checks.shutdown()
