@@ -8,9 +8,6 @@ from typing import Iterator, Mapping, Sequence
 
 # A crate whose time isn't known counts as a minute.
 UNKNOWN_SECONDS = 60
-# Of a crate that takes so long, four jobs at once have enough to do: kernel_core takes 118 seconds by four, and 213 by two.
-LONG_SECONDS = 150
-JOBS_OF_LONG = 4
 # A crate's niceness is 1 for each 30 seconds by which its way is shorter than the longest one, at most 10: it still gets a tenth of
 # another one's share of a processor, so it never starves.
 SECONDS_OF_NICENESS = 30
@@ -63,11 +60,10 @@ class Schedule:
 
     def _share(self, name: str) -> Share:
         """A crate on the longest way, or shorter by less than its own time, gets two jobs: each one more reads all libraries once more, and
-        ends a short crate no sooner. A long one on the longest way gets four, since all others wait for it. The others get one. A shorter
-        way means a higher niceness."""
+        ends it no sooner. The others get one. A shorter way means a higher niceness."""
         off = max(self.way[it] for it in self.left) - self.way[name]
-        wanted = 1 if off >= self.seconds[name] else JOBS_OF_LONG if off == 0 and self.seconds[name] >= LONG_SECONDS else 2
-        return Share(name, min(wanted, self.most), min(off // SECONDS_OF_NICENESS, MOST_NICE))
+        jobs = 2 if self.most > 1 and off < self.seconds[name] else 1
+        return Share(name, jobs, min(off // SECONDS_OF_NICENESS, MOST_NICE))
 
     def _has_room(self, share: Share) -> bool:
         """Up to one and a half times the most jobs are started at once. Crates with a shorter way that were ready before don't delay this
