@@ -59,12 +59,26 @@ unsigned refusal_of(const struct toarmuts_turn *answer);
 
 /* Makes a call that has only numbers, for a process. */
 const struct toarmuts_turn *ask_for(struct process *owner, const struct toarmuts_call *call);
-#define ASK_FOR(owner, call_kind, ...) ask_for(owner, &(struct toarmuts_call){.kind = (call_kind), .numbers = {__VA_ARGS__}})
+#define ASK_FOR(owner, call_kind, ...) ask_numbers((owner), (call_kind), (const uint32_t[4]){__VA_ARGS__})
+static inline const struct toarmuts_turn *
+ask_numbers(struct process *owner, uint32_t kind, const uint32_t numbers[4])
+{
+  struct toarmuts_call call;
+  mote_put_numbers(&call, kind, numbers);
+  return ask_for(owner, &call);
+}
 
 /* The same without a reply, also for a process that awaits one. */
 bool awaits_reply(const struct process *p);
 void order(struct process *owner, const struct toarmuts_call *call);
-#define ORDER(owner, call_kind, ...) order(owner, &(struct toarmuts_call){.kind = (call_kind), .numbers = {__VA_ARGS__}})
+#define ORDER(owner, call_kind, ...) order_numbers((owner), (call_kind), (const uint32_t[4]){__VA_ARGS__})
+static inline void
+order_numbers(struct process *owner, uint32_t kind, const uint32_t numbers[4])
+{
+  struct toarmuts_call call;
+  mote_put_numbers(&call, kind, numbers);
+  order(owner, &call);
+}
 
 bool has_late_blocks(void);
 

@@ -29,14 +29,23 @@ open_console(void)
 static char gathered[CHUNK];
 static uint32_t gathered_length;
 
+/* It isn't inlined: mostly there is nothing to print, and no room for a call is needed. */
+static __attribute__((noinline)) void
+print_gathered(void)
+{
+  struct toarmuts_call call;
+  mote_put_numbers(&call, TOARMUTS_CALL_PRINT, (const uint32_t[4]){0});
+  call.length = gathered_length;
+  memcpy(call.bytes, gathered, gathered_length);
+  gathered_length = 0;
+  mote_call(&call);
+}
+
 void
 flush_console(void)
 {
-  struct toarmuts_call call = {.kind = TOARMUTS_CALL_PRINT, .length = gathered_length};
   if(gathered_length > 0) {
-    memcpy(call.bytes, gathered, gathered_length);
-    gathered_length = 0;
-    mote_call(&call);
+    print_gathered();
   }
 }
 

@@ -18,13 +18,22 @@ static bool is_closed;
 static volatile sig_atomic_t is_gathering;
 
 /* Makes a `print` of the buffered bytes. */
-static struct toarmuts_call
-take_gathered(void)
+static void
+take_gathered(struct toarmuts_call *call)
 {
-  struct toarmuts_call call = {.kind = TOARMUTS_CALL_PRINT, .length = gathered_length};
-  memcpy(call.bytes, gathered, gathered_length);
+  mote_put_numbers(call, TOARMUTS_CALL_PRINT, (const uint32_t[4]){0});
+  call->length = gathered_length;
+  memcpy(call->bytes, gathered, gathered_length);
   gathered_length = 0;
-  return call;
+}
+
+/* It isn't inlined: mostly there is nothing to print, and no room for a call is needed. */
+static __attribute__((noinline)) void
+print_gathered(void)
+{
+  struct toarmuts_call call;
+  take_gathered(&call);
+  mote_call(&call);
 }
 
 /* Bytes that stdio buffers, by setvbuf, come first. This is called before each call of the mote; mostly there is nothing to print. */
@@ -35,8 +44,7 @@ flush_console(void)
     fflush(stdout);
   }
   if(gathered_length > 0) {
-    struct toarmuts_call call = take_gathered();
-    mote_call(&call);
+    print_gathered();
   }
 }
 
@@ -45,7 +53,8 @@ void
 keep_console(void)
 {
   if(!is_gathering && gathered_length > 0) {
-    struct toarmuts_call call = take_gathered();
+    struct toarmuts_call call;
+    take_gathered(&call);
     make_last_call(&call);
   }
 }
