@@ -83,7 +83,7 @@ end_activation(const struct activation *present, bool ends)
 {
   static const struct toarmuts_call waits = {.kind = TOARMUTS_CALL_WAIT}, exits = {.kind = TOARMUTS_CALL_EXIT};
   struct process *p = present->process;
-  bool is_last = ends || present->turn.event == PROCESS_EVENT_EXIT, stays;
+  bool is_last = ends || present->turn->event == PROCESS_EVENT_EXIT, stays;
   if(!ends) {
     check_timers(__builtin_frame_address(0));
     check_blocks(p, __builtin_frame_address(0));
@@ -100,7 +100,7 @@ end_activation(const struct activation *present, bool ends)
   }
 }
 
-/* An activation, from what a process receives to its wait or its exit. */
+/* An activation, from what a process receives to its wait or its exit. The turn stays until then. */
 void
 run_activation(const struct toarmuts_turn *turn)
 {
@@ -108,7 +108,7 @@ run_activation(const struct toarmuts_turn *turn)
   struct activation present;
   bool ends;
   present.process = process_of(turn->process);
-  present.turn = *turn;
+  present.turn = turn;
   present.line = shown_lines() + 1;
   present.is_ending = false;
   present.outer = activation;
@@ -165,6 +165,14 @@ stack_check_get_usage(void)
   return deepest_frame == NULL ? 0 : (int32_t)((const char *)stack_begin - deepest_frame);
 }
 
+/* A nested activation. Its turn was put where the reply will be. It isn't inlined: few calls need room for a second turn. */
+static __attribute__((noinline)) void
+run_nested(const struct toarmuts_turn *turn)
+{
+  struct toarmuts_turn kept = *turn;
+  run_activation(&kept);
+}
+
 /* Makes a call, and works on to the turn with its reply. */
 static void
 call_and_wait(const struct toarmuts_call *call, struct toarmuts_turn *answer)
@@ -174,7 +182,7 @@ call_and_wait(const struct toarmuts_call *call, struct toarmuts_turn *answer)
     if(answer->stimulus == TOARMUTS_ANSWER) {
       return;
     }
-    run_activation(answer);
+    run_nested(answer);
   }
   stop("the mote rests where a reply must follow");
 }
@@ -214,7 +222,7 @@ mote_call(const struct toarmuts_call *call)
 const struct toarmuts_turn *
 mote_told(void)
 {
-  return &activation->turn;
+  return activation->turn;
 }
 
 unsigned

@@ -35,7 +35,7 @@ enum {
 /* An activation of a process: from what it receives to its next wait. It is nested in the activations that called it. */
 struct activation {
   struct process *process;
-  struct toarmuts_turn turn;
+  const struct toarmuts_turn *turn;
   uint64_t line;  /* of the transcript, where it began */
   bool is_ending; /* the process exits at its end */
   struct activation *outer;

@@ -328,7 +328,7 @@ static bool
 is_told_exit(const struct process *p)
 {
   const struct activation *open = activation;
-  while(open != NULL && (open->process != p || open->turn.event != PROCESS_EVENT_EXIT)) {
+  while(open != NULL && (open->process != p || open->turn->event != PROCESS_EVENT_EXIT)) {
     open = open->outer;
   }
   return open != NULL;
@@ -428,7 +428,7 @@ activate_staying(const struct toarmuts_turn *turn, struct process *p)
 bool
 activate(struct activation *present)
 {
-  const struct toarmuts_turn *turn = &present->turn;
+  const struct toarmuts_turn *turn = present->turn;
   struct process *p = present->process;
   process_data_t data;
   if(turn->stimulus == TOARMUTS_CALLBACK) {

@@ -51,7 +51,7 @@ forget_receiver(const struct process *p)
 bool
 receive_again(void)
 {
-  const struct toarmuts_turn *turn = &activation->turn;
+  const struct toarmuts_turn *turn = activation->turn;
   if(!had_receiver || turn->event == PROCESS_EVENT_EXIT) {
     return false;
   }

@@ -76,7 +76,7 @@ add_place(struct report *report)
   add_mote(report, ", ");
   add_process_name(report, present->process);
   add_text(report, ", handling ");
-  add_stimulus(report, &present->turn);
+  add_stimulus(report, present->turn);
   add_text(report, " at line ");
   add_number(report, present->line);
   add_text(report, " of the transcript, after ");
