@@ -166,7 +166,7 @@ is_input(const char *line, size_t length)
 static void
 note_line(const char *line, size_t length)
 {
-  if(is_recording() && is_input(line, length)) {
+  if(is_input(line, length)) {
     record_line(line, length);
   }
 }
@@ -186,14 +186,19 @@ run_script(int script)
   const char *line;
   size_t length;
   enum reading reading;
+  const bool has_record = is_recording();
   run_to_rest();
   record_check();
   for(uint64_t number = 1; (reading = read_line(script, &line, &length)) == READ_LINE; number++) {
-    note_line(line, length);
+    if(has_record) {
+      note_line(line, length);
+    }
     switch(feed_line(line, length)) {
     case 0:
       run_to_rest();
-      note_rest(line, length);
+      if(has_record) {
+        note_rest(line, length);
+      }
       break;
     case TOARMUTS_BAD_LINE:
       end_at_bad_line(number, line, length, "tick N, serial HEX and frame HEX");

@@ -28,8 +28,9 @@ is_whole_line(void)
   return had_end;
 }
 
-/* Reads more of the script, after what is left of it; false at its end. The transcript so far is written before it waits for that. */
-static bool
+/* Reads more of the script, after what is left of it; false at its end. The transcript so far is written before it waits for that. It isn't
+ * inlined: otherwise each line would save the registers that this needs. */
+static __attribute__((noinline)) bool
 read_more(int script)
 {
   static bool has_ended;
