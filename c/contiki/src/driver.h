@@ -90,7 +90,7 @@ extern const struct process *last_process;
 bool next_turn(struct toarmuts_turn *turn);
 uint32_t answer_turn(const struct toarmuts_call *call);
 void make_last_call(const struct toarmuts_call *call);
-uint32_t last_line(uint8_t *line, size_t room, size_t *length);
+uint32_t last_line(uint8_t *line, size_t room, uint64_t *length);
 size_t last_sent(uint8_t *bytes, size_t room);
 clock_time_t clock_now(void);
 void close_mote(void);

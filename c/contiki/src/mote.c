@@ -131,12 +131,9 @@ clock_now(void)
 }
 
 uint32_t
-last_line(uint8_t *line, size_t room, size_t *length)
+last_line(uint8_t *line, size_t room, uint64_t *length)
 {
-  uint64_t line_length;
-  uint32_t status = toarmuts_line(&mote, line, room, &line_length);
-  *length = status == 0 ? (size_t)line_length : 0;
-  return status;
+  return toarmuts_line(&mote, line, room, length);
 }
 
 /* For a board: the bytes of the frame, where the last entry is one that was sent. Returns their number, or 0. */

@@ -10,10 +10,10 @@ void
 show_board_line(void)
 {
   uint8_t line[LINE_ROOM];
-  size_t length;
+  uint64_t length;
   if(last_line(line, sizeof line - 1, &length) == 0) {
     line[length] = '\n';
-    output_put_at_once(RECORD, line, length + 1);
+    output_put_at_once(RECORD, line, (size_t)length + 1);
   }
 }
 

@@ -132,17 +132,17 @@ put_bytes(const void *bytes, size_t length)
 }
 
 /* Has the library write the line of the last entry after the transcript so far. It is no part of that until it is kept. Returns its length
- * with its end. Each line needs this and keep_line, and the driver is compiled by -O1, which inlines only what says so. */
+ * with its end. */
 static inline size_t
 take_line(void)
 {
-  size_t length;
+  uint64_t length;
   uint32_t status = last_line((uint8_t *)room + used, LINE_ROOM - 1, &length);
   if(status != 0) {
     stop("the mote returns no line: status %u", status);
   }
   room[used + length] = '\n';
-  return length + 1;
+  return (size_t)length + 1;
 }
 
 /* The bytes of the mote's number in front of that line. */

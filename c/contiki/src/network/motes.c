@@ -177,10 +177,16 @@ present_mote(void)
   return present_number;
 }
 
+static inline const struct activation *
+activation_of(const struct mote *mote)
+{
+  return *mote->copy->program->activation;
+}
+
 const struct activation *
 present_activation(void)
 {
-  return present == NULL ? NULL : *present->copy->program->activation;
+  return present == NULL ? NULL : activation_of(present);
 }
 
 const struct toarmuts_turn *
@@ -204,12 +210,9 @@ clock_now(void)
 }
 
 uint32_t
-last_line(uint8_t *line, size_t room, size_t *length)
+last_line(uint8_t *line, size_t room, uint64_t *length)
 {
-  uint64_t line_length = 0;
-  uint32_t status = toarmuts_network_line(&network, line, room, &line_length);
-  *length = (size_t)line_length;
-  return status;
+  return toarmuts_network_line(&network, line, room, length);
 }
 
 uint32_t
@@ -219,7 +222,7 @@ answer_turn(const struct toarmuts_call *call)
   is_at_work = 1;
   status = toarmuts_network_submit(&network, call);
   if(status == 0) {
-    last_process = present_activation()->process;
+    last_process = activation_of(present)->process;
     show_turn(call);
   }
   is_at_work = 0;
