@@ -2,7 +2,7 @@
 use Rattle.std.proofs.Common.{ℕ, Bool, [], ◌∷◌, length, ◌≡◌, arith, if◌then◌else◌, map, Option, Some, false, List, refl, None, ◌==◌, filter_map, true, zero, suc, ◌&&◌, ◌||◌, not, ◌++◌, nat_le, append_assoc, ◌∙◌}
 use Rattle.kernel_core.specs.TimerProcesses.{etimer, forget_callback_timers, forget_event_timers}
 use Rattle.mote_types.specs.EventNumbers.{CONTINUE, PACKET, SERIAL_LINE}
-use Rattle.kernel_core.proofs.Common.{decide, Entry, Input, Note, Refusal, Item, Scheduler, marked, in_front, Machine, effect, length-map, Call, Event, state_of, after_call, serve, without, State, Process, with_state, with_mark, is_process, POLL, EXITED, TIMER, Queued, Timer, first_due, PacketQueue, with_event, free_places, mark, times, post_expiry, post_first_due, post_due, exited_application, is_reserved, with_timers, answer_done, expiries_cancelled, cancelled_if, is_callback_timer, callback_refusal, refused_or, list_all, list_any, Stimulus, Origin, delivery, after_item, list_any-append, list_all-append, farewells, number_event, numbers}
+use Rattle.kernel_core.proofs.Common.{decide, Entry, Input, Note, Refusal, Item, Scheduler, marked, in_front, Machine, effect, length-map, Call, Event, state_of, after_call, serve, without, State, Process, with_state, with_mark, is_process, POLL, EXITED, TIMER, Queued, Timer, first_due, PacketQueue, with_event, free_places, mark, times, post_expiry, post_first_due, post_due, exited_application, is_reserved, with_timers, answer_done, expiries_cancelled, cancelled_if, is_callback_timer, callback_refusal, refused_or, list_all, list_any, Stimulus, Origin, delivery, after_item, list_any-append, list_all-append, farewells, number_event, numbers, Reply}
 use Rattle.device_core.specs.SerialLine.{SerialLine}
 use Rattle.kernel_core.specs.Laws.EventLaws.{is_event_of_code}
 use Rattle.kernel_core.specs.PacketProcess.{announce_next, packet}
@@ -281,3 +281,30 @@ module _ {A : Type 0} (f : List Item → A) (q : ℕ) (same : (n : ℕ) (items :
 
   pub farewells-same : (s : Scheduler Bool) (rest agenda : List Item) → f ((farewells q s ++ rest) ++ agenda) ≡ f (rest ++ agenda)
   farewells-same s rest agenda = rw append_assoc (gives-same (numbers (without q s.processes)) (rest ++ agenda))
+
+-- A call that neither waits, exits nor kills puts its reply first, perhaps one more item before it, and marks a process at most.
+
+abbrev pub is_replied : Call → Bool
+is_replied Call.Wait = false
+is_replied Call.Exit = false
+is_replied (Call.Kill r) = false
+is_replied _ = true
+
+abbrev pub is_before_reply : Item → Bool
+is_before_reply (Item.Start r) = true
+is_before_reply (Item.Give r Origin.Synch (Stimulus.Event event)) = true
+is_before_reply (Item.Show entry) = is_note entry
+is_before_reply _ = false
+
+abbrev pub reply_turn : ℕ → Reply → Item
+reply_turn q reply = Item.Turn q Origin.Answer (Stimulus.Answer reply)
+
+-- P holds of the processes and the agenda after such a call of q
+pub record KeptByReplies (P : List Process → List Item → Type 0) (q : ℕ) (s : Scheduler Bool) : Type 0 where
+  pub replied : (reply : Reply) → P s.processes (reply_turn q reply ∷ s.agenda)
+  pub marked : (n : ℕ) (reply : Reply) → P (with_mark n true s.processes) (reply_turn q reply ∷ s.agenda)
+  pub preceded : (item : Item) (reply : Reply) → is_before_reply item ≡ true → P s.processes (item ∷ reply_turn q reply ∷ s.agenda)
+
+pub kept_by_reply : {P : List Process → List Item → Type 0} (q : ℕ) (m : Machine) → KeptByReplies P q m.scheduler → (call : Call)
+    → is_replied call ≡ true → P (after_call call q m).scheduler.processes (after_call call q m).scheduler.agenda
+kept_by_reply = grind decide

@@ -1,7 +1,7 @@
 -- What the agenda holds for one process.
-use Rattle.kernel_core.proofs.run_laws.Changes.{farewells-same, all-delivered, state_of-seats, seats-with_state, seats-with_mark, seats-without, serve-untouched, effect-keeps, all-append, all-mapped, is_regular, carried-regular}
+use Rattle.kernel_core.proofs.run_laws.Changes.{farewells-same, all-delivered, state_of-seats, seats-with_state, seats-with_mark, seats-without, serve-untouched, effect-keeps, all-append, all-mapped, is_regular, carried-regular, KeptByReplies, kept_by_reply}
 use Rattle.std.proofs.Common.{is_none, ◌≡◌, ℕ, Bool, true, false, not, ◌&&◌, ◌||◌, List, [], ◌∷◌, ◌++◌, refl, arith, Option, Some, None, map, ◌==◌, if◌then◌else◌, ◌≤◌, subst, fold, zero, suc, ◌+◌}
-use Rattle.kernel_core.proofs.Common.{cons_option, decide, Stimulus, Origin, Reply, Process, State, Item, state_of, is_on_list, is_running, is_kernel_process, Scheduler, reply_of, is_turn_entry, after_item, Call, farewells, Machine, after_call, Entry, Frame, frame_taken, Memory, with_more_work, list_all, range_with_len, fold-append, PacketQueue, free_slot, Config, booted, at_start, reply_in, HasCall, Turn, up_to_call, OwnTurn, own_from, ticks_in}
+use Rattle.kernel_core.proofs.Common.{cons_option, decide, Stimulus, Origin, Reply, Process, State, Item, state_of, is_on_list, is_running, is_kernel_process, Scheduler, reply_of, is_turn_entry, after_item, Call, with_mark, farewells, Machine, after_call, Entry, Frame, frame_taken, Memory, with_more_work, list_all, range_with_len, fold-append, PacketQueue, free_slot, Config, booted, at_start, reply_in, HasCall, Turn, up_to_call, OwnTurn, own_from, ticks_in}
 use Rattle.kernel_core.proofs.run_laws.event_order.Runs.{Known, carried, facing, Taken, taking, taken, entry_of, Cases, kernel_carried, Ran, Anything, AllFrom, at_each}
 
 -- what an item is to a process
@@ -96,9 +96,21 @@ module _ (p : ℕ) (m : Machine) (busy : idle p m.scheduler.processes ≡ false)
   after_call-fit Call.Wait = grind decide
   after_call-fit Call.Exit = grind (decide, marks-farewells)
   after_call-fit (Call.Kill q) = grind (decide, state_of-seats, seats-with_state, marks-farewells)
-  after_call-fit (Call.PostSynch q code payload) = grind decide
-  after_call-fit (Call.Start q) = grind decide
-  after_call-fit call = grind (decide, state_of-seats, seats-with_mark)
+  after_call-fit call = kept_by_reply {P = λ list items. fit (idle p list) (marks p items) ≡ true} p m kept call refl
+    where
+      kept : KeptByReplies (λ list items. fit (idle p list) (marks p items) ≡ true) p m.scheduler
+      kept =
+          record {
+            replied = grind decide;
+            marked = λ n reply.
+                grind (
+                  decide,
+                  state_of-seats p m.scheduler.processes,
+                  state_of-seats p (with_mark n true m.scheduler.processes),
+                  seats-with_mark p n true m.scheduler.processes,
+                );
+            preceded = grind decide;
+          }
 
 module _ (o p : ℕ) (m : Machine) (other : (p == o) ≡ false)
     (is_fit : fit (idle o m.scheduler.processes) (marks o m.scheduler.agenda) ≡ true) where

@@ -1,8 +1,8 @@
 -- The agenda is in order, and has p where p's state says.
-use Rattle.kernel_core.proofs.run_laws.Changes.{is_from_queue, farewells-same, all-delivered, all-mapped, is_note, behind, seats, state_of-seats, seats-with_state, seats-with_mark, seats-without}
+use Rattle.kernel_core.proofs.run_laws.Changes.{is_from_queue, farewells-same, all-delivered, all-mapped, is_note, behind, seats, state_of-seats, seats-with_state, seats-with_mark, seats-without, is_replied, reply_turn, kept_by_reply}
 use Rattle.std.proofs.Common.{◌≡◌, ℕ, Bool, true, false, ◌||◌, List, [], ◌∷◌, ◌++◌, refl, arith, append-nil, if◌then◌else◌, ◌==◌, not, ◌&&◌, map}
-use Rattle.kernel_core.specs.Laws.EventLaws.{is_event_of_code}
-use Rattle.kernel_core.proofs.Common.{list_any, list_any-append, decide, Call, Stimulus, Origin, Entry, EXIT, list_all, State, Item, Scheduler, after_item, Machine, is_running, state_in, farewells, after_call}
+use Rattle.kernel_core.specs.Laws.EventLaws.{is_event_of_code, is_exit}
+use Rattle.kernel_core.proofs.Common.{list_any, list_any-append, decide, deed, Call, Reply, Stimulus, Origin, Entry, EXIT, list_all, State, Item, Scheduler, after_item, Machine, is_running, state_in, farewells, after_call}
 use Rattle.kernel_core.proofs.run_laws.event_order.AcceptedEvents.{ends_in}
 
 -- what may be below a Give of origin event
@@ -45,6 +45,9 @@ any-behind = grind (decide, list_any-append)
 
 second_true : (a b : Bool) → (a && b) ≡ true → b ≡ true
 second_true = grind decide
+
+no_end : (own exits told : Bool) → (if own then exits || told else false) ≡ false → (own && told) ≡ false
+no_end = grind decide
 
 front_covered : (remove give turn all rest : Bool) → (not remove && all) ≡ true → rest ≡ true
     → (if remove then false else give || (turn || rest)) ≡ true
@@ -159,7 +162,9 @@ module _ (q : ℕ) (m : Machine) (h : is_ordered m.scheduler.agenda ≡ true) wh
   after-ordered Call.Wait = grind arith
   after-ordered Call.Exit = grind (decide, farewells-same is_ordered q (λ n items. refl))
   after-ordered (Call.Kill r) = grind (decide, farewells-same is_ordered r (λ n items. refl))
-  after-ordered call = grind decide
+  after-ordered call =
+      kept_by_reply {P = λ list items. is_ordered items ≡ true} q m
+      (record { replied = λ reply. h; marked = λ n reply. h; preceded = λ item reply b. grind arith }) call refl
 
 pub starts-ordered : (ns : List ℕ) → is_ordered (map (λ n. Item.Start n) ns) ≡ true
 starts-ordered [] = refl
@@ -170,11 +175,32 @@ module _ (p : ℕ) where
       → holds p l ((farewells q s ++ rest) ++ agenda) ≡ holds p l (rest ++ agenda)
   holds-farewells l q = farewells-same (holds p l) q (grind decide)
 
+  -- q's reply takes the position of a turn that doesn't end p
+  reply-stands : (q : ℕ) (origin : Origin) (stimulus : Stimulus) (reply : Reply) (s : Scheduler Bool)
+      → (q == p && is_event_of_code EXIT stimulus) ≡ false → stands p (behind (Item.Turn q origin stimulus) s) ≡ true
+      → stands p (behind (reply_turn q reply) s) ≡ true
+  reply-stands = grind decide
+
   module _ (q : ℕ) (m : Machine) (origin : Origin) (stimulus : Stimulus)
       (h : stands p (behind (Item.Turn q origin stimulus) m.scheduler) ≡ true) where
+    replied-stands : (call : Call) → is_replied call ≡ true
+        → ends_in p (Entry.Turn (record { 0 = q }) origin stimulus call) ≡ false → stands p (after_call call q m).scheduler ≡ true
+    replied-stands call r n =
+        let list = m.scheduler.processes in
+        let unended = no_end (q == p) (is_exit (deed call)) (is_event_of_code EXIT stimulus) n in
+        let stays : (reply : Reply) → stands p (behind (reply_turn q reply) m.scheduler) ≡ true =
+        λ reply. reply-stands q origin stimulus reply m.scheduler unended h in
+        kept_by_reply {P = λ list items. holds p (seats p list) items ≡ true} q m
+        (record {
+          replied = stays;
+          marked = λ n reply. rw (seats-with_mark p n true list) (stays reply);
+          preceded = λ item reply b.
+              holds-append p (seats p list) (item ∷ []) (reply_turn q reply ∷ m.scheduler.agenda) (grind arith) (stays reply);
+        }) call r
+
     pub after-stands : (call : Call) → ends_in p (Entry.Turn (record { 0 = q }) origin stimulus call) ≡ false
         → stands p (after_call call q m).scheduler ≡ true
     after-stands Call.Wait n = grind (decide, state_of-seats, seats-with_state)
     after-stands Call.Exit n = grind (decide, seats-with_state, holds-farewells)
     after-stands (Call.Kill r) n = grind (decide, seats-with_state, holds-farewells)
-    after-stands call n = grind (decide, seats-with_mark)
+    after-stands call n = replied-stands call refl n

@@ -1,5 +1,5 @@
 -- Calls and timers: arming puts a timer on the list with its new cell, a stop takes it off, other calls don't move it.
-use Rattle.std.proofs.Common.{◌≡◌, ℕ, true, false, not, List, [], ◌∷◌, refl, map, filter, nat_le, nat_lt, Bool, ◌&&◌, ◌||◌, arith, Option, Some, None, ◌==◌, if◌then◌else◌}
+use Rattle.std.proofs.Common.{◌≡◌, ℕ, true, false, not, List, [], ◌∷◌, refl, map, filter, nat_le, nat_lt, Bool, ◌&&◌, ◌||◌, arith, Option, Some, None, ◌==◌, if◌then◌else◌, ap}
 use Rattle.kernel_core.specs.Laws.TimerLaws.{arms, cell_after, stops}
 use Rattle.timer_core.specs.Names.{callback_timer, event_timer}
 use Rattle.timer_core.specs.Code.Links.{cell_under}
@@ -112,6 +112,12 @@ no_first = grind decide
 no_second : (a b c d : Bool) → (a && (b && (c || d))) ≡ false → (a && (b && d)) ≡ false
 no_second = grind decide
 
+not_done : (own done touched : Bool) → (own ≡ true → done ≡ false) → (own && (done && touched)) ≡ false
+not_done = grind decide
+
+no_touch : (own done touched : Bool) → touched ≡ false → (own && (done && touched)) ≡ false
+no_touch = grind decide
+
 abbrev pub is_timer_call : Call → Bool
 is_timer_call (Call.TimerSet u interval) = true
 is_timer_call (Call.TimerStop u) = true
@@ -130,6 +136,9 @@ pub record Setting (p : ℕ) (timers : Timers) : Type 0 where
 module _ (call : Call) (q : ℕ) (m : Machine) where
   pub after-timers : is_timer_call call ≡ false → (after_call call q m).timers ≡ m.timers
   after-timers h = grind arith
+
+  untouched : (t : ℕ) → is_timer_call call ≡ false → (arms t (deed call) || stops t (deed call)) ≡ false
+  untouched t h = grind arith
 
   pub after-clock : (after_call call q m).clock ≡ m.clock
   after-clock = grind arith
@@ -181,13 +190,25 @@ module _ (o : OwnTimer) where
       unset = grind (decide, stopped-own);
     }
 
-  by_refusal : (call : Call) (q : ℕ) (known : Known) (m after : Machine) (refused : Option Refusal)
-      → FrontAgrees known (refused_or refused q m (answer_done q after)).scheduler.agenda
-      → (refused ≡ None → ((q == o.p) ≡ true → known o.p ≡ Some Reply.Done) → Moves q m.clock call (known o.p) m.timers after.timers)
-      → Moves q m.clock call (known o.p) m.timers (refused_or refused q m (answer_done q after)).timers
-  by_refusal = grind decide
-
   module _ (q : ℕ) (known : Known) (m : Machine) (s : Setting o.p m.timers) where
+    known_own : (k : Option Reply) → known q ≡ k → (q == o.p) ≡ true → known o.p ≡ k
+    known_own = grind decide
+
+    same_moves : (call : Call) → is_moved_by q call (known o.p) ≡ false → Moves q m.clock call (known o.p) m.timers m.timers
+    same_moves call n = still_moves q m.clock call (known o.p) m.timers m.timers n refl (λ low. refl)
+
+    by_refusal : (call : Call) (after : Machine) (refused : Option Refusal)
+        → FrontAgrees known (refused_or refused q m (answer_done q after)).scheduler.agenda
+        → (refused ≡ None → ((q == o.p) ≡ true → known o.p ≡ Some Reply.Done) → Moves q m.clock call (known o.p) m.timers after.timers)
+        → Moves q m.clock call (known o.p) m.timers (refused_or refused q m (answer_done q after)).timers
+    by_refusal call after None front moves = moves refl (known_own _ front)
+    by_refusal call after (Some refusal) front moves =
+        same_moves call (not_done (q == o.p) (is_done (known o.p)) _ (λ own. ap is_done (known_own _ front own)))
+
+    other_call : (call : Call) → is_timer_call call ≡ false → Moves q m.clock call (known o.p) m.timers (after_call call q m).timers
+    other_call call n =
+        rw (after-timers call q m n) (same_moves call (no_touch (q == o.p) (is_done (known o.p)) _ (untouched call q m o.t n)))
+
     pub after-moves : (call : Call) → FrontAgrees known (after_call call q m).scheduler.agenda
         → Moves q m.clock call (known o.p) m.timers (after_call call q m).timers
     after-moves (Call.TimerSet u interval) front =
@@ -197,14 +218,14 @@ module _ (o : OwnTimer) where
     after-moves (Call.TimerReset u) front =
         grind (decide, still_moves, armed-other, cell-armed_other, same_timer, cell-armed_own)
     after-moves (Call.TimerStop u) front =
-        by_refusal (Call.TimerStop u) q known m (with_timers (stop_timer (event_timer q u) m.timers) m) (timer_refusal u) front
+        by_refusal (Call.TimerStop u) (with_timers (stop_timer (event_timer q u) m.timers) m) (timer_refusal u) front
         (λ e told. stopped_moves q u m.clock (known o.p) m.timers told)
     after-moves (Call.CallbackSet c interval) front = grind (decide, by_refusal, still_moves, armed-other, cell-armed_other)
     after-moves (Call.CallbackStop c) front =
         let timer = callback_timer q c in
-        by_refusal (Call.CallbackStop c) q known m (expiries_cancelled (is_callback_timer q c) (with_timers (stop_timer timer m.timers) m))
+        by_refusal (Call.CallbackStop c) (expiries_cancelled (is_callback_timer q c) (with_timers (stop_timer timer m.timers) m))
         (callback_refusal c) front
         (λ e told.
         still_moves q m.clock (Call.CallbackStop c) (known o.p) m.timers (stop_timer timer m.timers) (grind decide)
         (stopped-other (own_timer o) timer m.timers.armed refl) (λ number. refl))
-    after-moves call front = grind (decide, after-timers, still_moves)
+    after-moves call front = other_call call refl
