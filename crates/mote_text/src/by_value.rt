@@ -7,7 +7,7 @@ ghost use Rattle.mote_text.specs.EntryText.{entry_line};
 ghost use Rattle.mote_text.specs.Script.{read_line};
 ghost use Rattle.mote_text.specs.Code.EntryLines.{entry_line_limit};
 
-use crate::output_buffer::{MOST_OF_LINE, OutputBuffer};
+use crate::output_buffer::{MOST_OF_LINE, TextBuffer};
 use crate::script::{BadLine, read_input_to};
 use crate::transcript::push_entry;
 use arrayvec::ArrayVec;
@@ -23,7 +23,7 @@ pub fn entry_text(entry: &Entry, line: &mut LineBuf)
     ensures text { line.new.items ≡ entry_line entry.now }
     ensures length { length (entry_line entry.now) ≤ entry_line_limit }
 {
-    let mut made = OutputBuffer::new();
+    let mut made = TextBuffer::<MOST_OF_LINE>::new();
     push_entry(entry, &mut made);
     line.clear();
     let _ = line.try_extend_from_slice(made.as_slice());

@@ -76,15 +76,20 @@ fn word_of(call: &Call) -> (&'static [u8; 16], usize)
 
 /// Puts the number of what a call is on.
 #[inline(always)]
-fn put_name(page: &mut Page, at: usize, name: u8) -> usize
-    requires { at + 4 ≤ 4096 }
+fn put_name<const CAPACITY: usize>(page: &mut Page<CAPACITY>, at: usize, name: u8) -> usize
+    requires { at + 4 ≤ CAPACITY }
     ensures { Puts page.old.bytes page.new.bytes at result 4 (blanked (decimal name ∷ [])) }
 {
     page.put_small_number(at, name)
 }
 
-fn put_pair(page: &mut Page, at: usize, first: u8, second: u8) -> usize
-    requires { at + 8 ≤ 4096 }
+fn put_pair<const CAPACITY: usize>(
+    page: &mut Page<CAPACITY>,
+    at: usize,
+    first: u8,
+    second: u8,
+) -> usize
+    requires { at + 8 ≤ CAPACITY }
     ensures { Puts page.old.bytes page.new.bytes at result 8 (blanked (decimal first ∷ decimal second ∷ [])) }
 {
     let at = put_name(page, at, first);
@@ -92,8 +97,13 @@ fn put_pair(page: &mut Page, at: usize, first: u8, second: u8) -> usize
 }
 
 /// Puts a thing, and a length, an interval, or an offset in it.
-fn put_sized(page: &mut Page, at: usize, name: u8, size: u32) -> usize
-    requires { at + 25 ≤ 4096 }
+fn put_sized<const CAPACITY: usize>(
+    page: &mut Page<CAPACITY>,
+    at: usize,
+    name: u8,
+    size: u32,
+) -> usize
+    requires { at + 25 ≤ CAPACITY }
     ensures { Puts page.old.bytes page.new.bytes at result 25 (blanked (decimal name ∷ decimal size ∷ [])) }
 {
     let at = put_name(page, at, name);
@@ -103,8 +113,13 @@ fn put_sized(page: &mut Page, at: usize, name: u8, size: u32) -> usize
 /// Puts where a call reads, and how many bytes.
 // As `put_hex`.
 #[inline(never)]
-fn put_span(page: &mut Page, at: usize, offset: u32, len: u8) -> usize
-    requires { at + 25 ≤ 4096 }
+fn put_span<const CAPACITY: usize>(
+    page: &mut Page<CAPACITY>,
+    at: usize,
+    offset: u32,
+    len: u8,
+) -> usize
+    requires { at + 25 ≤ CAPACITY }
     ensures { Puts page.old.bytes page.new.bytes at result 25 (blanked (decimal offset ∷ decimal len ∷ [])) }
 {
     let at = page.put_number(at, offset);
@@ -114,8 +129,13 @@ fn put_span(page: &mut Page, at: usize, offset: u32, len: u8) -> usize
 /// Puts where a call writes, and what.
 // As `put_hex`.
 #[inline(never)]
-fn put_chunk(page: &mut Page, at: usize, offset: u32, chunk: &Chunk) -> usize
-    requires { at + 180 ≤ 4096 }
+fn put_chunk<const CAPACITY: usize>(
+    page: &mut Page<CAPACITY>,
+    at: usize,
+    offset: u32,
+    chunk: &Chunk,
+) -> usize
+    requires { at + 180 ≤ CAPACITY }
     ensures { Puts page.old.bytes page.new.bytes at result 160 (blanked (decimal offset ∷ hex chunk.now.items ∷ [])) }
 {
     let at = page.put_number(at, offset);
@@ -125,8 +145,13 @@ fn put_chunk(page: &mut Page, at: usize, offset: u32, chunk: &Chunk) -> usize
 /// Puts the code of an event, and what it carries.
 // As `put_hex`.
 #[inline(never)]
-fn put_event(page: &mut Page, at: usize, code: u8, payload: &Payload) -> usize
-    requires { at + 280 ≤ 4096 }
+fn put_event<const CAPACITY: usize>(
+    page: &mut Page<CAPACITY>,
+    at: usize,
+    code: u8,
+    payload: &Payload,
+) -> usize
+    requires { at + 280 ≤ CAPACITY }
     ensures { Puts page.old.bytes page.new.bytes at result 260 (blanked (decimal code ∷ payload_word payload.now ∷ [])) }
 {
     let at = put_name(page, at, code);
@@ -134,8 +159,8 @@ fn put_event(page: &mut Page, at: usize, code: u8, payload: &Payload) -> usize
 }
 
 /// Puts a call's arguments.
-fn put_arguments(page: &mut Page, at: usize, call: &Call) -> usize
-    requires { at + 300 ≤ 4096 }
+fn put_arguments<const CAPACITY: usize>(page: &mut Page<CAPACITY>, at: usize, call: &Call) -> usize
+    requires { at + 300 ≤ CAPACITY }
     ensures { Puts page.old.bytes page.new.bytes at result 280 (blanked (argument_words call.now)) }
 {
     match *call {
@@ -209,8 +234,8 @@ fn put_arguments(page: &mut Page, at: usize, call: &Call) -> usize
 
 /// Puts an arrow and a call that is not `Wait`, which most are.
 #[inline(never)]
-fn put_other_call(page: &mut Page, at: usize, call: &Call) -> usize
-    requires { at + 320 ≤ 4096 }
+fn put_other_call<const CAPACITY: usize>(page: &mut Page<CAPACITY>, at: usize, call: &Call) -> usize
+    requires { at + 320 ≤ CAPACITY }
     ensures { Puts page.old.bytes page.new.bytes at result 297 (blanked (codes "->" ∷ call_words call.now)) }
 {
     let at = page.put_front(at, b"->              ", 3);
@@ -221,8 +246,12 @@ fn put_other_call(page: &mut Page, at: usize, call: &Call) -> usize
 
 /// Puts an arrow and what a process called, at most 297 bytes.
 #[inline(always)]
-pub(crate) fn put_call(page: &mut Page, at: usize, call: &Call) -> usize
-    requires { at + 320 ≤ 4096 }
+pub(crate) fn put_call<const CAPACITY: usize>(
+    page: &mut Page<CAPACITY>,
+    at: usize,
+    call: &Call,
+) -> usize
+    requires { at + 320 ≤ CAPACITY }
     ensures { Puts page.old.bytes page.new.bytes at result 297 (blanked (codes "->" ∷ call_words call.now)) }
 {
     if let Call::Wait = call {

@@ -1,10 +1,10 @@
 //! The output buffer: lines of a transcript, gathered to be written at once.
 
 ghost use Rattle.std.specs.Prelude.{◌≡◌, ◌≤◌, ◌<◌, ◌+◌, ◌-◌, ◌^◌, ◌++◌, [], length, OnOk};
-ghost use Rattle.mote_text.specs.Code.Appending.{HasRoom};
+ghost use Rattle.mote_text.specs.Code.Appending.{HasRoomOf};
 ghost use Rattle.mote_text.specs.Code.Writing.{CountsFailure, WritesIf};
 
-use crate::page::{CAPACITY, Page};
+use crate::page::Page;
 use crate::write::write_all;
 use mote_types::device::ByteSink;
 use mote_types::fault::DeviceFault;
@@ -13,16 +13,19 @@ use std::marker::Model;
 /// No line of a transcript is longer, with its end.
 pub const MOST_OF_LINE: usize = 640;
 
-/// Pending output: lines of a transcript that were made and aren't written yet.
+/// Lines of a transcript, up to so many bytes.
 ///
 /// No `ArrayVec`: that writes blanks over all that it clears, and lends room for digits only after it has written blanks there.
 #[derive(Drop)]
-pub struct OutputBuffer {
-    pub(crate) page: Page,
+pub struct TextBuffer<const CAPACITY: usize> {
+    pub(crate) page: Page<CAPACITY>,
     pub(crate) len: usize,
 }
 
-impl Model for OutputBuffer {
+/// Pending output: lines of a transcript that were made and aren't written yet.
+pub type OutputBuffer = TextBuffer<4_096>;
+
+impl<const CAPACITY: usize> Model for TextBuffer<CAPACITY> {
     ghost use Rattle.std.specs.Prelude.{◌≤◌, ℕ, take};
     ghost use Rattle.arrayvec.specs.ArrayVec.{ArrayVec as Items};
 
@@ -30,15 +33,15 @@ impl Model for OutputBuffer {
 
     ghost view = { λ line. record { items = take line.len line.page.bytes } };
 
-    ghost invariant = { λ line. line.len ≤ 4096 };
+    ghost invariant = { λ line. line.len ≤ CAPACITY };
 }
 
-impl OutputBuffer {
+impl<const CAPACITY: usize> TextBuffer<CAPACITY> {
     #[inline(always)]
     pub fn new() -> Self
         ensures { result.items ≡ [] }
     {
-        OutputBuffer {
+        TextBuffer {
             page: Page::new(),
             len: 0,
         }
@@ -47,7 +50,7 @@ impl OutputBuffer {
     /// How many more bytes fit.
     #[inline]
     pub fn remaining_capacity(&self) -> usize
-        ensures { result + length self.now.items ≡ 4096 }
+        ensures { result + length self.now.items ≡ CAPACITY }
     {
         CAPACITY - self.as_slice().len()
     }
@@ -55,7 +58,7 @@ impl OutputBuffer {
     #[inline]
     pub fn as_slice(&self) -> &[u8]
         ensures value { result.now ≡ self.now.items }
-        ensures fits { length result.now ≤ 4096 }
+        ensures fits { length result.now ≤ CAPACITY }
     {
         &self.page.bytes[..self.len]
     }
@@ -70,7 +73,7 @@ impl OutputBuffer {
     /// Appends these bytes.
     #[inline(always)]
     pub fn push(&mut self, bytes: &[u8])
-        requires { HasRoom self.old (length bytes.now) }
+        requires { HasRoomOf CAPACITY self.old (length bytes.now) }
         ensures { self.new.items ≡ self.old.items ++ bytes.now }
     {
         self.len = self.page.put(self.len, bytes);
@@ -92,10 +95,10 @@ impl OutputBuffer {
     // Each line asks for it.
     #[inline(always)]
     pub fn make_room<K: ByteSink>(&mut self, sink: &mut K, room: usize) -> Result<(), DeviceFault>
-        requires some { room ≤ 4_096 }
+        requires some { room ≤ CAPACITY }
         requires countable { K.failure_count sink.old < 2 ^ 64 - 1 }
         ensures writes { K.is_named → WritesIf result (K.given sink.old) self.old.items (K.given sink.new) self.new.items [] }
-        ensures room { OnOk result (HasRoom self.new room) }
+        ensures room { OnOk result (HasRoomOf CAPACITY self.new room) }
         ensures failures { CountsFailure result (K.failure_count sink.old) (K.failure_count sink.new) }
     {
         if self.remaining_capacity() < room {

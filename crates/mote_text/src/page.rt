@@ -12,9 +12,6 @@ use crate::hex_digits::DigitPairs;
 use itoa::Buffer;
 use std::simd::Simd;
 
-/// How many bytes a page holds.
-pub(crate) const CAPACITY: usize = 4_096;
-
 /// The numbers below 256, eight bytes each: in four its digits and blanks, then a byte with the number of its digits and one blank.
 const SMALL_NUMBERS: &[u8; 2_048] = b"\
 0   \x02   1   \x02   2   \x02   3   \x02   4   \x02   5   \x02   6   \x02   7   \x02   \
@@ -72,12 +69,12 @@ fn move_block<const N: usize>(buffer: &mut [u8], block: &[u8])
 /// A buffer into which text is put at a position, which the caller keeps: so it stays in a register. What is after it counts
 /// for nothing, so a short word is moved as a whole block. Each function returns where the text ends.
 #[derive(Drop)]
-pub(crate) struct Page {
+pub(crate) struct Page<const CAPACITY: usize> {
     pub(crate) bytes: [u8; CAPACITY],
     digits: DigitPairs,
 }
 
-impl Page {
+impl<const CAPACITY: usize> Page<CAPACITY> {
     #[inline(always)]
     pub(crate) fn new() -> Self {
         Page {
@@ -89,11 +86,12 @@ impl Page {
     /// Puts these bytes.
     #[inline(always)]
     pub(crate) fn put(&mut self, at: usize, bytes: &[u8]) -> usize
-        requires { at + length bytes.now ≤ 4096 }
+        requires { at + length bytes.now ≤ CAPACITY }
         ensures { Puts self.old.bytes self.new.bytes at result (length bytes.now) bytes.now }
     {
         let end = at + bytes.len();
-        self.bytes[at..end].copy_from_slice(bytes);
+        let text = &mut self.bytes[..];
+        text[at..end].copy_from_slice(bytes);
         end
     }
 
@@ -102,10 +100,11 @@ impl Page {
     fn put_block<const N: usize>(&mut self, at: usize, block: &[u8], len: usize) -> usize
         requires few { len ≤ N }
         requires whole { N ≤ length block.now }
-        requires room { at + N ≤ 4096 }
+        requires room { at + N ≤ CAPACITY }
         ensures { Puts self.old.bytes self.new.bytes at result len (take len block.now) }
     {
-        move_block::<N>(&mut self.bytes[at..at + N], block);
+        let text = &mut self.bytes[..];
+        move_block::<N>(&mut text[at..at + N], block);
         at + len
     }
 
@@ -113,7 +112,7 @@ impl Page {
     #[inline(always)]
     pub(crate) fn put_front(&mut self, at: usize, block: &[u8; 16], len: usize) -> usize
         requires few { len ≤ 16 }
-        requires room { at + 16 ≤ 4096 }
+        requires room { at + 16 ≤ CAPACITY }
         ensures { Puts self.old.bytes self.new.bytes at result len (take len block.now) }
     {
         self.put_block::<16>(at, &block[..], len)
@@ -122,18 +121,19 @@ impl Page {
     /// Puts two lower case hex digits for each byte.
     #[inline]
     pub(crate) fn put_digits(&mut self, at: usize, bytes: &[u8]) -> usize
-        requires { at + 2 * length bytes.now ≤ 4096 }
+        requires { at + 2 * length bytes.now ≤ CAPACITY }
         ensures { Puts self.old.bytes self.new.bytes at result (2 * length bytes.now) (encode_lower bytes.now) }
     {
         let end = at + 2 * bytes.len();
-        self.digits.write(bytes, &mut self.bytes[at..end]);
+        let text = &mut self.bytes[..];
+        self.digits.write(bytes, &mut text[at..end]);
         end
     }
 
     /// Puts a number in decimal and a blank.
     #[inline(always)]
     pub(crate) fn put_number(&mut self, at: usize, n: u32) -> usize
-        requires { at + 21 ≤ 4096 }
+        requires { at + 21 ≤ CAPACITY }
         ensures { Puts self.old.bytes self.new.bytes at result 21 (blanked (decimal n ∷ [])) }
     {
         if n < 256 {
@@ -146,7 +146,7 @@ impl Page {
     /// Puts a number below 256 in decimal and a blank.
     #[inline(always)]
     pub(crate) fn put_small_number(&mut self, at: usize, n: u8) -> usize
-        requires { at + 4 ≤ 4096 }
+        requires { at + 4 ≤ CAPACITY }
         ensures { Puts self.old.bytes self.new.bytes at result 4 (blanked (decimal n ∷ [])) }
     {
         let from = 8 * n as usize;
@@ -160,7 +160,7 @@ impl Page {
     #[inline(always)]
     fn put_two_digits(&mut self, at: usize, n: u8) -> usize
         requires few { n < 100 }
-        requires room { at + 4 ≤ 4096 }
+        requires room { at + 4 ≤ CAPACITY }
         ensures { Puts self.old.bytes self.new.bytes at result 3 ((48 + n / 10) ∷ (48 + n % 10) ∷ 32 ∷ []) }
     {
         let from = 8 * (100 + n) as usize + 1;
@@ -170,7 +170,7 @@ impl Page {
     /// Puts the digits of a number below 256.
     #[inline(always)]
     fn put_small_digits(&mut self, at: usize, n: u8) -> usize
-        requires { at + 4 ≤ 4096 }
+        requires { at + 4 ≤ CAPACITY }
         ensures { Puts self.old.bytes self.new.bytes at result 3 (decimal n) }
     {
         let from = 8 * n as usize;
@@ -184,7 +184,7 @@ impl Page {
     fn put_short_number(&mut self, at: usize, n: u32) -> usize
         requires least { 100 ≤ n }
         requires most { n < 10_000 }
-        requires room { at + 8 ≤ 4096 }
+        requires room { at + 8 ≤ CAPACITY }
         ensures { Puts self.old.bytes self.new.bytes at result 6 (blanked (decimal n ∷ [])) }
     {
         let end = self.put_small_digits(at, (n / 100) as u8);
@@ -194,7 +194,7 @@ impl Page {
     /// Puts a number in decimal and a blank, however many digits it has.
     #[inline(never)]
     pub(crate) fn put_large_number(&mut self, at: usize, n: u64) -> usize
-        requires { at + 21 ≤ 4096 }
+        requires { at + 21 ≤ CAPACITY }
         ensures { Puts self.old.bytes self.new.bytes at result 21 (blanked (decimal n ∷ [])) }
     {
         // Counts have mostly few digits: `itoa` makes those of a number apart, and they are copied.
@@ -210,7 +210,7 @@ impl Page {
     #[inline(never)]
     pub(crate) fn put_hex(&mut self, at: usize, bytes: &[u8]) -> usize
         requires few { length bytes.now ≤ 256 }
-        requires room { at + 16 + 2 * length bytes.now ≤ 4096 }
+        requires room { at + 16 + 2 * length bytes.now ≤ CAPACITY }
         ensures { Puts self.old.bytes self.new.bytes at result (2 + 2 * length bytes.now) (blanked (hex bytes.now ∷ [])) }
     {
         if bytes.is_empty() {
@@ -224,7 +224,7 @@ impl Page {
     #[inline(always)]
     pub(crate) fn end_line(&mut self, end: usize)
         requires some { take end self.old.bytes ≢ [] }
-        requires room { end ≤ 4096 }
+        requires room { end ≤ CAPACITY }
         ensures line { take end self.new.bytes ≡ take (end - 1) self.old.bytes ++ 10 ∷ [] }
         ensures size { length (take end self.old.bytes) ≡ end }
     {

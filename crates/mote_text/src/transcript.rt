@@ -6,11 +6,11 @@ ghost use Rattle.mote_types.specs.declared.entry.Entry.{Entry as Made};
 ghost use Rattle.mote_text.specs.EntryText.{entry_line, entry_words};
 ghost use Rattle.mote_text.specs.declared.script.End.{End as Ending};
 ghost use Rattle.mote_text.specs.Code.EntryLines.{blanked, entry_line_limit};
-ghost use Rattle.mote_text.specs.Code.Appending.{HasRoom, Puts};
+ghost use Rattle.mote_text.specs.Code.Appending.{HasRoom, HasRoomOf, Puts};
 ghost use Rattle.mote_text.specs.Transcript.{final_line, is_shown, prints_or_sends};
 
 use crate::calls::put_call;
-use crate::output_buffer::OutputBuffer;
+use crate::output_buffer::{OutputBuffer, TextBuffer};
 use crate::page::Page;
 use crate::script::End;
 use crate::words::{put_input, put_note, put_origin, put_stimulus};
@@ -20,8 +20,12 @@ use mote_types::event::{Origin, Pid, Stimulus};
 
 /// Puts the line of an input, with its end.
 #[inline(always)]
-fn put_input_line(page: &mut Page, at: usize, input: &Input) -> usize
-    requires { at + entry_line_limit ≤ 4096 }
+fn put_input_line<const CAPACITY: usize>(
+    page: &mut Page<CAPACITY>,
+    at: usize,
+    input: &Input,
+) -> usize
+    requires { at + entry_line_limit ≤ CAPACITY }
     ensures { Puts page.old.bytes page.new.bytes at result entry_line_limit (entry_line (Made.Input input.now)) }
 {
     let end = put_input(page, at, input);
@@ -31,15 +35,15 @@ fn put_input_line(page: &mut Page, at: usize, input: &Input) -> usize
 
 /// Puts the words of a turn.
 #[inline(always)]
-fn put_turn(
-    page: &mut Page,
+fn put_turn<const CAPACITY: usize>(
+    page: &mut Page<CAPACITY>,
     at: usize,
     pid: Pid,
     origin: Origin,
     stimulus: &Stimulus,
     call: &Call,
 ) -> usize
-    requires { at + entry_line_limit ≤ 4096 }
+    requires { at + entry_line_limit ≤ CAPACITY }
     ensures { Puts page.old.bytes page.new.bytes at result entry_line_limit (blanked (entry_words (Made.Turn pid origin stimulus.now call.now))) }
 {
     let at = page.put_small_number(at, pid.0);
@@ -50,15 +54,15 @@ fn put_turn(
 
 /// Puts the line of a turn, with its end.
 #[inline(always)]
-fn put_turn_line(
-    page: &mut Page,
+fn put_turn_line<const CAPACITY: usize>(
+    page: &mut Page<CAPACITY>,
     at: usize,
     pid: Pid,
     origin: Origin,
     stimulus: &Stimulus,
     call: &Call,
 ) -> usize
-    requires { at + entry_line_limit ≤ 4096 }
+    requires { at + entry_line_limit ≤ CAPACITY }
     ensures { Puts page.old.bytes page.new.bytes at result entry_line_limit (entry_line (Made.Turn pid origin stimulus.now call.now)) }
 {
     let end = put_turn(page, at, pid, origin, stimulus, call);
@@ -67,8 +71,8 @@ fn put_turn_line(
 }
 
 /// Puts the line of a note, with its end.
-fn put_note_line(page: &mut Page, at: usize, note: &Note) -> usize
-    requires { at + entry_line_limit ≤ 4096 }
+fn put_note_line<const CAPACITY: usize>(page: &mut Page<CAPACITY>, at: usize, note: &Note) -> usize
+    requires { at + entry_line_limit ≤ CAPACITY }
     ensures { Puts page.old.bytes page.new.bytes at result entry_line_limit (entry_line (Made.Note note.now)) }
 {
     let end = put_note(page, at, note);
@@ -81,8 +85,8 @@ fn put_note_line(page: &mut Page, at: usize, note: &Note) -> usize
 /// Source: the transcript format is this project's profile.
 // As `put_input`.
 #[inline(always)]
-pub fn push_input_line(input: &Input, line: &mut OutputBuffer)
-    requires { HasRoom line.old entry_line_limit }
+pub fn push_input_line<const CAPACITY: usize>(input: &Input, line: &mut TextBuffer<CAPACITY>)
+    requires { HasRoomOf CAPACITY line.old entry_line_limit }
     ensures text { line.new.items ≡ line.old.items ++ entry_line (Made.Input input.now) }
     ensures length { length line.new.items ≤ length line.old.items + entry_line_limit }
 {
@@ -94,14 +98,14 @@ pub fn push_input_line(input: &Input, line: &mut OutputBuffer)
 /// Source: the transcript format is this project's profile.
 // Most lines are turns: where it is called once, it saves no registers of its own.
 #[inline(always)]
-pub fn push_turn_line(
+pub fn push_turn_line<const CAPACITY: usize>(
     pid: Pid,
     origin: Origin,
     stimulus: &Stimulus,
     call: &Call,
-    line: &mut OutputBuffer,
+    line: &mut TextBuffer<CAPACITY>,
 )
-    requires { HasRoom line.old entry_line_limit }
+    requires { HasRoomOf CAPACITY line.old entry_line_limit }
     ensures text { line.new.items ≡ line.old.items ++ entry_line (Made.Turn pid origin stimulus.now call.now) }
     ensures length { length line.new.items ≤ length line.old.items + entry_line_limit }
 {
@@ -109,8 +113,8 @@ pub fn push_turn_line(
 }
 
 /// Appends the line of a note, with its end.
-fn push_note_line(note: &Note, line: &mut OutputBuffer)
-    requires { HasRoom line.old entry_line_limit }
+fn push_note_line<const CAPACITY: usize>(note: &Note, line: &mut TextBuffer<CAPACITY>)
+    requires { HasRoomOf CAPACITY line.old entry_line_limit }
     ensures text { line.new.items ≡ line.old.items ++ entry_line (Made.Note note.now) }
     ensures length { length line.new.items ≤ length line.old.items + entry_line_limit }
 {
@@ -121,8 +125,8 @@ fn push_note_line(note: &Note, line: &mut OutputBuffer)
 ///
 /// Source: the transcript format is this project's profile.
 #[tactic(auto, unfolding(crate::specs::EntryText::entry_line, crate::specs::EntryText::line_of, crate::specs::Code::EntryLines::blanked))]
-pub fn push_entry(entry: &Entry, line: &mut OutputBuffer)
-    requires { HasRoom line.old entry_line_limit }
+pub fn push_entry<const CAPACITY: usize>(entry: &Entry, line: &mut TextBuffer<CAPACITY>)
+    requires { HasRoomOf CAPACITY line.old entry_line_limit }
     ensures text { line.new.items ≡ line.old.items ++ entry_line entry.now }
     ensures length { length line.new.items ≤ length line.old.items + entry_line_limit }
 {
@@ -140,8 +144,8 @@ pub fn push_entry(entry: &Entry, line: &mut OutputBuffer)
 }
 
 /// Puts the words that name a malformed line of the script.
-fn put_bad_words(page: &mut Page, at: usize, number: u32) -> usize
-    requires { at + entry_line_limit ≤ 4096 }
+fn put_bad_words<const CAPACITY: usize>(page: &mut Page<CAPACITY>, at: usize, number: u32) -> usize
+    requires { at + entry_line_limit ≤ CAPACITY }
     ensures { Puts page.old.bytes page.new.bytes at result entry_line_limit (blanked (codes "bad" ∷ codes "line" ∷ decimal number ∷ [])) }
 {
     let at = page.put_front(at, b"bad line        ", 9);
@@ -149,8 +153,8 @@ fn put_bad_words(page: &mut Page, at: usize, number: u32) -> usize
 }
 
 /// Puts the line that names a malformed line of the script, with its end.
-fn put_bad_line(page: &mut Page, at: usize, number: u32) -> usize
-    requires { at + entry_line_limit ≤ 4096 }
+fn put_bad_line<const CAPACITY: usize>(page: &mut Page<CAPACITY>, at: usize, number: u32) -> usize
+    requires { at + entry_line_limit ≤ CAPACITY }
     ensures { Puts page.old.bytes page.new.bytes at result entry_line_limit (final_line (Ending.BadLine number)) }
 {
     let end = put_bad_words(page, at, number);

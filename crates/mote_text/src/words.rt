@@ -15,8 +15,12 @@ use mote_types::event::{Origin, Payload, Stimulus};
 use mote_types::reply::{HeapStats, Reply};
 
 #[inline(always)]
-pub(crate) fn put_payload(page: &mut Page, at: usize, payload: &Payload) -> usize
-    requires { at + 270 ≤ 4096 }
+pub(crate) fn put_payload<const CAPACITY: usize>(
+    page: &mut Page<CAPACITY>,
+    at: usize,
+    payload: &Payload,
+) -> usize
+    requires { at + 270 ≤ CAPACITY }
     ensures { Puts page.old.bytes page.new.bytes at result 256 (blanked (payload_word payload.now ∷ [])) }
 {
     match payload {
@@ -27,9 +31,13 @@ pub(crate) fn put_payload(page: &mut Page, at: usize, payload: &Payload) -> usiz
 }
 
 /// Puts the bytes that an event carries.
-fn put_line_bytes(page: &mut Page, at: usize, bytes: &[u8]) -> usize
+fn put_line_bytes<const CAPACITY: usize>(
+    page: &mut Page<CAPACITY>,
+    at: usize,
+    bytes: &[u8],
+) -> usize
     requires few { length bytes.now ≤ 127 }
-    requires room { at + 270 ≤ 4096 }
+    requires room { at + 270 ≤ CAPACITY }
     ensures { Puts page.old.bytes page.new.bytes at result 256 (blanked ((codes "x" ++ encode_lower bytes.now) ∷ [])) }
 {
     let at = page.put_front(at, b"x               ", 1);
@@ -53,8 +61,12 @@ fn word_of_origin(origin: Origin) -> &'static [u8; 16]
 }
 
 #[inline(always)]
-pub(crate) fn put_origin(page: &mut Page, at: usize, origin: Origin) -> usize
-    requires { at + 16 ≤ 4096 }
+pub(crate) fn put_origin<const CAPACITY: usize>(
+    page: &mut Page<CAPACITY>,
+    at: usize,
+    origin: Origin,
+) -> usize
+    requires { at + 16 ≤ CAPACITY }
     ensures { Puts page.old.bytes page.new.bytes at result 9 (blanked (origin_word origin ∷ [])) }
 {
     let block = word_of_origin(origin);
@@ -62,8 +74,12 @@ pub(crate) fn put_origin(page: &mut Page, at: usize, origin: Origin) -> usize
 }
 
 #[inline(never)]
-fn put_stats(page: &mut Page, at: usize, stats: &HeapStats) -> usize
-    requires { at + 127 ≤ 4096 }
+fn put_stats<const CAPACITY: usize>(
+    page: &mut Page<CAPACITY>,
+    at: usize,
+    stats: &HeapStats,
+) -> usize
+    requires { at + 127 ≤ CAPACITY }
     ensures { Puts page.old.bytes page.new.bytes at result 111 (blanked (reply_words (Answered.Stats stats.now))) }
 {
     let at = page.put_front(at, b"stats           ", 6);
@@ -76,8 +92,12 @@ fn put_stats(page: &mut Page, at: usize, stats: &HeapStats) -> usize
 
 /// Puts a reply that is not `Done`, which most are.
 #[inline(never)]
-fn put_long_reply(page: &mut Page, at: usize, reply: &Reply) -> usize
-    requires { at + 152 ≤ 4096 }
+fn put_long_reply<const CAPACITY: usize>(
+    page: &mut Page<CAPACITY>,
+    at: usize,
+    reply: &Reply,
+) -> usize
+    requires { at + 152 ≤ CAPACITY }
     ensures { Puts page.old.bytes page.new.bytes at result 136 (blanked (reply_words reply.now)) }
 {
     match reply {
@@ -105,8 +125,8 @@ fn put_long_reply(page: &mut Page, at: usize, reply: &Reply) -> usize
 }
 
 #[inline(always)]
-fn put_reply(page: &mut Page, at: usize, reply: &Reply) -> usize
-    requires { at + 152 ≤ 4096 }
+fn put_reply<const CAPACITY: usize>(page: &mut Page<CAPACITY>, at: usize, reply: &Reply) -> usize
+    requires { at + 152 ≤ CAPACITY }
     ensures { Puts page.old.bytes page.new.bytes at result 136 (blanked (reply_words reply.now)) }
 {
     match reply {
@@ -117,8 +137,12 @@ fn put_reply(page: &mut Page, at: usize, reply: &Reply) -> usize
 
 /// Puts the stimulus that a process receives, at most 277 bytes.
 #[inline(always)]
-pub(crate) fn put_stimulus(page: &mut Page, at: usize, stimulus: &Stimulus) -> usize
-    requires { at + 291 ≤ 4096 }
+pub(crate) fn put_stimulus<const CAPACITY: usize>(
+    page: &mut Page<CAPACITY>,
+    at: usize,
+    stimulus: &Stimulus,
+) -> usize
+    requires { at + 291 ≤ CAPACITY }
     ensures { Puts page.old.bytes page.new.bytes at result 277 (blanked (stimulus_words stimulus.now)) }
 {
     match stimulus {
@@ -134,8 +158,12 @@ pub(crate) fn put_stimulus(page: &mut Page, at: usize, stimulus: &Stimulus) -> u
 /// Puts the words of an input.
 // Most inputs are ticks, whose words are soon written: a call would cost half as much again.
 #[inline(always)]
-pub(crate) fn put_input(page: &mut Page, at: usize, input: &Input) -> usize
-    requires { at + entry_line_limit ≤ 4096 }
+pub(crate) fn put_input<const CAPACITY: usize>(
+    page: &mut Page<CAPACITY>,
+    at: usize,
+    input: &Input,
+) -> usize
+    requires { at + entry_line_limit ≤ CAPACITY }
     ensures { Puts page.old.bytes page.new.bytes at result entry_line_limit (blanked (entry_words (Made.Input input.now))) }
 {
     match input {
@@ -149,8 +177,12 @@ pub(crate) fn put_input(page: &mut Page, at: usize, input: &Input) -> usize
 
 /// As `put_input`, of bytes.
 #[inline(never)]
-fn put_bytes_input(page: &mut Page, at: usize, input: &Input) -> usize
-    requires { at + entry_line_limit ≤ 4096 }
+fn put_bytes_input<const CAPACITY: usize>(
+    page: &mut Page<CAPACITY>,
+    at: usize,
+    input: &Input,
+) -> usize
+    requires { at + entry_line_limit ≤ CAPACITY }
     ensures { Puts page.old.bytes page.new.bytes at result entry_line_limit (blanked (entry_words (Made.Input input.now))) }
 {
     match input {
@@ -170,8 +202,12 @@ fn put_bytes_input(page: &mut Page, at: usize, input: &Input) -> usize
 }
 
 /// Puts the words of a note.
-pub(crate) fn put_note(page: &mut Page, at: usize, note: &Note) -> usize
-    requires { at + entry_line_limit ≤ 4096 }
+pub(crate) fn put_note<const CAPACITY: usize>(
+    page: &mut Page<CAPACITY>,
+    at: usize,
+    note: &Note,
+) -> usize
+    requires { at + entry_line_limit ≤ CAPACITY }
     ensures { Puts page.old.bytes page.new.bytes at result entry_line_limit (blanked (entry_words (Made.Note note.now))) }
 {
     match note {

@@ -1,9 +1,16 @@
+use Rattle.std.proofs.Common.{rules, arith}
 use Rattle.mote_text.proofs.Blanked.{entry_ended, entry_is_some}
 use Rattle.mote_text.proofs.Common.{Entry}
 use Rattle.mote_text.proofs.transcript.put_note_line.Goals as goal
 
-pub end_line-requires-clause-some : goal.end_line-requires-clause-some
-end_line-requires-clause-some c = entry_is_some (Entry.Note c.args.note.now) _ c.put_note-end.new.page.bytes c.put_note-end.new.page.bytes _ _ _ c.put_note-end.ensures
+pub end_line-requires : goal.end_line-requires
+end_line-requires g c = (
+  search rules,
+  (
+    entry_is_some (Entry.Note c.args.note.now) _ c.put_note-end.new.page.bytes c.put_note-end.new.page.bytes _ _ _ c.put_note-end.ensures,
+    omega (arith, c.put_note-end.ensures.few, c.requires),
+  ),
+)
 
 pub returns : goal.returns
-returns c = entry_ended (Entry.Note c.args.note.now) _ c.put_note-end.new.page.bytes _ _ _ _ c.end_line.ensures.size c.end_line.ensures.line c.put_note-end.ensures
+returns g c = entry_ended (Entry.Note c.args.note.now) _ c.put_note-end.new.page.bytes _ _ _ _ c.end_line.ensures.size c.end_line.ensures.line c.put_note-end.ensures

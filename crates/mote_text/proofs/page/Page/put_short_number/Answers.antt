@@ -4,7 +4,7 @@ use Rattle.mote_text.proofs.SmallNumbers.{with_last_digits}
 use Rattle.mote_text.proofs.page.Page.put_short_number.Goals as goal
 
 pub returns : goal.returns
-returns c =
+returns g c =
     let n = c.args.n in
     let before = take c.args.at c.args.self.now.bytes in
     let last = (48 + n % 100 / 10) ∷ (48 + n % 100 % 10) ∷ 32 ∷ [] in

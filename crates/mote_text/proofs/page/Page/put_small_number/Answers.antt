@@ -1,15 +1,20 @@
-use Rattle.std.proofs.Common.{arith, ap, sym, ◌∙◌, ◌++◌, take, decimal}
+use Rattle.std.proofs.Common.{rules, arith, ap, sym, ◌∙◌, ◌++◌, take, decimal}
 use Rattle.std.proofs.lemmas.List.{take-take}
 use Rattle.mote_text.proofs.Blanked.{blanked_one}
 use Rattle.mote_text.proofs.SmallNumbers.{narrow}
 use Rattle.mote_text.proofs.page.Page.put_small_number.Goals as goal
 
-pub put_block-requires-clause-few : goal.put_block-requires-clause-few
-put_block-requires-clause-few c =
-    omega (arith, narrow c.args.n (omega arith), (c.small_numbers-numbers.ensures.numbers c.args.n (omega arith)).1)
+pub put_block-requires : goal.put_block-requires
+put_block-requires g c = (
+  search rules,
+  (
+    omega (arith, narrow c.args.n (omega arith), (c.small_numbers-numbers.ensures.numbers c.args.n (omega arith)).1),
+    (search rules, search rules),
+  ),
+)
 
 pub returns : goal.returns
-returns c =
+returns g c =
     let few = narrow c.args.n (omega arith) in
     let number = c.small_numbers-numbers.ensures.numbers c.args.n (omega arith) in
     record {

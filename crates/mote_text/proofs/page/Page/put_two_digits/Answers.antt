@@ -4,7 +4,7 @@ use Rattle.mote_text.proofs.SmallNumbers.{last_digits_in}
 use Rattle.mote_text.proofs.page.Page.put_two_digits.Goals as goal
 
 pub returns : goal.returns
-returns c = record {
+returns g c = record {
   text =
       c.put_block.ensures.text
       ∙ ap (λ text. take c.args.at c.args.self.now.bytes ++ text) (

@@ -1,5 +1,5 @@
 use Rattle.mote_text.proofs.Writing.{prefix_written, writes_lost}
-use Rattle.mote_text.proofs.output_buffer.OutputBuffer.flush.Goals as goal
+use Rattle.mote_text.proofs.output_buffer.TextBuffer.flush.Goals as goal
 
 pub returns-in_err-write_all-clause-writes : goal.returns-in_err-write_all-clause-writes
 returns-in_err-write_all-clause-writes g c = λ named.

@@ -1,5 +1,5 @@
 use Rattle.mote_text.proofs.Writing.{writes_lost}
-use Rattle.mote_text.proofs.output_buffer.OutputBuffer.make_room.Goals as goal
+use Rattle.mote_text.proofs.output_buffer.TextBuffer.make_room.Goals as goal
 
 pub returns-in_err-flush-clause-writes : goal.returns-in_err-flush-clause-writes
 returns-in_err-flush-clause-writes g c = λ named.
