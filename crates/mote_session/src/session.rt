@@ -2,7 +2,7 @@
 
 ghost use Rattle.std.specs.Prelude.{◌≡◌, ◌≢◌, ◌≤◌, ◌+◌, ◌^◌, ◌++◌, ◌↔◌, ◌||◌, None, Some, nat_le, nat_lt, not, false, true, is_some, IfErr, IfOk, IfSome, IfNone, IsErrOf, IsSomeAnd};
 ghost use Rattle.mote_text.specs.EntryText.{entry_line};
-ghost use Rattle.mote_text.specs.Code.Appending.{HasRoom};
+ghost use Rattle.mote_text.specs.Code.Appending.{HasRoomOf};
 ghost use Rattle.mote_text.specs.Code.EntryLines.{entry_line_limit};
 ghost use Rattle.mote_text.specs.Script.{read_line};
 ghost use Rattle.mote_types.specs.declared.entry.Entry.{Entry as Made};
@@ -35,7 +35,7 @@ use kernel_core::config::Config;
 use kernel_core::step::StepOutcome;
 use kernel_core::turn::Turn;
 use mote_text::hex_digits::DigitValues;
-use mote_text::output_buffer::OutputBuffer;
+use mote_text::output_buffer::TextBuffer;
 use mote_text::script::{BadLine, read_input_by};
 use mote_text::transcript::{is_shown, is_turn_shown, push_entry, push_turn_line};
 use mote_types::call::Call;
@@ -679,8 +679,11 @@ impl Session {
     /// # Errors
     ///
     /// `NoLine` exactly where no entry was made, or the last turn awaits its call.
-    pub fn push_line(&self, line: &mut OutputBuffer) -> Result<(), SessionRefusal>
-        requires { HasRoom line.old entry_line_limit }
+    pub fn push_line<const CAPACITY: usize>(
+        &self,
+        line: &mut TextBuffer<CAPACITY>,
+    ) -> Result<(), SessionRefusal>
+        requires { HasRoomOf CAPACITY line.old entry_line_limit }
         ensures pushed { IfOk result (λ _. IsSomeAnd self.now.last (λ entry. line.new.items ≡ line.old.items ++ entry_line entry)) }
         ensures refused { IfErr result (λ refusal. (refusal ≡ SessionRefusal.NoLine) × (self.now.last ≡ None) × (line.new ≡ line.old)) }
     {
