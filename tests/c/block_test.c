@@ -63,7 +63,7 @@ check_sizes(void)
     check("and no fewer", try_room(MARGIN + gap, used + 15 - gap, &sizes) == TOARMUTS_OUT_OF_MEMORY);
   }
   check("a larger memory", try_room(MARGIN, ROOM, &large) == TOARMUTS_DONE && toarmuts_block_used() - used == large.mmem - sizes.mmem);
-  check("a quiet mote has no room for a line", try_room(MARGIN, ROOM, &quiet) == TOARMUTS_DONE && used - toarmuts_block_used() > 4096);
+  check("a quiet mote has no room for a line", try_room(MARGIN, ROOM, &quiet) == TOARMUTS_DONE && used - toarmuts_block_used() > 640);
   check("there is no block after it", toarmuts_open(&sizes, APPLICATIONS, &mote) == TOARMUTS_OUT_OF_MEMORY);
 }
 

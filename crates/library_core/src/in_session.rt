@@ -8,12 +8,11 @@ ghost use Rattle.mote_text.specs.Script.{read_line};
 ghost use Rattle.library_core.specs.Steps.{GoesNext, HasSent, IsLastLine, TakesCall, TakesInput, TakesScriptLine, TellsTurn, due_status_of, submit_status_of, line_status_of, next_status_of, sent_status_of, status_if, step_number};
 
 use crate::call::PlainCall;
-use crate::open_mote::OpenMote;
+use crate::open_mote::{LineRoom, OpenMote};
 use crate::status::{DONE, NO_CALL, NO_FRAME, NO_ROOM, NO_TIMER, NO_TURN, refusal_status};
 use crate::tick_line::ticks_said;
 use crate::turn::PlainTurn;
 use mote_session::session::{Next, Session};
-use mote_text::output_buffer::OutputBuffer;
 use mote_types::call::Call;
 use mote_types::entry::Input;
 
@@ -164,7 +163,7 @@ pub fn put_sent(session: &Session, bytes: &mut [u8], length: &mut usize) -> u32
 /// Puts the line of a session's last entry, without its end, to the front of the buffer. The line is made in `text`.
 fn put_entry_line(
     session: &Session,
-    text: &mut OutputBuffer,
+    text: &mut LineRoom,
     line: &mut [u8],
     length: &mut usize,
 ) -> u32
@@ -195,7 +194,7 @@ fn put_quiet_line(session: &Session, line: &mut [u8], length: &mut usize) -> u32
     ensures no_line { result ≢ 0 → line.new ≡ line.old }
     ensures no_length { result ≢ 0 → result ≢ 20 → length.new ≡ length.old }
 {
-    put_entry_line(session, &mut OutputBuffer::new(), line, length)
+    put_entry_line(session, &mut LineRoom::new(), line, length)
 }
 
 /// Puts the line of the last entry, without its end, to the front of the buffer.

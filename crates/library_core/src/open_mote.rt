@@ -7,17 +7,20 @@ ghost use Rattle.library_core.specs.Steps.{IsOpened};
 use kernel_core::awaiting_kernel::AwaitingKernel;
 use mote_session::session::Session;
 use mote_session::{BootFault, Config};
-use mote_text::output_buffer::OutputBuffer;
+use mote_text::output_buffer::{MOST_OF_LINE, TextBuffer};
 use mote_types::event::MOST_APPLICATIONS;
 use node_memory::Sizes;
 use std::alloc::{AllocError, Global};
+
+/// Room for a line of a transcript.
+pub type LineRoom = TextBuffer<MOST_OF_LINE>;
 
 /// A session, and room for a line of its transcript.
 #[derive(Drop)]
 pub struct OpenMote {
     pub session: Session,
     /// None in a quiet mote.
-    pub line: Option<Box<OutputBuffer>>,
+    pub line: Option<Box<LineRoom>>,
 }
 
 /// Whether a mote boots with this configuration.
@@ -37,15 +40,15 @@ fn can_boot(config: &Config) -> bool
 
 /// Room for a line, on the heap.
 #[inline(never)]
-fn line_on_heap(alloc: Global) -> Result<Box<OutputBuffer>, AllocError> {
-    match Box::new(alloc, OutputBuffer::new()) {
+fn line_on_heap(alloc: Global) -> Result<Box<LineRoom>, AllocError> {
+    match Box::new(alloc, LineRoom::new()) {
         Ok(line) => Ok(line),
         Err(_) => Err(AllocError),
     }
 }
 
 /// The same, where the mote isn't quiet.
-fn room_for_line(alloc: Global, is_quiet: bool) -> Result<Option<Box<OutputBuffer>>, AllocError> {
+fn room_for_line(alloc: Global, is_quiet: bool) -> Result<Option<Box<LineRoom>>, AllocError> {
     if is_quiet {
         return Ok(None);
     }
@@ -61,7 +64,7 @@ fn held(
     alloc: Global,
     config: Config,
     kernel: AwaitingKernel,
-    line: Option<Box<OutputBuffer>>,
+    line: Option<Box<LineRoom>>,
 ) -> Result<Box<OpenMote>, BootFault>
     requires machine { kernel.mote.machine ≡ booted config }
     requires inputs { kernel.mote.inputs ≡ 0 }
