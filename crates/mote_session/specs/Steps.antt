@@ -73,6 +73,11 @@ pub record IsSubmitted (call : Call) (old new : SessionView) : Type 0 where
   pub closed : new.turn ≡ None
   pub left : new.entries_left ≤ old.entries_left + 1
 
+-- the call that was said is executed. Without one nothing happens
+abbrev pub IsSubmittedIfSaid : Option Call → SessionView → SessionView → Type 0
+IsSubmittedIfSaid None old new = new ≡ old
+IsSubmittedIfSaid (Some call) old new = IsSubmitted call old new × HasSameInputs old new
+
 -- an input is fed at rest
 pub record IsFed (input : Input) (old new : SessionView) : Type 0 where
   pub machine : new.machine ≡ fed input old.machine

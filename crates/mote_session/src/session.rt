@@ -5,6 +5,7 @@ ghost use Rattle.mote_text.specs.EntryText.{entry_line};
 ghost use Rattle.mote_text.specs.Code.Appending.{HasRoomOf};
 ghost use Rattle.mote_text.specs.Code.EntryLines.{entry_line_limit};
 ghost use Rattle.mote_text.specs.Script.{read_line};
+ghost use Rattle.mote_types.specs.declared.call.Call.{Call as Spoken};
 ghost use Rattle.mote_types.specs.declared.entry.Entry.{Entry as Made};
 ghost use Rattle.mote_types.specs.declared.entry.Input.{Input as Handed};
 ghost use Rattle.kernel_core.specs.Calls.{after_call};
@@ -23,8 +24,9 @@ ghost use Rattle.mote_session.specs.History.{History, at_boot, with_call, with_i
 ghost use Rattle.mote_session.specs.Refusals.{clock_limit, input_limit, input_refusal, is_input, line_refusal, unfit, unrest};
 ghost use Rattle.mote_session.specs.SessionRuns.{IsHistoryOf, KeepsPromise};
 ghost use Rattle.mote_session.specs.SessionView.{rests};
-ghost use Rattle.mote_session.specs.Steps.{Advances, HasSameInputs, IsSubmitted, IsFed, TakesLine, with_made};
+ghost use Rattle.mote_session.specs.Steps.{Advances, HasSameInputs, IsSubmitted, IsSubmittedIfSaid, IsFed, TakesLine, with_made};
 
+use crate::call_source::CallSource;
 use crate::caller::Caller;
 use crate::last_entry::LastEntry;
 use crate::laws::{histories_go_on, histories_keep_promise};
@@ -139,6 +141,34 @@ fn submit_in(kernel: &mut AwaitingKernel, turn: &mut Turn, pid: Pid, call: Call)
 {
     turn.call = call;
     kernel.submit(pid, &turn.call);
+}
+
+/// Has the source put its call into the turn that awaits it, and executes it. Returns whether it says one: if not, the call still
+/// waits to be put there.
+#[inline(always)]
+fn submit_from_in<S: CallSource>(
+    kernel: &mut AwaitingKernel,
+    turn: &mut Turn,
+    last: &mut LastEntry,
+    pid: Pid,
+    source: &S,
+) -> bool
+    requires open { kernel.old.turn ≡ Some pid }
+    requires process { turn.old.pid ≡ pid }
+    ensures is_said { result ≡ is_some (S.said source.now) }
+    ensures submitted { result ≡ true → (taken working : Taken) (other : Made) → IsSubmittedIfSaid (S.said source.now)
+        (session_view kernel.old turn.old taken other last.old) (session_view kernel.new working turn.new other last.new) }
+    ensures unsaid { result ≡ false → (kernel.new ≡ kernel.old) × (last.new ≡ last.old) }
+    ensures turn { turn.new ≡ record turn.old { call = turn.new.call } }
+    ensures closed { result ≡ true → kernel.new.turn ≡ None }
+{
+    let call = &mut turn.call;
+    if !source.put_call(call) {
+        return false;
+    }
+    kernel.submit(pid, call);
+    *last = LastEntry::Turn;
+    true
 }
 
 /// Has the caller put a call into the turn that awaits it, and executes it.
@@ -361,6 +391,57 @@ impl Session {
         }
         self.works_in_odd = !self.works_in_odd;
         self.last = LastEntry::Turn;
+    }
+
+    /// Submits the call that `source` says as `submit`, if it says one. Returns whether it does: if not, nothing has changed. The call is
+    /// put where its turn awaits it.
+    ///
+    /// # Errors
+    ///
+    /// `NoTurn` exactly where no turn awaits a call.
+    pub fn submit_from<S: CallSource>(&mut self, source: &S) -> Result<bool, SessionRefusal>
+        ensures is_said { IfOk result (λ is_said. is_said ≡ is_some (S.said source.now)) }
+        ensures submitted { IfOk result (λ _. IsSubmittedIfSaid (S.said source.now) self.old self.new) }
+        ensures awaited { IfOk result (λ _. self.old.turn ≢ None) }
+        ensures history { IfOk result (λ _. (call : Spoken) → S.said source.now ≡ Some call → (history : History) → IsHistoryOf history self.old →
+            KeepsPromise (with_call self.old.turn call history) self.new) }
+        ensures refused { IfErr result (λ refusal. (refusal ≡ SessionRefusal.NoTurn) × (self.old.turn ≡ None) × (self.new ≡ self.old)) }
+    {
+        histories_go_on();
+        histories_keep_promise();
+        let Some(pid) = self.kernel.turn() else {
+            return Err(SessionRefusal::NoTurn);
+        };
+        Ok(self.end_turn_from(pid, source))
+    }
+
+    /// Executes the call that the source says, if it says one, for the application whose turn it is.
+    fn end_turn_from<S: CallSource>(&mut self, pid: Pid, source: &S) -> bool
+        requires { IsSomeAnd self.old.turn (λ turn. turn.process ≡ pid) }
+        ensures is_said { result ≡ is_some (S.said source.now) }
+        ensures submitted { IsSubmittedIfSaid (S.said source.now) self.old self.new }
+    {
+        if self.works_in_odd {
+            let is_said = submit_from_in(
+                &mut self.kernel,
+                &mut self.odd,
+                &mut self.last,
+                pid,
+                source,
+            );
+            self.works_in_odd = !is_said;
+            is_said
+        } else {
+            let is_said = submit_from_in(
+                &mut self.kernel,
+                &mut self.even,
+                &mut self.last,
+                pid,
+                source,
+            );
+            self.works_in_odd = is_said;
+            is_said
+        }
     }
 
     /// Works as `next`, and has `caller`, which knows this mote by the number `mote`, make the call of an application that must take a

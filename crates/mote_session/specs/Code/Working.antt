@@ -1,5 +1,4 @@
 -- What a session does whose caller makes the calls at once.
-use Rattle.std.specs.Prelude.{◌≡◌}
 use Rattle.mote_types.specs.declared.call.Call.{Call}
 use Rattle.mote_session.specs.SessionView.{SessionView}
 use Rattle.mote_session.specs.Steps.{Advances, HasSameInputs, IsSubmitted}
