@@ -5,6 +5,7 @@ pub mod Rows
 mod AlarmExamples
 mod Examples
 pub mod Steady
+pub mod Submitting
 pub mod Working
 pub mod WorkingBy
 pub mod Due

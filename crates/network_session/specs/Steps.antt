@@ -85,6 +85,11 @@ pub record IsNetworkSubmitted (call : Call) (old new : NetworkView) : Type 0 whe
   pub submitted : SubmittedIn m call old.motes new.motes
   pub result : new ≡ record old { motes = new.motes }
 
+-- the call that was said is executed. Without one nothing happens
+abbrev pub IsNetworkSubmittedIfSaid : Option Call → NetworkView → NetworkView → Type 0
+IsNetworkSubmittedIfSaid None old new = new ≡ old
+IsNetworkSubmittedIfSaid (Some call) old new = IsNetworkSubmitted call old new
+
 -- a mote gets an input from outside
 pub record IsNetworkFed (m : ℕ) (input : Input) (old new : NetworkView) : Type 0 where
   pub was_active : old.active ≡ None

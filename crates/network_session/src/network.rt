@@ -6,11 +6,11 @@ ghost use Rattle.network_session.specs.Refusals.{catch_up_refusal, feed_refusal,
 ghost use Rattle.network_session.specs.Schedule.{arriving, due_now, due_step, is_rest, passing};
 ghost use Rattle.network_session.specs.declared.fault.NetworkBootFault.{NetworkBootFault};
 ghost use Rattle.network_session.specs.declared.outcome.Outcome.TheVariants.{Woken};
-ghost use Rattle.network_session.specs.Steps.{SubmittedIn, HandedIn, IsNetworkSubmitted, IsNetworkFed, IsToldTime, Steps, WorkedIn, aired_if, is_work};
+ghost use Rattle.network_session.specs.Steps.{SubmittedIn, HandedIn, IsNetworkSubmitted, IsNetworkSubmittedIfSaid, IsNetworkFed, IsToldTime, Steps, WorkedIn, aired_if, is_work};
 ghost use Rattle.network_session.specs.Code.Measures.{left_at_work, most_left_at_work};
 ghost use Rattle.network_session.specs.Code.Wakes.{IsSteady};
 ghost use Rattle.mote_session.specs.Code.Speaking.{SpeaksBy};
-ghost use Rattle.network_session.specs.Code.Working.{Works, WorksIn};
+ghost use Rattle.network_session.specs.Code.Working.{SubmittedIfSaidIn, Works, WorksIn};
 ghost use Rattle.kernel_core.specs.Code.Conditions.{ticks_of};
 ghost use Rattle.network_session.specs.Waking.{due_tick, wake};
 ghost use Rattle.network_session.specs.declared.fault.NetworkFault.{NetworkFault};
@@ -31,6 +31,7 @@ use arrayvec::ArrayVec;
 use medium_core::fault::MediumFault;
 use medium_core::link::Link;
 use medium_core::medium::Medium;
+use mote_session::call_source::CallSource;
 use mote_session::caller::Caller;
 use mote_session::session::{Next, Session};
 use mote_types::call::Call;
@@ -123,6 +124,25 @@ fn submit_in(motes: &mut Vec<Session>, m: usize, call: Call) -> Result<(), Netwo
 {
     match motes[m].submit(call) {
         Ok(()) => Ok(()),
+        Err(refusal) => Err(NetworkFault::Refused(refusal)),
+    }
+}
+
+/// Answers one mote by the call that the source says, if it says one.
+fn submit_from_in<S: CallSource>(
+    motes: &mut Vec<Session>,
+    m: usize,
+    source: &S,
+) -> Result<bool, NetworkFault>
+    requires { m < length motes.old.items }
+    ensures is_said { IfOk result (λ is_said. is_said ≡ is_some (S.said source.now)) }
+    ensures submitted { IfOk result (λ _. SubmittedIfSaidIn m (S.said source.now) motes.old.items motes.new.items) }
+    ensures accepted { IfOk result (λ _. (mote : SessionView) → slice_get motes.old.items m ≡ Some mote → mote.turn ≢ None) }
+    ensures refused { IfErr result (λ _. motes.new.items ≡ motes.old.items) }
+    ensures why { IfErr result (λ fault. (fault ≡ NetworkFault.Refused SessionRefusal.NoTurn) × ((mote : SessionView) → slice_get motes.old.items m ≡ Some mote → mote.turn ≡ None)) }
+{
+    match motes[m].submit_from(source) {
+        Ok(is_said) => Ok(is_said),
         Err(refusal) => Err(NetworkFault::Refused(refusal)),
     }
 }
@@ -494,6 +514,26 @@ impl Network {
             Some(m) => {
                 submit_in(&mut self.motes, m, call)?;
                 Ok(())
+            }
+            None => Err(NetworkFault::NoTurn),
+        }
+    }
+
+    /// Answers as `submit` by the call that `source` says, if it says one. Returns whether it does: if not, nothing has changed.
+    ///
+    /// # Errors
+    ///
+    /// `NoTurn` or `Refused(NoTurn)` where no turn awaits a call.
+    pub fn submit_from<S: CallSource>(&mut self, source: &S) -> Result<bool, NetworkFault>
+        ensures is_said { IfOk result (λ is_said. is_said ≡ is_some (S.said source.now)) }
+        ensures submitted { IfOk result (λ _. IsNetworkSubmittedIfSaid (S.said source.now) self.old self.new) }
+        ensures accepted { IfOk result (λ _. submit_refusal self.old ≡ None) }
+        ensures refused { IfErr result (λ fault. (submit_refusal self.old ≡ Some fault) × (self.new ≡ self.old)) }
+    {
+        match self.active {
+            Some(m) => {
+                let is_said = submit_from_in(&mut self.motes, m, source)?;
+                Ok(is_said)
             }
             None => Err(NetworkFault::NoTurn),
         }

@@ -1,5 +1,5 @@
--- What the mote at work does whose caller makes the calls at once.
-use Rattle.std.specs.Prelude.{ℕ, List}
+-- What the mote at work does whose caller makes the calls at once, or says them.
+use Rattle.std.specs.Prelude.{◌≡◌, ℕ, List, Option, None, Some}
 use Rattle.mote_types.specs.declared.call.Call.{Call}
 use Rattle.mote_session.specs.SessionView.{SessionView}
 use Rattle.mote_session.specs.declared.session.Next.{Next}
@@ -28,3 +28,8 @@ pub record TakesTurn (m : ℕ) (old new : NetworkView) : Type 0 where
 abbrev pub Works : ℕ → Next → NetworkView → NetworkView → Type 0
 Works m Next.Turn old new = TakesTurn m old new
 Works m next old new = Worked m next old new
+
+-- the call that was said is submitted for one mote. Without one nothing happens
+abbrev pub SubmittedIfSaidIn : ℕ → Option Call → List SessionView → List SessionView → Type 0
+SubmittedIfSaidIn m None old new = new ≡ old
+SubmittedIfSaidIn m (Some call) old new = SubmittedIn m call old new
