@@ -8,3 +8,4 @@ mod StepExamples
 mod TurnExamples
 pub mod Handles
 pub mod NetworkHandles
+pub mod Submitting

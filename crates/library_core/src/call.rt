@@ -5,6 +5,7 @@ ghost use Rattle.library_core.specs.Calls.{byte_at, call_said, chunk_of, number_
 
 use crate::kind;
 use arrayvec::ArrayVec;
+use mote_session::call_source::CallSource;
 use mote_types::call::Call;
 use mote_types::event::Payload;
 use mote_types::reply::Chunk;
@@ -255,5 +256,15 @@ impl PlainCall {
             Some(()) => Some(call),
             None => None,
         }
+    }
+}
+
+impl CallSource for PlainCall {
+    ghost use Rattle.library_core.specs.Calls.{call_said};
+
+    ghost said = { call_said };
+
+    fn put_call(&self, call: &mut Call) -> bool {
+        self.put(call).is_some()
     }
 }

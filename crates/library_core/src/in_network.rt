@@ -17,13 +17,12 @@ use crate::call::PlainCall;
 use crate::in_session::{put_due, put_line};
 use crate::open_network::OpenNetwork;
 use crate::plain_network::{Happening, NetworkMote, NetworkSizes, happening_of, place_of};
-use crate::status::{DONE, NO_CALL, NO_LINE, NO_TURN, fault_status};
+use crate::status::{DONE, NO_CALL, NO_LINE, fault_status};
 use crate::turn::PlainTurn;
 use medium_core::link::Link;
 use mote_session::session::Session;
 use mote_session::{BootFault, Config};
 use mote_text::output_buffer::OutputBuffer;
-use mote_types::call::Call;
 use mote_types::entry::Input;
 use mote_types::event::MOST_APPLICATIONS;
 use network_steps::steps::NetworkSteps;
@@ -192,15 +191,9 @@ pub fn submit_call(steps: &mut NetworkSteps, plain: &PlainCall) -> u32
     ensures taken { result ≡ 0 → NetworkTakesCall plain.now steps.old steps.new }
     ensures unchanged { result ≢ 0 → steps.new ≡ steps.old }
 {
-    if steps.turn().is_none() {
-        return NO_TURN;
-    }
-    let mut call = Call::Wait;
-    if plain.put(&mut call).is_none() {
-        return NO_CALL;
-    }
-    match steps.submit(call) {
-        Ok(()) => DONE,
+    match steps.submit_from(plain) {
+        Ok(true) => DONE,
+        Ok(false) => NO_CALL,
         Err(fault) => fault_status(fault),
     }
 }

@@ -9,11 +9,10 @@ ghost use Rattle.library_core.specs.Steps.{GoesNext, HasSent, IsLastLine, TakesC
 
 use crate::call::PlainCall;
 use crate::open_mote::{LineRoom, OpenMote};
-use crate::status::{DONE, NO_CALL, NO_FRAME, NO_ROOM, NO_TIMER, NO_TURN, refusal_status};
+use crate::status::{DONE, NO_CALL, NO_FRAME, NO_ROOM, NO_TIMER, refusal_status};
 use crate::tick_line::ticks_said;
 use crate::turn::PlainTurn;
 use mote_session::session::{Next, Session};
-use mote_types::call::Call;
 use mote_types::entry::Input;
 
 /// Feeds the input of a line of a script.
@@ -106,15 +105,9 @@ pub fn take_call(session: &mut Session, plain: &PlainCall) -> u32
     ensures taken { result ≡ 0 → TakesCall plain.now session.old session.new }
     ensures unchanged { result ≢ 0 → session.new ≡ session.old }
 {
-    if session.turn().is_none() {
-        return NO_TURN;
-    }
-    let mut call = Call::Wait;
-    if plain.put(&mut call).is_none() {
-        return NO_CALL;
-    }
-    match session.submit(call) {
-        Ok(()) => DONE,
+    match session.submit_from(plain) {
+        Ok(true) => DONE,
+        Ok(false) => NO_CALL,
         Err(refusal) => refusal_status(refusal),
     }
 }

@@ -4,7 +4,7 @@ ghost use Rattle.std.specs.Prelude.{◌≡◌, ◌≢◌, ◌<◌, ◌+◌, ◌+
 ghost use Rattle.medium_core.specs.Code.Airs.{link_lists};
 ghost use Rattle.mote_session.specs.SessionView.{SessionView};
 ghost use Rattle.mote_session.specs.Voices.{Voices};
-ghost use Rattle.network_session.specs.Steps.{IsNetworkSubmitted};
+ghost use Rattle.network_session.specs.Steps.{IsNetworkSubmitted, IsNetworkSubmittedIfSaid};
 ghost use Rattle.timer_core.specs.Deadlines.{next_deadline};
 ghost use Rattle.network_steps.specs.Lines.{came_line, is_loss, loss_line, losses_left};
 ghost use Rattle.network_steps.specs.Refusals.{awaited_turn, due_refusal, feed_refusal, is_from_outside, link_refusal, submit_refusal, tick_refusal, told_refusal, unrest};
@@ -25,6 +25,7 @@ use crate::fates::next_fate;
 use crate::fault::{StepsFault, fault_of};
 use crate::giving::{give_input, give_time};
 use medium_core::link::Link;
+use mote_session::call_source::CallSource;
 use mote_session::caller::Caller;
 use mote_session::refusal::SessionRefusal;
 use mote_session::session::{Next, OpenTurn, Session};
@@ -443,6 +444,23 @@ impl NetworkSteps {
     {
         match self.network.submit(call) {
             Ok(()) => Ok(()),
+            Err(fault) => Err(fault_of(fault)),
+        }
+    }
+
+    /// Submits the call that `source` says as `submit`, if it says one. Returns whether it does: if not, nothing has changed.
+    ///
+    /// # Errors
+    ///
+    /// `Refused(NoTurn)` where no turn awaits a call.
+    pub fn submit_from<S: CallSource>(&mut self, source: &S) -> Result<bool, StepsFault>
+        ensures is_said { IfOk result (λ is_said. is_said ≡ is_some (S.said source.now)) }
+        ensures submitted { IfOk result (λ _. IsNetworkSubmittedIfSaid (S.said source.now) self.old.net self.new.net × (self.new ≡ record self.old { net = self.new.net })) }
+        ensures accepted { IfOk result (λ _. submit_refusal self.old ≡ None) }
+        ensures refused { IfErr result (λ fault. (submit_refusal self.old ≡ Some fault) × (self.new ≡ self.old)) }
+    {
+        match self.network.submit_from(source) {
+            Ok(is_said) => Ok(is_said),
             Err(fault) => Err(fault_of(fault)),
         }
     }
