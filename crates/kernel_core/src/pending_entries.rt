@@ -16,6 +16,15 @@ use mote_types::entry::{Entry, Input, Note};
 use mote_types::refusal::Refusal;
 use std::marker::Model;
 
+/// Writes the entry of a tick into a buffer, which has something else.
+// Functions of their own, here and below: what they have room for is cleared at their entry.
+#[inline(never)]
+fn write_tick(made: &mut Entry, ticks: u32)
+    ensures { made.new ≡ Made.Input (Handed.Tick ticks) }
+{
+    *made = Entry::Input(Input::Tick(ticks));
+}
+
 /// Writes the entry of a tick into a buffer.
 fn put_tick(made: &mut Entry, ticks: u32)
     ensures { made.new ≡ Made.Input (Handed.Tick ticks) }
@@ -28,7 +37,6 @@ fn put_tick(made: &mut Entry, ticks: u32)
 }
 
 /// Writes the entry of a sent frame into a buffer, which has something else.
-// Functions of their own, here and below: what they have room for is cleared at their entry.
 #[inline(never)]
 fn write_sent(made: &mut Entry, bytes: &[u8])
     requires { length bytes.now ≤ 127 }
