@@ -1,0 +1,2 @@
+-- What the code keeps, which no promise names.
+pub mod Parts

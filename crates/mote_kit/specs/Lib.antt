@@ -1,0 +1,3 @@
+pub mod Gaps
+-- The code's invariants.
+pub mod Code
