@@ -1,3 +1,4 @@
 pub mod Gaps
+pub mod Outcomes
 -- The code's invariants.
 pub mod Code

@@ -1,5 +1,10 @@
 //! Compares the result of a run with what its file says.
 
+ghost use Rattle.std.specs.Prelude.{◌≡◌, ◌≢◌, ◌↔◌, true, false, string_bytes, IfOk};
+ghost use Rattle.std.specs.Str.Lines.{lines};
+ghost use Rattle.mote_kit.specs.Gaps.{Fits, texts};
+ghost use Rattle.mote_kit.specs.Outcomes.{EndsAsSaid, HasTranscript};
+
 use crate::changes::changes;
 use crate::difference::compare;
 use crate::gaps::fits;
@@ -16,7 +21,10 @@ pub fn comes_out<R: AllocGlobal + Print>(
     run: &WrittenRun<'_>,
     outcome: &Outcome,
     reports_all: bool,
-) -> io::Result<bool> {
+) -> io::Result<bool>
+    ensures same { IfOk result (λ same. same ≡ true →
+        (EndsAsSaid run.now.said_end outcome.now) × HasTranscript (string_bytes run.now.transcript) outcome.now.transcript.items) }
+{
     let is_same = outcome.ended_as_said(run);
     if !is_same {
         println!(rt;
@@ -36,7 +44,10 @@ fn compare_texts<R: AllocGlobal + Print>(
     run: &WrittenRun<'_>,
     outcome: &Outcome,
     reports_all: bool,
-) -> io::Result<bool> {
+) -> io::Result<bool>
+    ensures same { IfOk result (λ same. same ≡ true → HasTranscript (string_bytes run.now.transcript) outcome.now.transcript.items) }
+    ensures differs { IfOk result (λ same. same ≡ false → string_bytes run.now.transcript ≢ outcome.now.transcript.items) }
+{
     match compare(run.transcript().as_bytes(), outcome.transcript.as_slice()) {
         Ok(()) => Ok(true),
         Err(difference) if !run.has_gaps() && !reports_all => {
@@ -59,7 +70,9 @@ fn compare_lines<'x, R: AllocGlobal + Print>(
     wanted: &'x [&'x str],
     found: &'x [&'x str],
     reports_all: bool,
-) -> io::Result<bool> {
+) -> io::Result<bool>
+    ensures { IfOk result (λ same. (same ≡ true) ↔ Fits (texts wanted.now) (texts found.now)) }
+{
     if fits(wanted, found) {
         return Ok(true);
     }
@@ -74,21 +87,17 @@ fn compare_lines<'x, R: AllocGlobal + Print>(
 }
 
 /// Whether the transcript is the expected one.
-pub(crate) fn is_shown(
-    alloc: Global,
-    run: &WrittenRun<'_>,
-    found: &str,
-) -> Result<bool, AllocError> {
+pub(crate) fn is_shown(alloc: Global, run: &WrittenRun<'_>, found: &str) -> Result<bool, AllocError>
+    ensures { IfOk result (λ shown. (shown ≡ true) ↔ Fits (lines (string_bytes run.now.transcript)) (lines found.now)) }
+{
     let wanted = lines_of(alloc, run.transcript())?;
     let found = lines_of(alloc, found)?;
     Ok(fits(wanted.as_slice(), found.as_slice()))
 }
 
 /// The lines of a transcript.
-fn lines_of(alloc: Global, text: &str) -> Result<Vec<&str>, AllocError> {
-    let mut lines = Vec::new(alloc);
-    for line in text.lines() {
-        lines.push(line)?;
-    }
-    Ok(lines)
+fn lines_of(alloc: Global, text: &str) -> Result<Vec<&str>, AllocError>
+    ensures { IfOk result (λ all. texts all.items ≡ lines text.now) }
+{
+    text.lines().collect(alloc)
 }

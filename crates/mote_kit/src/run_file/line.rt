@@ -1,6 +1,6 @@
 //! A line of a run.
 
-ghost use Rattle.std.specs.Prelude.{◌≡◌};
+ghost use Rattle.std.specs.Prelude.{◌≡◌, ◌&&◌, get_or, nat_le};
 
 /// A line of a run.
 #[derive(Clone, Copy, Drop)]
@@ -35,6 +35,8 @@ impl<'a> Line<'a> {
 }
 
 /// Whether a text begins with a digit.
-pub fn begins_with_digit(text: &str) -> bool {
+pub fn begins_with_digit(text: &str) -> bool
+    ensures { result ≡ (nat_le 48 (get_or text.now 0 0) && nat_le (get_or text.now 0 0) 57) }
+{
     matches!(text.as_bytes().first(), Some(b'0'..=b'9'))
 }

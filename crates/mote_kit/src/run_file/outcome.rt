@@ -1,6 +1,7 @@
 //! The result of a run.
 
-ghost use Rattle.std.specs.Prelude.{◌≡◌, ◌<◌, ◌-◌, ◌^◌, IfOk};
+ghost use Rattle.std.specs.Prelude.{◌≡◌, ◌<◌, ◌-◌, ◌^◌, ◌↔◌, true, string_bytes, IfOk, IfSome};
+ghost use Rattle.mote_kit.specs.Outcomes.{IsText};
 
 use crate::fault::{BootFault, MoteFault};
 use crate::mote::run_boxes;
@@ -63,12 +64,16 @@ impl Outcome {
     }
 
     /// The transcript as a text.
-    pub(crate) fn text(&self) -> &str {
+    pub(crate) fn text(&self) -> &str
+        ensures { IsText self.now.transcript.items result.now }
+    {
         str::from_utf8(self.transcript.as_slice()).unwrap_or("")
     }
 
     /// Whether the run ended as its file says.
-    pub(crate) fn ended_as_said(&self, run: &WrittenRun<'_>) -> bool {
+    pub(crate) fn ended_as_said(&self, run: &WrittenRun<'_>) -> bool
+        ensures { IfSome run.now.said_end (λ said. (result ≡ true) ↔ (string_bytes self.now.end ≡ said.0.now)) }
+    {
         match run.end() {
             Some(end) => self.end.as_str() == end,
             None => true,

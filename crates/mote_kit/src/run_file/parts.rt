@@ -1,5 +1,7 @@
 //! The runs of a file: where the text of each begins.
 
+ghost use Rattle.std.specs.Prelude.{◌≡◌, ◌≤◌, ◌==◌, ◌+◌, ◌-◌, ◌^◌, filter, length, min, take};
+
 use crate::difference::line_ends;
 use crate::run_file::fault::{Fault, Misread, WordFault};
 use crate::run_file::rule;
@@ -73,7 +75,10 @@ fn line_of(text: &str, rest: &str) -> usize {
 }
 
 /// The number of the line of a file in which a byte is.
-pub fn line_at(bytes: &[u8], offset: usize) -> usize {
+pub fn line_at(bytes: &[u8], offset: usize) -> usize
+    ensures { offset ≤ length bytes.now →
+        result ≡ min (length (filter (λ byte. byte == 10) (take offset bytes.now)) + 1) (2 ^ 64 - 1) }
+{
     let before = bytes.get(..offset).unwrap_or(&[]);
     line_ends(before).saturating_add(1)
 }

@@ -1,6 +1,6 @@
 //! The results of a file's runs, and what is printed of them.
 
-ghost use Rattle.std.specs.Prelude.{◌≡◌, ◌<◌, ◌+◌, ◌-◌, ◌^◌, true, false};
+ghost use Rattle.std.specs.Prelude.{◌≡◌, ◌<◌, ◌+◌, ◌-◌, ◌^◌, ◌==◌, ◌&&◌, true, false, IfOk, OnOk};
 
 use crate::run_file::outcome::Outcome;
 use crate::run_file::parts::Part;
@@ -71,7 +71,11 @@ impl Results {
         program: &str,
         part: Part<'_>,
         outcome: &Outcome,
-    ) -> io::Result<()> {
+    ) -> io::Result<()>
+        ensures ended { OnOk result (outcome.now.has_ended ≡ true → self.new ≡ record self.old { lacks_title = false }) }
+        ensures failed { OnOk result (outcome.now.has_ended ≡ false → self.old.failed < 2 ^ 32 - 1 →
+            self.new ≡ record self.old { lacks_title = false; failed = self.old.failed + 1 }) }
+    {
         if self.lacks_title {
             println!(rt; "# {}", part.path)?;
             self.lacks_title = false;
@@ -88,7 +92,9 @@ impl Results {
     }
 
     /// Prints the number of runs of the file of this path that came out as it says. Returns whether all did.
-    pub fn report<R: Print>(self, rt: &R, path: &str, is_thorough: bool) -> io::Result<bool> {
+    pub fn report<R: Print>(self, rt: &R, path: &str, is_thorough: bool) -> io::Result<bool>
+        ensures { IfOk result (λ all. all ≡ (self.as_expected == self.expected && self.in_pieces == self.cut && self.failed == 0)) }
+    {
         let Results {
             expected,
             as_expected,

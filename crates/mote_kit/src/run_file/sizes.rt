@@ -1,5 +1,9 @@
 //! The sizes that a file states, with the lines that state them.
 
+ghost use Rattle.std.specs.Prelude.{◌≡◌, ◌≤◌, ◌==◌, ◌↔◌, ◌&&◌, ◌*◌, ◌+◌, ◌%◌, None, true, nat_le, unwrap_or};
+ghost use Rattle.kernel_core.specs.Machine.{is_bootable};
+ghost use Rattle.mote_run.specs.Code.Runs.{config_of};
+
 use crate::mote::{DEFAULT_SIZES, Sizes};
 use crate::run_file::fault::{Fault, Misread, WordFault, number_of};
 use crate::run_file::line::Line;
@@ -24,13 +28,21 @@ pub(crate) struct StatedSizes {
 }
 
 /// Whether a size is a multiple of 4 within its bounds.
-fn is_size(size: u32, least: u32) -> bool {
+fn is_size(size: u32, least: u32) -> bool
+    ensures { result ≡ (nat_le least size && nat_le size 65536 && size % 4 == 0) }
+{
     size % 4 == 0 && least <= size && size <= MOST
 }
 
 impl StatedSizes {
     /// The default sizes, of which none is stated.
-    pub(crate) fn new() -> Self {
+    pub(crate) fn new() -> Self
+        ensures sizes { result.sizes ≡ DEFAULT_SIZES }
+        ensures mmem { result.mmem_line ≡ 0 }
+        ensures heap { result.heap_line ≡ 0 }
+        ensures quota { result.quota_line ≡ 0 }
+        ensures header { result.header_line ≡ 0 }
+    {
         StatedSizes {
             sizes: DEFAULT_SIZES,
             mmem_line: 0,
@@ -73,7 +85,9 @@ impl StatedSizes {
     }
 
     /// The line of a size with which no mote with that number of applications boots. Nothing where it boots.
-    pub(crate) fn misread<'a>(&self, applications: usize) -> Option<Misread<'a>> {
+    pub(crate) fn misread<'a>(&self, applications: usize) -> Option<Misread<'a>>
+        ensures { applications ≤ 16 → ((result ≡ None) ↔ (is_bootable (config_of self.now.sizes applications) ≡ true)) }
+    {
         let sizes = self.sizes;
         let quota = sizes.quota.unwrap_or(LEAST_MMEM);
         let (line, fault) = if !is_size(sizes.mmem, LEAST_MMEM) {
@@ -93,7 +107,9 @@ impl StatedSizes {
     }
 
     /// Whether managed memory has a quota for each application and one for the frames.
-    fn has_room_for_quotas(&self, applications: usize) -> bool {
+    fn has_room_for_quotas(&self, applications: usize) -> bool
+        ensures { result ≡ nat_le (unwrap_or self.now.sizes.quota 0 * (applications + 1)) self.now.sizes.mmem }
+    {
         let quotas = (applications as u64).saturating_add(1);
         let quota = u64::from(self.sizes.quota.unwrap_or(0));
         quotas.saturating_mul(quota) <= u64::from(self.sizes.mmem)

@@ -1,6 +1,8 @@
 //! A run of a file, and what the file says of its outcome.
 
-ghost use Rattle.std.specs.Prelude.{◌≡◌, ◌==◌, ◌||◌, [], None, false, is_some, length, not, string_bytes};
+ghost use Rattle.std.specs.Prelude.{◌≡◌, ◌≢◌, ◌==◌, ◌||◌, ◌↔◌, ◌⊎◌, if◌then◌else◌, [], None, Some, true, false, is_some, option_map, length, not, codes, string_bytes, IfSome, IsSomeAnd};
+ghost use Rattle.kernel_core.specs.Machine.{is_bootable};
+ghost use Rattle.mote_run.specs.Code.Runs.{config_of};
 
 use crate::gaps::GAP;
 use crate::mote::Sizes;
@@ -127,12 +129,17 @@ impl<'a> WrittenRun<'a> {
     }
 
     /// The transcript that the file has of the run, which may be empty.
-    pub(crate) fn transcript(&self) -> &str {
+    pub(crate) fn transcript(&self) -> &str
+        ensures { result.now ≡ string_bytes self.now.transcript }
+    {
         self.transcript.as_str()
     }
 
     /// The transcript that the file has of the run, if it has one.
-    pub(crate) fn transcript_shown(&self) -> Option<&str> {
+    pub(crate) fn transcript_shown(&self) -> Option<&str>
+        ensures { option_map (λ text. text.now) result
+            ≡ (if length (string_bytes self.now.transcript) == 0 then None else Some (string_bytes self.now.transcript)) }
+    {
         if self.transcript.is_empty() {
             None
         } else {
@@ -141,12 +148,17 @@ impl<'a> WrittenRun<'a> {
     }
 
     /// Whether some line of the transcript matches any lines.
-    pub(crate) fn has_gaps(&self) -> bool {
+    pub(crate) fn has_gaps(&self) -> bool
+        ensures { result ≡ self.now.has_gaps }
+    {
         self.has_gaps
     }
 
     /// How the run must end: as the file says, otherwise as the transcript's last line does. None where that matches any lines.
-    pub(crate) fn end(&self) -> Option<&str> {
+    pub(crate) fn end(&self) -> Option<&str>
+        ensures said { IfSome self.now.said_end (λ said. IsSomeAnd result (λ end. end.now ≡ said.0.now)) }
+        ensures shown { self.now.said_end ≡ None → IfSome result (λ end. end.now ≢ codes "bad sizes") }
+    {
         match self.said_end {
             Some((end, _)) => Some(end),
             None => end_shown(self.transcript.as_str()),
@@ -154,7 +166,10 @@ impl<'a> WrittenRun<'a> {
     }
 
     /// The line by which no mote boots, where the file doesn't say so.
-    pub fn misread_size(&self) -> Option<Misread<'a>> {
+    pub fn misread_size(&self) -> Option<Misread<'a>>
+        ensures { (result ≡ None) ↔ (IsSomeAnd self.now.said_end (λ said. said.0.now ≡ codes "bad sizes")
+            ⊎ (is_bootable (config_of self.now.sizes.sizes (length self.now.applications.items)) ≡ true)) }
+    {
         if self.end() == Some(BAD_SIZES) {
             return None;
         }
@@ -355,7 +370,9 @@ fn is_end(text: &str) -> bool {
 }
 
 /// How the run of a transcript ended, by its last line. None where that matches any lines.
-fn end_shown(transcript: &str) -> Option<&str> {
+fn end_shown(transcript: &str) -> Option<&str>
+    ensures { IfSome result (λ end. end.now ≢ codes "bad sizes") }
+{
     let lines = transcript.strip_suffix('\n').unwrap_or(transcript);
     let last = match lines.rsplit_once('\n') {
         Some((_, last)) => last,
