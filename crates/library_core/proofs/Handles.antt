@@ -1,19 +1,17 @@
 -- The machine value of a mote that C holds, and what it owns. Assumes `Logic`.
 --     made, seen    a mote is made of what it owns, and is taken apart into that
---     by_state      it is open or closed, as its two fields say
-use Rattle.std.proofs.Common.{◌≡◌, ◌∙◌, List, ◌∷◌, ◌++◌, refl, lit<, Bool, true, false, Option, None, Some, []}
+use Rattle.std.proofs.Common.{◌≡◌, ◌∙◌, List, ◌∷◌, ◌++◌, refl, lit<, Bool, true, Option, []}
 use Rattle.std_alloc.proofs.BoxSteps.Form as box
-use Rattle.std_alloc.specs.Box.Ownership.{box_owns}
 use Rattle.std_heap.proofs.Global.TheLaws as global_laws
 use Rattle.std_heap.specs.contracts.Global as global
 use Rattle.std_heap.specs.contracts.GlobalAllocator.TheImpl.{ghosts}
 use Rattle.library_core.proofs.open_mote.OpenMote.TheLaws as held_laws
-use Rattle.library_core.specs.Owned.{chunk, mote_owns}
+use Rattle.library_core.specs.Owned.{mote_owns}
 use Rattle.library_core.specs.contracts.mote.Mote as mote
 use Rattle.library_core.specs.contracts.open_mote.OpenMote as held
 use Rattle.library_core.specs.declared.mote.Mote.{Mote}
 use Rattle.library_core.specs.declared.open_mote.OpenMote.{OpenMote as Held}
-use base.Logic.{emp, never_e}
+use base.Logic.{emp}
 use contract.Monad.{fact, fact_i}
 use denote.Builtin.{RawPtr, bool}
 use denote.RattleType.{Valss}
@@ -26,7 +24,7 @@ use mathlib.Core.Bool.{◌&&◌}
 use mir.Syntax.{impl, tnil, dnil, ty_ptr, ty_bool}
 use mir.Val.{Val, vbool, vstruct, vcons, vnil, of_list, has_ty, WT}
 use seplogic.Ra.Ura.{Ura}
-use types.Kit.{Item, Goal, Seq, Step, step, ‵, raw, ◌$◌, by, keep, drop, fsplit, fjoin, fpick, fpack, use0, feq_i, feq_l}
+use types.Kit.{Item, Goal, Seq, Step, step, ‵, raw, ◌$◌, drop, fsplit, fjoin, fpick, fpack, use0, feq_i, feq_l}
 use types.Logic.{Logic}
 
 -- the pointer, and whether it is open
@@ -59,14 +57,6 @@ module _ {M : Type 1} {𝓤 : Ura M} {𝓛 : Logic 𝓤} {K : Type 0} {Γ : List
   seen t m vs goes_on =
       fsplit t $ fpick t (λ vss. fsplit t $ feq_l t (λ is_both. fsplit t $ feq_l t (λ is_pointer. fsplit t $ feq_l t (λ is_flag. drop t $
       goes_on (is_both ∙ (λ i. vstruct (of_list (is_pointer i ++ (is_flag i ++ []))) ∷ []))))))
-
-  pub by_state : K → (is_open : Bool) (p : Ptr) (value : Option Held)
-      → (is_open ≡ false → value ≡ None → Seq K 𝓛 Γ G)
-      → ((x : Held) → is_open ≡ true → value ≡ Some x → Seq K 𝓛 (‵ (box_owns chunk held.the_row p x) ∷ Γ) G)
-      → Seq K 𝓛 (‵ (mote_owns is_open p value) ∷ Γ) G
-  by_state t true p (Some x) if_closed if_open = if_open x refl refl
-  by_state t false p None if_closed if_open = drop t $ if_closed refl refl
-  by_state t is_open p value if_closed if_open = keep t (0 ∷ []) $ by t (never_e 𝓤 _)
 
 -- what an open mote has, in a box
 abbrev pub kept : box.Bx

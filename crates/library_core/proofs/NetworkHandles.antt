@@ -1,19 +1,16 @@
 -- The machine value of a network that C holds, and what it owns. Assumes `Logic`.
 --     made, seen    a network is made of what it owns, and is taken apart into that
---     by_state      it is open or closed, as its two fields say
-use Rattle.std.proofs.Common.{◌≡◌, ◌∙◌, List, ◌∷◌, ◌++◌, refl, Bool, true, false, Option, None, Some, []}
+use Rattle.std.proofs.Common.{◌≡◌, ◌∙◌, List, ◌∷◌, ◌++◌, refl, Bool, Option, []}
 use Rattle.std_alloc.proofs.BoxSteps.Form as box
-use Rattle.std_alloc.specs.Box.Ownership.{box_owns}
 use Rattle.std_heap.proofs.Global.TheLaws as global_laws
 use Rattle.std_heap.specs.contracts.Global as global
 use Rattle.std_heap.specs.contracts.GlobalAllocator.TheImpl.{ghosts}
 use Rattle.library_core.proofs.open_network.OpenNetwork.TheLaws as held_laws
-use Rattle.library_core.specs.Owned.{chunk, network_owns}
+use Rattle.library_core.specs.Owned.{network_owns}
 use Rattle.library_core.specs.contracts.held_network.HeldNetwork as network
 use Rattle.library_core.specs.contracts.open_network.OpenNetwork as held
 use Rattle.library_core.specs.declared.held_network.HeldNetwork.{HeldNetwork}
 use Rattle.library_core.specs.declared.open_network.OpenNetwork.{OpenNetwork as Held}
-use base.Logic.{never_e}
 use denote.Builtin.{RawPtr, bool}
 use denote.RattleType.{Valss}
 use denote.RawPtr.{Ptr, ptr_val}
@@ -23,7 +20,7 @@ use denote.Struct.Struct.{within}
 use mir.Syntax.{impl, tnil, dnil}
 use mir.Val.{Val, vbool, vstruct, of_list}
 use seplogic.Ra.Ura.{Ura}
-use types.Kit.{Item, Goal, Seq, Step, step, ‵, ◌$◌, by, keep, drop, fsplit, fjoin, fpick, fpack, feq_i, feq_l}
+use types.Kit.{Item, Goal, Seq, Step, step, ‵, ◌$◌, drop, fsplit, fjoin, fpick, fpack, feq_i, feq_l}
 use types.Logic.{Logic}
 use Rattle.library_core.proofs.Handles.{mote_val}
 
@@ -45,14 +42,6 @@ module _ {M : Type 1} {𝓤 : Ura M} {𝓛 : Logic 𝓤} {K : Type 0} {Γ : List
   seen t m vs goes_on =
       fsplit t $ fpick t (λ vss. fsplit t $ feq_l t (λ is_both. fsplit t $ feq_l t (λ is_pointer. fsplit t $ feq_l t (λ is_flag. drop t $
       goes_on (is_both ∙ (λ i. vstruct (of_list (is_pointer i ++ (is_flag i ++ []))) ∷ []))))))
-
-  pub by_state : K → (is_open : Bool) (p : Ptr) (value : Option Held)
-      → (is_open ≡ false → value ≡ None → Seq K 𝓛 Γ G)
-      → ((x : Held) → is_open ≡ true → value ≡ Some x → Seq K 𝓛 (‵ (box_owns chunk held.the_row p x) ∷ Γ) G)
-      → Seq K 𝓛 (‵ (network_owns is_open p value) ∷ Γ) G
-  by_state t true p (Some x) if_closed if_open = if_open x refl refl
-  by_state t false p None if_closed if_open = drop t $ if_closed refl refl
-  by_state t is_open p value if_closed if_open = keep t (0 ∷ []) $ by t (never_e 𝓤 _)
 
 -- what an open network has, in a box
 abbrev pub kept : box.Bx

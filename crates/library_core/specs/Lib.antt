@@ -4,6 +4,7 @@ pub mod Calls
 pub mod Code
 pub mod Configurations
 pub mod Inputs
+pub mod Lending
 pub mod Owned
 pub mod PlainApplications
 pub mod Reasons

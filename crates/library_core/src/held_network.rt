@@ -1,6 +1,7 @@
 //! A network that C holds.
 
 ghost use Rattle.std.specs.Prelude.{◌≡◌, Option, None, Some};
+ghost use Rattle.std.specs.Borrow.{sem};
 ghost use Rattle.std.specs.Option.{MatchOption};
 ghost use Rattle.library_core.specs.declared.open_network.OpenNetwork.{OpenNetwork as Held};
 ghost use Rattle.library_core.specs.Owned.{network_owns};
@@ -27,6 +28,8 @@ impl Model for HeldNetwork {
 }
 
 impl HeldNetwork {
+    ghost use Rattle.library_core.specs.Lending.{LendsOpenNetwork};
+
     /// A closed one.
     fn closed() -> HeldNetwork
         ensures { result.open_network ≡ None }
@@ -66,6 +69,17 @@ impl HeldNetwork {
         }
     }
 
+    /// What it holds, if it is open.
+    pub fn open_mut(&mut self) -> Option<&mut OpenNetwork>
+        ensures* writes_back { sem 𝓛 (LendsOpenNetwork self.entry result) }
+        ensures value { MatchOption result (self.old.open_network ≡ None) (λ lent. self.old.open_network ≡ Some lent.now) }
+    {
+        if !self.is_open {
+            return None;
+        }
+        Some(unsafe { &mut *(self.held as *mut OpenNetwork) })
+    }
+
     /// Takes out what it holds, if it is open, and closes it.
     pub fn take(&mut self, alloc: Global) -> Option<Box<OpenNetwork>>
         ensures taken { MatchOption result (self.old.open_network ≡ None) (λ taken. self.old.open_network ≡ Some taken.value) }
@@ -79,8 +93,6 @@ impl HeldNetwork {
     }
 
     /// Opens it, where it is closed: so nothing that it held is lost.
-    // Each call of the library puts the network back: inlined, that takes some 8 instructions less.
-    #[inline(always)]
     pub fn put(&mut self, alloc: Global, open_network: Box<OpenNetwork>)
         requires closed { self.old.open_network ≡ None }
         ensures opened { self.new.open_network ≡ Some open_network.value }

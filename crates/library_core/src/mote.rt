@@ -1,6 +1,7 @@
 //! A mote that C holds.
 
 ghost use Rattle.std.specs.Prelude.{◌≡◌, Option, None, Some};
+ghost use Rattle.std.specs.Borrow.{sem};
 ghost use Rattle.std.specs.Option.{MatchOption};
 ghost use Rattle.library_core.specs.declared.open_mote.OpenMote.{OpenMote as Held};
 ghost use Rattle.library_core.specs.Owned.{mote_owns};
@@ -27,6 +28,8 @@ impl Model for Mote {
 }
 
 impl Mote {
+    ghost use Rattle.library_core.specs.Lending.{LendsOpenMote};
+
     /// A closed one.
     fn closed() -> Mote
         ensures { result.open_mote ≡ None }
@@ -66,6 +69,17 @@ impl Mote {
         }
     }
 
+    /// What it holds, if it is open.
+    pub fn open_mut(&mut self) -> Option<&mut OpenMote>
+        ensures* writes_back { sem 𝓛 (LendsOpenMote self.entry result) }
+        ensures value { MatchOption result (self.old.open_mote ≡ None) (λ lent. self.old.open_mote ≡ Some lent.now) }
+    {
+        if !self.is_open {
+            return None;
+        }
+        Some(unsafe { &mut *(self.held as *mut OpenMote) })
+    }
+
     /// Takes out what it holds, if it is open, and closes it.
     pub fn take(&mut self, alloc: Global) -> Option<Box<OpenMote>>
         ensures taken { MatchOption result (self.old.open_mote ≡ None) (λ taken. self.old.open_mote ≡ Some taken.value) }
@@ -79,8 +93,6 @@ impl Mote {
     }
 
     /// Opens it, where it is closed: so nothing that it held is lost.
-    // Each call of the library puts the mote back: inlined, that takes some 8 instructions less.
-    #[inline(always)]
     pub fn put(&mut self, alloc: Global, open_mote: Box<OpenMote>)
         requires closed { self.old.open_mote ≡ None }
         ensures opened { self.new.open_mote ≡ Some open_mote.value }

@@ -38,7 +38,8 @@ use types.Logic.{sem}
 use types.Match.{live}
 use types.Part.{agg, sub, whole}
 use types.Run.{stop, fld, of_opd, lit, no_more, and_then, first, branches, exec, returns, enter}
-use Rattle.library_core.proofs.Handles.{mote_val, mote_good, told, seen, by_state, kept}
+use Rattle.library_core.proofs.Handles.{mote_val, mote_good, told, seen, kept}
+use Rattle.library_core.proofs.Lent.{by_state}
 use Rattle.library_core.proofs.mote.Mote.into_parts.Statement.{statement}
 use Rattle.library_core.proofs.mote.Mote.into_parts.Code as code
 
@@ -60,7 +61,7 @@ into_parts_spec 𝓤 𝓛 𝓜 𝓡 wired =
     qed 𝓛 (entry ∷ ‵ ftrue ∷ []) ∵ split ! $ move ! (1 ∷ []) $ fsplit ! $ seen ! self z.0.4.0 (λ is_val.
     move ! (1 ∷ []) $ fsplit ! $ handle_tells kept.al ! a z.0.4.1.0 (λ h is_handle good.
     -- [the allocator's handle; nothing; what the handle owns; the lifetimes; what is required]
-    move ! (2 ∷ []) $ by_state ! self.is_open self.held self.open_mote
+    move ! (2 ∷ []) $ by_state ! R self.is_open self.held self.open_mote
     (λ is_closed is_none.
     let at_closed = is_val ∙ ap (λ (y : Bool). mote_val self.held y ∷ []) is_closed in
     let none_good : Good (layout Out) (live 0 vnil) = (tt, (record { fits = lit< tt }, tt)) in
