@@ -1,6 +1,6 @@
 //! The calls by which C asks a network of motes step by step.
 //!
-//! Each takes the network out of what C holds, works, and puts it back. What C passes can be anything, as for one mote.
+//! Each works on the network that C holds. What C passes can be anything, as for one mote.
 
 ghost use Rattle.std.specs.Prelude.{◌≡◌, ◌≢◌, ◌≤◌, ◌+◌, ◌↔◌, true, None, Some, length as size_of, take, drop, is_some, IsSomeAnd};
 ghost use Rattle.std.specs.List.{list_any};
@@ -40,8 +40,7 @@ pub extern "C" fn toarmuts_network_open(
     ensures bad_sizes { (steps_in network.old) ≡ None → (result ≡ 19) ↔ (list_any is_unbootable motes.now ≡ true) }
     ensures else_memory { result ≢ 0 → result ≢ 19 → result ≢ 23 → result ≡ 21 }
 {
-    if let Some(open_network) = network.take(alloc) {
-        network.put(alloc, open_network);
+    if let Some(_) = network.open_mut() {
         return IS_OPEN;
     }
     match boot_network(alloc, sizes, motes) {
@@ -66,12 +65,10 @@ pub extern "C" fn toarmuts_network_link(
     ensures status { result ≢ 0 → result ≢ 21 → result ≡ network_status (steps_in network.old) (network_link_status link.now) }
     ensures unchanged { result ≢ 0 → (steps_in network.new) ≡ (steps_in network.old) }
 {
-    let Some(mut open_network) = network.take(alloc) else {
+    let Some(open_network) = network.open_mut() else {
         return CLOSED;
     };
-    let status = add_link(&mut open_network.steps, link.from, link.link());
-    network.put(alloc, open_network);
-    status
+    add_link(&mut open_network.steps, link.from, link.link())
 }
 
 /// Works to the next turn, line, or rest; `happening` says which, and `turn` is the turn.
@@ -87,12 +84,10 @@ pub extern "C" fn toarmuts_network_next(
     ensures goes { result ≡ 0 → NetworkGoes (NetworkGoesNext happening.new turn.old turn.new) (steps_in network.old) (steps_in network.new) }
     ensures untold { result ≢ 0 → (happening.new ≡ happening.old) × (turn.new ≡ turn.old) }
 {
-    let Some(mut open_network) = network.take(alloc) else {
+    let Some(open_network) = network.open_mut() else {
         return CLOSED;
     };
-    let status = go_next(&mut open_network.steps, happening, turn);
-    network.put(alloc, open_network);
-    status
+    go_next(&mut open_network.steps, happening, turn)
 }
 
 /// Submits the call of the application whose turn it is.
@@ -106,12 +101,10 @@ pub extern "C" fn toarmuts_network_submit(
     ensures taken { result ≡ 0 → NetworkGoes (NetworkTakesCall call.now) (steps_in network.old) (steps_in network.new) }
     ensures unchanged { result ≢ 0 → (steps_in network.new) ≡ (steps_in network.old) }
 {
-    let Some(mut open_network) = network.take(alloc) else {
+    let Some(open_network) = network.open_mut() else {
         return CLOSED;
     };
-    let status = submit_call(&mut open_network.steps, call);
-    network.put(alloc, open_network);
-    status
+    submit_call(&mut open_network.steps, call)
 }
 
 /// Submits the call that a bundled application makes in its turn: the application is one that C holds.
@@ -125,12 +118,10 @@ pub extern "C" fn toarmuts_network_submit_bundled(
     ensures taken { result ≡ 0 → NetworkGoes (NetworkTakesTurn application.old application.new) (steps_in network.old) (steps_in network.new) }
     ensures unchanged { result ≢ 0 → ((steps_in network.new) ≡ (steps_in network.old)) × (application.new ≡ application.old) }
 {
-    let Some(mut open_network) = network.take(alloc) else {
+    let Some(open_network) = network.open_mut() else {
         return CLOSED;
     };
-    let status = take_network_turn(&mut open_network.steps, application);
-    network.put(alloc, open_network);
-    status
+    take_network_turn(&mut open_network.steps, application)
 }
 
 /// Lets the clock advance by `ticks`, which `next` does.
@@ -140,12 +131,10 @@ pub extern "C" fn toarmuts_network_tick(alloc: Global, network: &mut HeldNetwork
     ensures passes { result ≡ 0 → NetworkGoes (TakesTicks ticks) (steps_in network.old) (steps_in network.new) }
     ensures unchanged { result ≢ 0 → (steps_in network.new) ≡ (steps_in network.old) }
 {
-    let Some(mut open_network) = network.take(alloc) else {
+    let Some(open_network) = network.open_mut() else {
         return CLOSED;
     };
-    let status = pass_ticks(&mut open_network.steps, ticks);
-    network.put(alloc, open_network);
-    status
+    pass_ticks(&mut open_network.steps, ticks)
 }
 
 /// Feeds an input from outside, of kind 1 serial bytes or 2 a frame, for the mote of this number.
@@ -161,12 +150,10 @@ pub extern "C" fn toarmuts_network_feed(
     ensures waits { result ≡ 0 → NetworkGoes (TakesFeed (place_of mote) (input_said kind 0 bytes.now)) (steps_in network.old) (steps_in network.new) }
     ensures unchanged { result ≢ 0 → (steps_in network.new) ≡ (steps_in network.old) }
 {
-    let Some(mut open_network) = network.take(alloc) else {
+    let Some(open_network) = network.open_mut() else {
         return CLOSED;
     };
-    let status = feed_mote(&mut open_network.steps, mote, input_of(kind, 0, bytes));
-    network.put(alloc, open_network);
-    status
+    feed_mote(&mut open_network.steps, mote, input_of(kind, 0, bytes))
 }
 
 /// Puts the line of what happened last, without its end, to the front of the buffer, and reports its length, also where it is
@@ -187,12 +174,10 @@ pub extern "C" fn toarmuts_network_line(
     ensures no_length { result ≢ 0 → result ≢ 20 → length.new ≡ length.old }
     ensures unchanged { (steps_in network.new) ≡ (steps_in network.old) }
 {
-    let Some(mut open_network) = network.take(alloc) else {
+    let Some(open_network) = network.open_mut() else {
         return CLOSED;
     };
-    let status = put_network_line(&mut open_network, line, length);
-    network.put(alloc, open_network);
-    status
+    put_network_line(open_network, line, length)
 }
 
 /// Reports the ticks since boot.
@@ -207,11 +192,10 @@ pub extern "C" fn toarmuts_network_clock(
     ensures no_clock { result ≢ 0 → clock.new ≡ clock.old }
     ensures unchanged { (steps_in network.new) ≡ (steps_in network.old) }
 {
-    let Some(open_network) = network.take(alloc) else {
+    let Some(open_network) = network.open_mut() else {
         return CLOSED;
     };
     *clock = open_network.steps.clock();
-    network.put(alloc, open_network);
     DONE
 }
 
@@ -228,12 +212,10 @@ pub extern "C" fn toarmuts_network_due(
     ensures no_clock { result ≢ 0 → clock.new ≡ clock.old }
     ensures unchanged { (steps_in network.new) ≡ (steps_in network.old) }
 {
-    let Some(open_network) = network.take(alloc) else {
+    let Some(open_network) = network.open_mut() else {
         return CLOSED;
     };
-    let status = put_mote_due(&open_network.steps, mote, clock);
-    network.put(alloc, open_network);
-    status
+    put_mote_due(&open_network.steps, mote, clock)
 }
 
 /// Frees the network's memory.

@@ -1,7 +1,7 @@
 //! The calls by which C asks a mote step by step.
 //!
-//! Each takes the session out of the mote, works, and puts it back. What C passes can be anything: a mote that is closed, a
-//! call where none is awaited, numbers out of range have their statuses, and then nothing is changed.
+//! Each works on the session that the mote holds. What C passes can be anything: a mote that is closed, a call where none is awaited,
+//! numbers out of range have their statuses, and then nothing is changed.
 
 ghost use Rattle.std.specs.Prelude.{◌≡◌, ◌≢◌, ◌≤◌, ◌+◌, ◌↔◌, false, true, None, Some, length as size_of, take, drop, is_some, IsSomeAnd};
 ghost use Rattle.kernel_core.specs.Machine.{is_bootable};
@@ -44,8 +44,7 @@ pub extern "C" fn toarmuts_open(
     ensures bad_sizes { (session_in mote.old) ≡ None → (result ≡ 19) ↔ (is_bootable (config_in configuration.now applications) ≡ false) }
     ensures else_memory { result ≢ 0 → result ≢ 19 → result ≢ 23 → result ≡ 21 }
 {
-    if let Some(open_mote) = mote.take(alloc) {
-        mote.put(alloc, open_mote);
+    if let Some(_) = mote.open_mut() {
         return IS_OPEN;
     }
     let Ok(apps) = u8::try_from(applications) else {
@@ -76,12 +75,10 @@ pub extern "C" fn toarmuts_feed(alloc: Global, mote: &mut Mote, line: &[u8]) -> 
     ensures fed { result ≡ 0 → Goes (TakesScriptLine line.now) (session_in mote.old) (session_in mote.new) }
     ensures unchanged { result ≢ 0 → (session_in mote.new) ≡ (session_in mote.old) }
 {
-    let Some(mut open_mote) = mote.take(alloc) else {
+    let Some(open_mote) = mote.open_mut() else {
         return CLOSED;
     };
-    let status = feed_line(&mut open_mote.session, line);
-    mote.put(alloc, open_mote);
-    status
+    feed_line(&mut open_mote.session, line)
 }
 
 /// Feeds an input of this kind: 0 ticks, 1 bytes on the serial line, 2 a frame of bytes.
@@ -97,12 +94,10 @@ pub extern "C" fn toarmuts_feed_input(
     ensures fed { result ≡ 0 → Goes (TakesInput (input_said kind ticks bytes.now)) (session_in mote.old) (session_in mote.new) }
     ensures unchanged { result ≢ 0 → (session_in mote.new) ≡ (session_in mote.old) }
 {
-    let Some(mut open_mote) = mote.take(alloc) else {
+    let Some(open_mote) = mote.open_mut() else {
         return CLOSED;
     };
-    let status = feed_input(&mut open_mote.session, input_of(kind, ticks, bytes));
-    mote.put(alloc, open_mote);
-    status
+    feed_input(&mut open_mote.session, input_of(kind, ticks, bytes))
 }
 
 /// Works to the next turn, entry or rest; `step` says which, and `turn` is the turn.
@@ -117,12 +112,10 @@ pub extern "C" fn toarmuts_next(
     ensures goes { result ≡ 0 → Goes (GoesNext step.new turn.old turn.new) (session_in mote.old) (session_in mote.new) }
     ensures unchanged { result ≢ 0 → ((session_in mote.new) ≡ (session_in mote.old)) × (step.new ≡ step.old) × (turn.new ≡ turn.old) }
 {
-    let Some(mut open_mote) = mote.take(alloc) else {
+    let Some(open_mote) = mote.open_mut() else {
         return CLOSED;
     };
-    let status = go_on(&mut open_mote.session, step, turn);
-    mote.put(alloc, open_mote);
-    status
+    go_on(&mut open_mote.session, step, turn)
 }
 
 /// Submits the call of the application whose turn it is.
@@ -132,12 +125,10 @@ pub extern "C" fn toarmuts_submit(alloc: Global, mote: &mut Mote, call: &PlainCa
     ensures taken { result ≡ 0 → Goes (TakesCall call.now) (session_in mote.old) (session_in mote.new) }
     ensures unchanged { result ≢ 0 → (session_in mote.new) ≡ (session_in mote.old) }
 {
-    let Some(mut open_mote) = mote.take(alloc) else {
+    let Some(open_mote) = mote.open_mut() else {
         return CLOSED;
     };
-    let status = take_call(&mut open_mote.session, call);
-    mote.put(alloc, open_mote);
-    status
+    take_call(&mut open_mote.session, call)
 }
 
 /// Submits the call that a bundled application makes in its turn: the application is one that C holds.
@@ -151,12 +142,10 @@ pub extern "C" fn toarmuts_submit_bundled(
     ensures taken { result ≡ 0 → Goes (TakesTurn application.old application.new) (session_in mote.old) (session_in mote.new) }
     ensures unchanged { result ≢ 0 → ((session_in mote.new) ≡ (session_in mote.old)) × (application.new ≡ application.old) }
 {
-    let Some(mut open_mote) = mote.take(alloc) else {
+    let Some(open_mote) = mote.open_mut() else {
         return CLOSED;
     };
-    let status = take_turn(&mut open_mote.session, application);
-    mote.put(alloc, open_mote);
-    status
+    take_turn(&mut open_mote.session, application)
 }
 
 /// Puts the transcript's line of the last entry, without its end, to the front of the buffer, and reports its length, also where
@@ -178,12 +167,10 @@ pub extern "C" fn toarmuts_line(
     ensures no_length { result ≢ 0 → result ≢ 20 → length.new ≡ length.old }
     ensures unchanged { (session_in mote.new) ≡ (session_in mote.old) }
 {
-    let Some(mut open_mote) = mote.take(alloc) else {
+    let Some(open_mote) = mote.open_mut() else {
         return CLOSED;
     };
-    let status = put_last_line(&mut open_mote, line, length);
-    mote.put(alloc, open_mote);
-    status
+    put_last_line(open_mote, line, length)
 }
 
 /// Puts the bytes of the frame that the last entry reports as sent to the front of the buffer, and reports their number, also where
@@ -205,12 +192,10 @@ pub extern "C" fn toarmuts_sent(
     ensures no_length { result ≢ 0 → result ≢ 20 → length.new ≡ length.old }
     ensures unchanged { (session_in mote.new) ≡ (session_in mote.old) }
 {
-    let Some(open_mote) = mote.take(alloc) else {
+    let Some(open_mote) = mote.open_mut() else {
         return CLOSED;
     };
-    let status = put_sent(&open_mote.session, bytes, length);
-    mote.put(alloc, open_mote);
-    status
+    put_sent(&open_mote.session, bytes, length)
 }
 
 /// Reports the ticks since boot.
@@ -221,11 +206,10 @@ pub extern "C" fn toarmuts_clock(alloc: Global, mote: &mut Mote, clock: &mut u64
     ensures no_clock { result ≢ 0 → clock.new ≡ clock.old }
     ensures unchanged { (session_in mote.new) ≡ (session_in mote.old) }
 {
-    let Some(open_mote) = mote.take(alloc) else {
+    let Some(open_mote) = mote.open_mut() else {
         return CLOSED;
     };
     *clock = open_mote.session.clock();
-    mote.put(alloc, open_mote);
     DONE
 }
 
@@ -237,12 +221,10 @@ pub extern "C" fn toarmuts_due(alloc: Global, mote: &mut Mote, clock: &mut u64) 
     ensures no_clock { result ≢ 0 → clock.new ≡ clock.old }
     ensures unchanged { (session_in mote.new) ≡ (session_in mote.old) }
 {
-    let Some(open_mote) = mote.take(alloc) else {
+    let Some(open_mote) = mote.open_mut() else {
         return CLOSED;
     };
-    let status = put_due(open_mote.session.next_deadline(), clock);
-    mote.put(alloc, open_mote);
-    status
+    put_due(open_mote.session.next_deadline(), clock)
 }
 
 /// Frees the mote's memory.
