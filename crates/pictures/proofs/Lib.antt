@@ -26,6 +26,7 @@ pub mod RowClocks
 mod RowExamples
 pub mod RowTitles
 pub mod Says
+pub mod Spanned
 mod TitleExamples
 pub mod TurnParts
 pub mod Waits

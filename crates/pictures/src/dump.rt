@@ -1,7 +1,10 @@
 //! All that holds at the lines of a run as a value change dump (IEEE 1364, clause 18), for the viewers of logic analysers.
 
-ghost use Rattle.std.specs.Prelude.{◌≡◌, ℕ, ◌++◌, codes, string_bytes, IfOk};
-ghost use Rattle.pictures.specs.Dump.{AreChanges, IsDump};
+ghost use Rattle.std.specs.Prelude.{◌≡◌, ℕ, ◌+◌, ◌-◌, ◌<◌, ◌≤◌, ◌++◌, codes, get_or, length, map, string_bytes, IfOk};
+ghost use Rattle.std.specs.List.{range_with_len};
+ghost use Rattle.pictures.specs.Clocks.{clock_at};
+ghost use Rattle.pictures.specs.Dump.{IsDump, time_at};
+ghost use Rattle.pictures.specs.Rows.{bytes_of};
 
 mod changes;
 mod declarations;
@@ -33,11 +36,14 @@ pub struct Settings<'a> {
 }
 
 /// The clocks of the lines in the dump.
-fn clocks_of(facts: &Facts, shown: Shown) -> &[u64] {
-    let clocks = facts.marks.clocks.as_slice();
-    let end = shown.end.min(clocks.len());
-    let first = shown.first.min(end);
-    &clocks[first..end]
+fn clocks_of(facts: &Facts, shown: Shown) -> &[u64]
+    requires order { shown.first ≤ shown.end }
+    requires there { shown.end ≤ length facts.now.marks.clocks.items }
+    ensures all { length result.now ≡ shown.end - shown.first }
+    ensures clocks { (index : ℕ) → index < shown.end - shown.first
+        → get_or result.now index 0 ≡ get_or facts.now.marks.clocks.items (shown.first + index) 0 }
+{
+    &facts.marks.clocks.as_slice()[shown.first..shown.end]
 }
 
 /// The largest number of lines at one clock.
@@ -73,7 +79,11 @@ struct Walk {
 
 impl Walk {
     /// Writes the value of the signal at a position among all, where it has changed.
-    fn write(&mut self, index: usize) -> Result<(), AllocError> {
+    fn write(&mut self, index: usize) -> Result<(), AllocError>
+        ensures clock { self.new.clock ≡ self.old.clock }
+        ensures scale { self.new.scale ≡ self.old.scale }
+        ensures first { self.new.dump.first ≡ self.old.dump.first }
+    {
         let value = self.levels.value(Signal::at(index));
         let Some(written) = self.written.get_mut(index) else {
             return Ok(());
@@ -88,7 +98,11 @@ impl Walk {
     }
 
     /// Writes the values that have changed at the present time.
-    fn write_all(&mut self) -> Result<(), AllocError> {
+    fn write_all(&mut self) -> Result<(), AllocError>
+        ensures clock { self.new.clock ≡ self.old.clock }
+        ensures scale { self.new.scale ≡ self.old.scale }
+        ensures first { self.new.dump.first ≡ self.old.dump.first }
+    {
         for index in 0..self.applications.saturating_add(COMMON) {
             self.write(index)?;
         }
@@ -96,13 +110,21 @@ impl Walk {
     }
 
     /// No line is left at this clock.
-    fn rest(&mut self) -> Result<(), AllocError> {
+    fn rest(&mut self) -> Result<(), AllocError>
+        ensures clock { self.new.clock ≡ self.old.clock }
+        ensures scale { self.new.scale ≡ self.old.scale }
+        ensures first { self.new.dump.first ≡ self.old.dump.first }
+    {
         self.levels.rest();
         self.write_all()
     }
 
     /// A line at a clock, after these changes.
-    fn take_line(&mut self, line: &str, clock: u64) -> Result<(), AllocError> {
+    fn take_line(&mut self, line: &str, clock: u64) -> Result<(), AllocError>
+        ensures clock { IfOk result (λ _. self.new.clock ≡ clock) }
+        ensures scale { self.new.scale ≡ self.old.scale }
+        ensures first { self.new.dump.first ≡ self.old.dump.first }
+    {
         if clock != self.clock {
             self.rest()?;
             self.clock = clock;
@@ -115,7 +137,11 @@ impl Walk {
     }
 
     /// The last clock passes.
-    fn finish(&mut self) -> Result<(), AllocError> {
+    fn finish(&mut self) -> Result<(), AllocError>
+        requires { 0 < self.old.scale.units }
+        ensures first { self.new.dump.first ≡ self.old.dump.first }
+        ensures last { IfOk result (λ _. time_at self.old.scale.units (self.old.clock + 1) ≤ self.new.dump.last) }
+    {
         self.rest()?;
         let end = self.clock.saturating_add(1);
         self.dump.go_to(end.saturating_mul(self.scale.units))
@@ -141,9 +167,16 @@ fn walk_over(
     shown: Shown,
     clocks: &[u64],
     changes: &[Change],
-) -> Result<(), AllocError> {
+) -> Result<(), AllocError>
+    requires begun { walk.old.clock ≡ get_or clocks.now 0 0 }
+    requires lines { length lines.now ≡ length clocks.now }
+    requires scale { 0 < walk.old.scale.units }
+    ensures first { walk.new.dump.first ≡ walk.old.dump.first }
+    ensures last { IfOk result
+        (λ _. time_at walk.old.scale.units (get_or clocks.now (length clocks.now - 1) 0 + 1) ≤ walk.new.dump.last) }
+{
     let mut left = changes;
-    for index in 0..lines.len().min(clocks.len()) {
+    for index in 0..lines.len() {
         let (due, later) = parted(left, index.saturating_add(shown.first));
         walk.levels.apply_all(due);
         left = later;
@@ -154,7 +187,7 @@ fn walk_over(
 
 /// The declarations and the values as one text.
 fn whole(declarations: String, dump: &Dump) -> Result<Vec<u8>, AllocError>
-    ensures { IfOk result (λ bytes. bytes.items ≡ string_bytes declarations ++ codes "$enddefinitions $end\n" ++ dump.now) }
+    ensures { IfOk result (λ bytes. bytes.items ≡ string_bytes declarations ++ codes "$enddefinitions $end\n" ++ dump.now.text) }
 {
     let mut bytes = declarations.into_bytes();
     bytes.extend_from_slice(b"$enddefinitions $end\n")?;
@@ -169,7 +202,8 @@ fn dump_of(
     settings: &Settings<'_>,
     facts: &Facts,
 ) -> Result<Vec<u8>, AllocError>
-    ensures { IfOk result (λ bytes. IsDump bytes.items) }
+    requires { facts.now.marks.clocks.items ≡ map (clock_at (bytes_of lines.now)) (range_with_len 0 (length lines.now)) }
+    ensures { IfOk result (λ bytes. IsDump (bytes_of lines.now) settings.now.from settings.now.to bytes.items) }
 {
     let shown = shown_of(lines, settings.from, settings.to);
     let clocks = clocks_of(facts, shown);
@@ -189,12 +223,13 @@ fn dump_of(
     };
     let lines = &lines[shown.first..shown.end];
     walk_over(&mut walk, lines, shown, clocks, changes.as_slice())?;
-    walk.dump.goes_on();
+    let _span = walk.dump.span();
     let head = declarations(alloc, scale, settings.names, applications)?;
     whole(head, &walk.dump)
 }
 
-/// The dump of a run, from the lines of its transcript: declarations, and values at times that never go back.
+/// The dump of a run, from the lines of its transcript: declarations, and values at times that never go back, from the clock of the
+/// first line that is shown to a tick after the last one's.
 ///
 /// # Errors
 ///
@@ -204,7 +239,7 @@ pub fn wave_of(
     lines: &[&str],
     settings: &Settings<'_>,
 ) -> Result<Vec<u8>, AllocError>
-    ensures { IfOk result (λ bytes. IsDump bytes.items) }
+    ensures { IfOk result (λ bytes. IsDump (bytes_of lines.now) settings.now.from settings.now.to bytes.items) }
 {
     let facts = facts_of(alloc, lines, settings.sizes)?;
     dump_of(alloc, lines, settings, &facts)

@@ -1,7 +1,7 @@
 //! The values of a dump: ascending times, and after each of them the values that change there.
 
-ghost use Rattle.std.specs.Prelude.{◌≡◌, ◌⊎◌, ℕ, List, ◌++◌, ◌<◌, IfOk};
-ghost use Rattle.pictures.specs.Dump.{AreChanges, time_line, value_digits, value_line};
+ghost use Rattle.std.specs.Prelude.{◌≡◌, ◌⊎◌, ◌++◌, ◌<◌, ◌≤◌, IfOk};
+ghost use Rattle.pictures.specs.Dump.{AreChanges, Values, time_line, value_digits, value_line};
 
 use itoa::Buffer;
 use std::alloc::{AllocError, Global};
@@ -56,35 +56,41 @@ fn push_time(out: &mut Vec<u8>, time: u64) -> Result<(), AllocError>
 pub(crate) struct Dump {
     alloc: Global,
     bytes: Vec<u8>,
-    /// The last time in it.
+    /// The first time in it.
+    first: u64,
+    /// The last one.
     last: u64,
 }
 
 impl Model for Dump {
-    ghost Value = { List ℕ };
+    ghost Value = { Values };
 
-    ghost view = { λ dump. dump.bytes.items };
+    ghost view = { λ dump. record { first = dump.first; last = dump.last; text = dump.bytes.items } };
 
-    ghost invariant = { λ dump. AreChanges dump.last dump.bytes.items };
+    ghost invariant = { λ dump. AreChanges dump.first dump.last dump.bytes.items };
 }
 
 impl Dump {
     /// A dump that begins at a time.
     pub(crate) fn new(alloc: Global, time: u64) -> Result<Self, AllocError>
-        ensures { IfOk result (λ dump. dump ≡ time_line time) }
+        ensures first { IfOk result (λ dump. dump.first ≡ time) }
+        ensures text { IfOk result (λ dump. dump.text ≡ time_line time) }
     {
         let mut bytes = Vec::new(alloc);
         push_time(&mut bytes, time)?;
         Ok(Dump {
             alloc,
             bytes,
+            first: time,
             last: time,
         })
     }
 
     /// What follows is at that time, or at the time before where that is later.
     pub(crate) fn go_to(&mut self, time: u64) -> Result<(), AllocError>
-        ensures { IfOk result (λ _. (self.new ≡ self.old) ⊎ (self.new ≡ self.old ++ time_line time)) }
+        ensures first { self.new.first ≡ self.old.first }
+        ensures last { IfOk result (λ _. time ≤ self.new.last) }
+        ensures text { IfOk result (λ _. (self.new.text ≡ self.old.text) ⊎ (self.new.text ≡ self.old.text ++ time_line time)) }
     {
         if time <= self.last {
             return Ok(());
@@ -99,7 +105,8 @@ impl Dump {
     /// A signal has a value from now on.
     pub(crate) fn set(&mut self, signal: u8, value: Value) -> Result<(), AllocError>
         requires { signal < 94 }
-        ensures { IfOk result (λ _. self.new ≡ self.old ++ value_line value signal) }
+        ensures first { self.new.first ≡ self.old.first }
+        ensures text { IfOk result (λ _. self.new.text ≡ self.old.text ++ value_line value signal) }
     {
         let mut line = Vec::new(self.alloc);
         push_value(self.alloc, &mut line, value, signal)?;
@@ -107,16 +114,17 @@ impl Dump {
     }
 
     pub(crate) fn bytes(&self) -> &[u8]
-        ensures { result.now ≡ self.now }
+        ensures { result.now ≡ self.now.text }
     {
         self.bytes.as_slice()
     }
 
-    /// Times grow in it.
-    pub(crate) fn goes_on(&self)
-        ensures { (time : ℕ) × AreChanges time self.now }
+    /// The first time in it, and the last one: times grow from the one to the other.
+    pub(crate) fn span(&self) -> (u64, u64)
+        ensures first { result.0 ≡ self.now.first }
+        ensures last { result.1 ≡ self.now.last }
+        ensures changes { AreChanges result.0 result.1 self.now.text }
     {
-        // Does nothing: the clause states what holds of each dump.
-        let _bytes = &self.bytes;
+        (self.first, self.last)
     }
 }
