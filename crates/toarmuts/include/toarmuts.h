@@ -303,7 +303,7 @@ struct toarmuts_application {
 enum toarmuts_input_kind { TOARMUTS_TICK, TOARMUTS_SERIAL, TOARMUTS_FRAME };
 
 /* Opens a mote with this number of applications (0 to 16), processes 4, 5, .. All its memory is allocated here: with `quiet`
- * of the configuration 4 KB less, and then each toarmuts_line needs 10 KB of stack, and is slower. */
+ * of the configuration 1 KB less, and then each toarmuts_line needs 3 KB more of the stack, and is slower. */
 uint32_t toarmuts_open(const struct toarmuts_configuration *configuration, uint32_t applications, struct toarmuts_mote *mote);
 
 /* Passes a line of a script, without its line end. An empty line and a comment are DONE and do nothing. */
