@@ -46,23 +46,23 @@ first_chain (AreChains.more {chains = first ∷ []} before chain change inside b
 first_chain (AreChains.more {chains = first ∷ second ∷ chains} before chain change inside blocks) one same = absurd (cc)
 
 -- a dump has 94 signals
-abbrev AreFew : {time : ℕ} {text : List ℕ} → AreChanges time text → Type 0
+abbrev AreFew : {first time : ℕ} {text : List ℕ} → AreChanges first time text → Type 0
 AreFew (AreChanges.begun time) = ⊤
 AreFew (AreChanges.set before value signal few) = AreFew before × (signal ≤ 93)
 AreFew (AreChanges.later before next later) = AreFew before
 
-few_signals : {time : ℕ} {text : List ℕ} (changes : AreChanges time text) → AreFew changes
+few_signals : {first time : ℕ} {text : List ℕ} (changes : AreChanges first time text) → AreFew changes
 few_signals (AreChanges.begun time) = tt
 few_signals (AreChanges.set before value signal few) = (few_signals before, omega (arith, few))
 few_signals (AreChanges.later before next later) = few_signals before
 
 -- no time is there twice
-abbrev times : {time : ℕ} {text : List ℕ} → AreChanges time text → ℕ
+abbrev times : {first time : ℕ} {text : List ℕ} → AreChanges first time text → ℕ
 times (AreChanges.begun time) = 0
 times (AreChanges.set before value signal few) = times before
 times (AreChanges.later before next later) = times before + 1
 
-each_later : {time : ℕ} {text : List ℕ} (changes : AreChanges time text) → times changes ≤ time
+each_later : {first time : ℕ} {text : List ℕ} (changes : AreChanges first time text) → times changes ≤ time
 each_later (AreChanges.begun time) = omega arith
 each_later (AreChanges.set before value signal few) = each_later before
-each_later (AreChanges.later {time} before next later) = omega (arith, each_later before, later)
+each_later (AreChanges.later {first} {time} before next later) = omega (arith, each_later before, later)

@@ -95,35 +95,35 @@ one_receives call event to (Posts.to_one word text first) is =
     (rw four refl, ap (drop 2) others)
 
 -- the signals of changes, and where they begin
-abbrev signals : {time : ℕ} {text : List ℕ} → AreChanges time text → List ℕ
+abbrev signals : {first time : ℕ} {text : List ℕ} → AreChanges first time text → List ℕ
 signals (AreChanges.begun time) = []
 signals (AreChanges.set before value signal few) = signal ∷ signals before
 signals (AreChanges.later before next later) = signals before
 
-abbrev begins : {time : ℕ} {text : List ℕ} → AreChanges time text → ℕ
+abbrev begins : {first time : ℕ} {text : List ℕ} → AreChanges first time text → ℕ
 begins (AreChanges.begun time) = time
 begins (AreChanges.set before value signal few) = begins before
 begins (AreChanges.later before next later) = begins before
 
-not_back : {time : ℕ} {text : List ℕ} (changes : AreChanges time text) → begins changes ≤ time
+not_back : {first time : ℕ} {text : List ℕ} (changes : AreChanges first time text) → begins changes ≤ time
 not_back (AreChanges.begun time) = omega arith
 not_back (AreChanges.set before value signal few) = not_back before
-not_back (AreChanges.later {time} before next later) = omega (arith, not_back before, later)
+not_back (AreChanges.later {first} {time} before next later) = omega (arith, not_back before, later)
 
-no_values : {time : ℕ} {text : List ℕ} → AreChanges time text → text ≡ [] → ⊥
+no_values : {first time : ℕ} {text : List ℕ} → AreChanges first time text → text ≡ [] → ⊥
 no_values (AreChanges.begun time) none = absurd (cc)
-no_values (AreChanges.set {time} {before} changes value signal few) none = ends before none
+no_values (AreChanges.set {first} {time} {before} changes value signal few) none = ends before none
   where
     ends : (front : List ℕ) → front ++ value_line value signal ≡ [] → ⊥
     ends [] same = absurd (cc)
     ends (byte ∷ front) same = absurd (cc)
-no_values (AreChanges.later {time} {before} changes next later) none = ends before none
+no_values (AreChanges.later {first} {time} {before} changes next later) none = ends before none
   where
     ends : (front : List ℕ) → front ++ time_line next ≡ [] → ⊥
     ends [] same = absurd (cc)
     ends (byte ∷ front) same = absurd (cc)
 
-module _ (dump : List ℕ) (is : IsDump dump) where
+module _ (lines : List (List ℕ)) (from to : ℕ) (dump : List ℕ) (is : IsDump lines from to dump) where
   no_dump : is.values ≡ [] → ⊥
   no_dump none = no_values is.are_changes none
 
