@@ -1,6 +1,6 @@
 -- Lines, byte by byte.
-use Rattle.std.proofs.Common.{◌≡◌, ℕ, zero, suc, ◌≤◌, ◌<◌, Bool, true, false, List, [], ◌∷◌, ◌++◌, length, take, drop, refl, ap, ◌∙◌, arith, append_assoc, Some, None, length-append, ◌⊎◌, slice_get}
-use Rattle.device_core.proofs.Common.{after_byte, with_bytes, take_all, take_at, append-nil, before_first, after_first, SerialLine, next_line, after_line, is_line_end}
+use Rattle.std.proofs.Common.{◌≡◌, ℕ, zero, suc, ◌≤◌, ◌<◌, Bool, false, List, [], ◌∷◌, ◌++◌, length, take, drop, refl, ap, ◌∙◌, arith, append_assoc, Some, None, length-append, slice_get}
+use Rattle.device_core.proofs.Common.{with_bytes, take_all, take_at, append-nil, after_first, SerialLine, next_line, after_line, is_line_end}
 use Rattle.circular_buffer.specs.Buffer.{keep_last}
 
 abbrev pub state : List ℕ → Bool → List ℕ → SerialLine

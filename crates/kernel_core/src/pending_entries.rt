@@ -32,7 +32,7 @@ fn put_tick(made: &mut Entry, ticks: u32)
     match made {
         // Another kind of entry is overwritten whole, with zeros after the number.
         Entry::Input(Input::Tick(number)) => *number = ticks,
-        _ => *made = Entry::Input(Input::Tick(ticks)),
+        _ => write_tick(made, ticks),
     }
 }
 

@@ -1,5 +1,5 @@
 -- A pool's two lists after a change of links, of heads or of used blocks.
-use Rattle.memb_core.proofs.Words.{◌≡◌, ◌≢◌, ℕ, suc, ◌≤◌, ◌<◌, ◌⊎◌, true, false, List, [], ◌∷◌, length, sym, ◌∙◌, arith, Option, Some, None, IfSome, slice_get, PoolTable, ListHeads, ListName, has_number, without, put_behind, popped, pool_of, IsWithin, start_of, link_of, list_of, Names, AreDistinct, is_used, IsLinked, AreLinked, KeepsLists, LeavesOthers, with_start}
+use Rattle.memb_core.proofs.Words.{◌≡◌, ◌≢◌, ℕ, suc, ◌≤◌, ◌<◌, true, false, List, [], ◌∷◌, length, sym, ◌∙◌, arith, Option, Some, None, IfSome, slice_get, PoolTable, ListHeads, ListName, has_number, without, put_behind, popped, pool_of, IsWithin, start_of, link_of, list_of, Names, AreDistinct, is_used, IsLinked, AreLinked, KeepsLists, LeavesOthers, with_start}
 use Rattle.memb_core.proofs.Blocks.{used_below}
 use Rattle.memb_core.proofs.Numbers.{has_at, has_cases, differ, at_most, has_left, distinct_left, had_behind, distinct_behind, without_head}
 use Rattle.memb_core.proofs.Chains.{all_along_none, all_along_is, head_named, names_agree, link_listed, names_without, names_behind}

@@ -1,13 +1,9 @@
 -- Where a resized block is, by what the code found.
-use Rattle.std.proofs.Common.{arith, ◌≡◌, ℕ, ◌<◌, List, length, Option, Some, None, sym, ap, ◌∙◌, subst, IsSomeAnd}
-use Rattle.std.specs.Option.{option_map, option_or}
-use Rattle.heap_core.specs.declared.chunk.Place.{Place}
-use Rattle.heap_core.specs.HeapStore.{Block, HeapStore, find_block, place, place_of, new_place, room_in_place}
+use Rattle.std.proofs.Common.{arith, ◌≡◌, ℕ, ◌<◌, List, length, Some}
+use Rattle.heap_core.specs.HeapStore.{find_block}
 use Rattle.modules_c.specs.declared.heapmem.row.Row.{Row}
-use Rattle.modules_c.specs.declared.heapmem.outcome.Outcome.{Outcome}
 use Rattle.modules_c.specs.Heapmem.Heaps.{block_told, heap_of, IsTable}
-use Rattle.modules_c.specs.Heapmem.Answers.{ReallocTold}
-use Rattle.modules_c.specs.Code.HeapmemRows.{row_of, HasNoPlace}
+use Rattle.modules_c.specs.Code.HeapmemRows.{row_of}
 use Rattle.modules_c.proofs.HeapmemEdits.{block_found}
 
 pub found_at : (rows : List Row) (bytes : List ℕ) (i at : ℕ) → IsTable rows (length bytes) → i < length rows → (row_of rows i).offset ≡ at

@@ -10,8 +10,7 @@ use Rattle.arena_core.proofs.Ranges.{length-written}
 use Rattle.arena_core.proofs.Rows.{written_is}
 use Rattle.mote_types.specs.Bytes.{range_of, resized}
 use Rattle.heap_core.specs.declared.chunk.Gap.{Gap}
-use Rattle.heap_core.specs.HeapStore.{HeapStore, end_of, footprint, gaps_from, gap_between, gap_at, room_taken, least_room, room_in_place, place_of}
-use Rattle.heap_core.proofs.Lemmas.Gaps.{choice}
+use Rattle.heap_core.specs.HeapStore.{HeapStore, end_of, footprint, gaps_from, gap_at, room_taken, least_room, room_in_place, place_of}
 use Rattle.modules_c.specs.declared.heapmem.row.Row.{Row}
 use Rattle.modules_c.specs.Heapmem.Heaps.{block_told, heap_of, size_of, room_of, LieFrom, IsTable, with_resized}
 use Rattle.modules_c.specs.Code.HeapmemRows.{row_of, with_row, without_row, next_place, IsFree}

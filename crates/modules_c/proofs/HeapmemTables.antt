@@ -1,7 +1,6 @@
 -- Rows that are a table, and the free memory between them.
 use Rattle.std.proofs.Common.{◌≡◌, ℕ, zero, suc, ◌+◌, ◌≤◌, ◌<◌, inl, inr, List, [], ◌∷◌, ◌++◌, length, slice_index_or, refl, ap, arith}
 use Rattle.std.specs.List.Sorted.{IsNonDecreasingBy}
-use Rattle.heap_core.specs.HeapStore.{least_room, room_taken}
 use Rattle.modules_c.specs.declared.heapmem.row.Row.{Row}
 use Rattle.modules_c.specs.Heapmem.Heaps.{room_of, LieFrom, IsTable}
 use Rattle.modules_c.specs.Code.HeapmemRows.{IsFree, next_place, row_of, with_row, without_row}

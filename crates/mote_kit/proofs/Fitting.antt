@@ -1,5 +1,5 @@
 -- A text that leaves parts out fits where each part is matched as soon as it can be.
-use Rattle.std.proofs.Common.{Option, Some, None, ◌≡◌, ◌≢◌, ◌≤◌, ◌<◌, ◌+◌, ◌-◌, ◌↔◌, ◌++◌, ◌∙◌, ◌∷◌, ℕ, Bool, true, false, List, [], length, map, get_or, zero, suc, take, drop, inl, inr, refl, sym, ap, subst, arith, append_assoc, length-append}
+use Rattle.std.proofs.Common.{Option, Some, None, ◌≡◌, ◌≢◌, ◌≤◌, ◌<◌, ◌+◌, ◌-◌, ◌↔◌, ◌++◌, ◌∙◌, ◌∷◌, ℕ, Bool, true, false, List, [], length, get_or, zero, suc, take, drop, inl, inr, refl, sym, ap, subst, arith, append_assoc, length-append}
 use Rattle.std.proofs.lemmas.List.{append_cancel_left, map-append, take-append-drop, length-take-le, append-nil, take-map, drop-map, length-map, take_all, length-drop}
 use Rattle.std.proofs.lemmas.Slice.Eq.{bytes_eq-Decides, slice_eq-Decides, ends_is}
 use Rattle.std.specs.Cmp.Derive.Mapped.{pointwise-map}

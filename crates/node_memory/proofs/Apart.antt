@@ -1,7 +1,7 @@
 -- The live blocks of all kinds are apart, and each is read from its own part of the arena.
 use Rattle.arena_core.specs.Code.Extents.{Extent, LiesIn, AreApart}
 use Rattle.heap_core.proofs.Callers.{IsLaidOut-apart}
-use Rattle.memb_core.specs.Code.PoolBytes.{pool_of, place_of, IsWithin}
+use Rattle.memb_core.specs.Code.PoolBytes.{pool_of, IsWithin}
 use Rattle.memb_core.specs.Code.PoolTable.{PoolTable}
 use Rattle.mote_types.specs.Bytes.{range_of}
 use Rattle.node_memory.specs.Code.Layout.{IsLaidOut, LieBehind, end_of}

@@ -1,5 +1,5 @@
 -- What says nothing: texts that aren't read.
-use Rattle.std.proofs.Common.{◌≡◌, ◌∙◌, ◌<◌, ◌^◌, ◌==◌, ℕ, Bool, true, false, List, ◌++◌, append_assoc, codes, decimal, get_or, Some, None, is_some, refl, sym, ap, arith}
+use Rattle.std.proofs.Common.{◌≡◌, ◌∙◌, ◌<◌, ◌^◌, ◌==◌, ℕ, true, false, List, ◌++◌, append_assoc, codes, decimal, get_or, Some, None, refl, sym, ap, arith}
 use Rattle.std.proofs.lemmas.Bool.{eqb-false, ltb-true, true≢false}
 use Rattle.std.proofs.lemmas.Fmt.{decimal_nonempty}
 use Rattle.std.proofs.lemmas.List.{append_cancel_left, get_or_append_left}
