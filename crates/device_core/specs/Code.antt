@@ -2,3 +2,4 @@
 pub mod HeldFrames
 pub mod PacketFields
 pub mod Taking
+pub mod WholeLines

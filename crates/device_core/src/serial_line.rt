@@ -1,25 +1,17 @@
-//! The serial line: bytes arrive through a ring, and leave as lines.
+//! The serial line: bytes arrive, and leave as lines.
 
-ghost use Rattle.std.specs.Prelude.{◌≡◌, ◌<◌, length, IfOk, OnSome};
+ghost use Rattle.std.specs.Prelude.{◌≡◌, ◌<◌, length, IfOk, OnSome, false};
 ghost use Rattle.std.specs.Option.{option_map};
-ghost use Rattle.device_core.specs.SerialLine.{quiet_line, after_byte, after_bytes, line_of, next_line, after_line};
-ghost use Rattle.device_core.specs.Code.Taking.{takes_all};
+ghost use Rattle.device_core.specs.SerialLine.{quiet_line, after_bytes, line_of, next_line, after_line};
+ghost use Rattle.device_core.specs.Code.WholeLines.{has_low_byte, is_one_line};
 
+use crate::byte_ring::{ByteRing, CARRIAGE_RETURN, LINE_END, RING_PLACES};
 use arrayvec::ArrayVec;
-use circular_buffer::HeapCircularBuffer;
 use std::alloc::{AllocError, Global};
 use std::marker::Model;
 
 /// A line without its end: at most 127 bytes.
 pub type Line = ArrayVec<u8, 127>;
-
-/// The number of bytes that the ring holds.
-const RING_PLACES: usize = 127;
-
-const LINE_END: u8 = 10;
-
-/// This byte is ignored.
-const CARRIAGE_RETURN: u8 = 13;
 
 /// The bytes that arrived on the serial line, and the line that has begun.
 ///
@@ -27,21 +19,41 @@ const CARRIAGE_RETURN: u8 = 13;
 /// and a line.
 #[derive(Drop)]
 pub struct SerialLine {
-    ring: HeapCircularBuffer<u8>,
-    overflow: bool,
-    line: Line,
+    bytes: ByteRing,
+    /// A whole line arrived at once, and nothing else waits. It is stored without its end, where a line that has begun is: most
+    /// lines arrive and leave so, and never pass through the ring.
+    is_whole: bool,
 }
 
 impl Model for SerialLine {
-    ghost use Rattle.std.specs.Prelude.{◌≡◌, ◌≤◌, length};
-    ghost use Rattle.mote_types.specs.Limits.{ring_places, line_bytes};
+    ghost use Rattle.std.specs.Prelude.{◌≡◌, true};
     ghost use Rattle.device_core.specs.SerialLine.{SerialLine as SerialState};
+    ghost use Rattle.device_core.specs.Code.WholeLines.{IsWholeLine, state_of};
 
     ghost Value = { SerialState };
 
-    ghost view = { λ s. record { ring = s.ring.items; overflow = s.overflow; line = s.line.items } };
+    ghost view = { λ s. state_of s.is_whole s.bytes };
 
-    ghost invariant = { λ s. (s.ring.capacity ≡ ring_places) × (length s.line.items ≤ line_bytes) };
+    ghost invariant = { λ s. s.is_whole ≡ true → IsWholeLine s.bytes };
+}
+
+/// Whether one of these bytes is at most 13: a line end, a byte that is ignored, or another of the first control characters.
+fn has_low_byte(bytes: &[u8]) -> bool
+    ensures { result ≡ has_low_byte bytes.now }
+{
+    bytes.iter().any(|byte| *byte <= CARRIAGE_RETURN)
+}
+
+/// Whether these bytes are a line and its end, for which the ring has room. A line with another low byte counts as none: so one
+/// comparison a byte is enough.
+fn is_one_line(bytes: &[u8]) -> bool
+    ensures { result ≡ is_one_line bytes.now }
+{
+    if bytes.is_empty() || bytes.len() > RING_PLACES {
+        return false;
+    }
+    let last = bytes.len() - 1;
+    bytes[last] == LINE_END && !has_low_byte(&bytes[..last])
 }
 
 impl SerialLine {
@@ -50,11 +62,10 @@ impl SerialLine {
     pub fn new(alloc: Global) -> Result<SerialLine, AllocError>
         ensures { IfOk result (λ serial. serial ≡ quiet_line) }
     {
-        let ring = HeapCircularBuffer::with_capacity(alloc, RING_PLACES)?;
+        let bytes = ByteRing::new(alloc)?;
         Ok(SerialLine {
-            ring,
-            overflow: false,
-            line: ArrayVec::new(),
+            bytes,
+            is_whole: false,
         })
     }
 
@@ -65,44 +76,24 @@ impl SerialLine {
     pub fn input(&mut self, bytes: &[u8])
         ensures { self.new ≡ after_bytes self.old bytes.now }
     {
-        if self.takes_all(bytes) {
-            let _ = self.ring.fill_from_slice(bytes);
+        if !self.is_whole && self.bytes.is_quiet() && is_one_line(bytes) {
+            self.bytes.begin_line(&bytes[..bytes.len() - 1]);
+            self.is_whole = true;
         } else {
-            self.take_each(bytes);
+            self.input_through_ring(bytes);
         }
     }
 
-    /// Whether, outside the overflow state, none of these bytes is ignored or lost: then they go into the ring together.
-    fn takes_all(&self, bytes: &[u8]) -> bool
-        ensures { result ≡ takes_all self.now bytes.now }
-    {
-        !self.overflow
-            && bytes.len() <= RING_PLACES - self.ring.len()
-            && !bytes.contains(&CARRIAGE_RETURN)
-    }
-
-    fn take_each(&mut self, bytes: &[u8])
+    // Out of line: few inputs need it.
+    #[inline(never)]
+    fn input_through_ring(&mut self, bytes: &[u8])
         ensures { self.new ≡ after_bytes self.old bytes.now }
     {
-        for byte in bytes {
-            self.take(*byte);
+        if self.is_whole {
+            self.bytes.put_line_into_ring();
+            self.is_whole = false;
         }
-    }
-
-    fn take(&mut self, byte: u8)
-        ensures { self.new ≡ after_byte self.old byte }
-    {
-        if byte == CARRIAGE_RETURN {
-            return;
-        }
-        if self.ring.len() == RING_PLACES {
-            self.overflow = true;
-            return;
-        }
-        if !self.overflow || byte == LINE_END {
-            let _ = self.ring.push_back(byte);
-            self.overflow = false;
-        }
+        self.bytes.input(bytes);
     }
 
     /// The next whole line, without its end; what follows it stays in the ring. Of a longer line the first 127 bytes are
@@ -116,12 +107,10 @@ impl SerialLine {
         // so a caller that serves all lines terminates
         ensures shorter { OnSome result (length self.new.ring < length self.old.ring) }
     {
-        while let Some(byte) = self.ring.pop_front() {
-            if byte == LINE_END {
-                return Some(self.line.take());
-            }
-            let _ = self.line.try_push(byte);
+        if self.is_whole {
+            self.is_whole = false;
+            return Some(self.bytes.take_line());
         }
-        None
+        self.bytes.serve()
     }
 }

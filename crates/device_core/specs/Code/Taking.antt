@@ -8,3 +8,7 @@ use Rattle.device_core.specs.SerialLine.{SerialLine}
 abbrev pub takes_all : SerialLine → List ℕ → Bool
 takes_all serial bytes =
     not serial.overflow && nat_le (length serial.ring + length bytes) ring_places && not (list_any (λ byte. byte == 13) bytes)
+
+-- nothing waits, no line has begun, and no byte was lost since the last line end
+abbrev pub is_quiet : SerialLine → Bool
+is_quiet serial = not serial.overflow && length serial.ring == 0 && length serial.line == 0

@@ -1,16 +1,14 @@
-use Rattle.std.proofs.Common.{◌++◌, ap, sym, ◌∙◌}
-use Rattle.device_core.proofs.Common.{after_bytes, takes_all}
-use Rattle.device_core.proofs.Lines.{state}
-use Rattle.device_core.proofs.TakenTogether.{after_bytes_all_taken, none_left}
+use Rattle.std.proofs.Common.{ap, arith, sym, ◌∙◌}
+use Rattle.device_core.proofs.Common.{after_bytes}
+use Rattle.device_core.proofs.WholeLines.{is_whole, quiet, taken_whole}
 use Rattle.device_core.proofs.serial_line.SerialLine.input.Goals as goal
 
-pub returns-then-takes_all : goal.returns-then-takes_all
-returns-then-takes_all c =
-    let s = c.self.inside in
+pub invariant_of-self : goal.invariant_of-self
+invariant_of-self c = λ _. rw c.begin_line.ensures (is_whole c.args.bytes.now (sym c.is_one_line.ensures ∙ c.if-is_one_line.true))
+
+pub returns-then-is_one_line : goal.returns-then-is_one_line
+returns-then-is_one_line c =
     let bytes = c.args.bytes.now in
-    let all = ap (λ v. takes_all v bytes) c.self.view_is ∙ sym c.takes_all.ensures ∙ c.if-takes_all.true in
-    let fill = c.fill_from_slice in
-    let whole = none_left s.ring.items bytes s.line.items s.overflow fill.result all (rw (sym c.self.invariant.0) fill.ensures.count) in
-    rw (fill.ensures.items)
-    (ap (λ more. state (s.ring.items ++ more) s.overflow s.line.items) whole
-    ∙ sym (after_bytes_all_taken s.ring.items bytes s.line.items s.overflow all) ∙ ap (λ v. after_bytes v bytes) c.self.view_is)
+    let before = quiet c.self.inside.bytes (sym c.is_quiet.ensures ∙ c.if-is_quiet.true) in
+    rw c.begin_line.ensures (sym (taken_whole bytes (sym c.is_one_line.ensures ∙ c.if-is_one_line.true))
+    ∙ ap (λ serial. after_bytes serial bytes) (sym before ∙ grind arith))

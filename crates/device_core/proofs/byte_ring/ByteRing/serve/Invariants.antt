@@ -1,7 +1,7 @@
 use Rattle.std.proofs.Common.{◌≡◌, ◌≤◌, length}
 use Rattle.mote_types.specs.Limits.{ring_places, line_bytes}
 use Rattle.device_core.proofs.Lines.{ServesAlike, state}
-use Rattle.device_core.proofs.serial_line.SerialLine.serve.Given as goal
+use Rattle.device_core.proofs.byte_ring.ByteRing.serve.Given as goal
 
 -- bytes taken from the ring are in the line, so serving the rest serves all
 abbrev pub invariant-loop-byte : goal.invariant-loop-byte

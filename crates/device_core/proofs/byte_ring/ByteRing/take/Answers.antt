@@ -1,6 +1,6 @@
 use Rattle.std.proofs.Common.{arith}
 use Rattle.device_core.proofs.Lines.{keep_last_all}
-use Rattle.device_core.proofs.serial_line.SerialLine.take.Goals as goal
+use Rattle.device_core.proofs.byte_ring.ByteRing.take.Goals as goal
 
 pub returns-then-not-self : goal.returns-then-not-self
 returns-then-not-self c = grind (arith, keep_last_all)
