@@ -39,6 +39,3 @@ take_past p q n le = let e : length p + (n - length p) ≡ n = omega arith in gr
 pub written-range : (xs : List ℕ) (at n x : ℕ) (ws : List ℕ) → x + length ws ≤ n → at + n ≤ length xs
     → slice_range (written xs (at + x) ws) at (at + n) ≡ written (slice_range xs at (at + n)) x ws
 written-range xs at n x ws within inside = grind (arith, length-take, between_is, take-written, drop-written_in)
-
-pub written-same : (xs : List ℕ) (at n : ℕ) → at + n ≤ length xs → written xs at (slice_range xs at (at + n)) ≡ xs
-written-same xs at n fits = grind (arith, written_is, length-take, length-drop, take-append-drop, drop-drop)

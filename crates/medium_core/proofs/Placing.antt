@@ -36,10 +36,6 @@ early_until due (g ∷ flights) (suc at) d order h e =
     let below = all_at (λ (x : Flight). g.due ≤ x.due) flights at d (omega arith) order.0 in
     (omega (arith, below, e), early_until due flights at d order.1 (omega arith) e)
 
-pub none_later : (due : ℕ) (flights : List Flight) → AreLater due (drop (length flights) flights)
-none_later due [] = tt
-none_later due (g ∷ flights) = none_later due flights
-
 pub early_to : (due : ℕ) (flights : List Flight) (at before : ℕ) (d : Flight) → suc before ≡ at → InOrder flights → before < length flights →
     (get_or flights before d).due ≤ due → AreEarly due (take at flights)
 early_to due flights at before d same order h e = subst (λ (n : ℕ). AreEarly due (take n flights)) same (early_until due flights before d order h e)

@@ -77,14 +77,6 @@ pub LieApart-freed : (places : List (Option Place)) (size i : ℕ) → i < lengt
 LieApart-freed places size i below lie = LieApart-set places i None below size lie (omega arith) (λ some. absurd (some refl))
     (λ j ne none _. absurd (omega arith))
 
--- a block of a table, and the other ones
-module _ (places : List (Option Place)) (size i : ℕ) (place : Place) (lie : LieApart places size)
-    (live : place_in places i ≡ Some place) where
-  -- each other block is before or after it
-  pub sides : (j : ℕ) → j ≢ i → (at_of (place_in places j) + room_of (place_in places j) ≤ place.at)
-      ⊎ (place.at + up4 place.len ≤ at_of (place_in places j))
-  sides j ne = grind arith
-
 -- it begins where the last of the others ends
 pub begins_behind : (xs : List (Option Place)) (i n : ℕ) → i < length xs → place_in xs i ≡ None
     → (ys : List (Option Place)) → ys ≡ slice_set xs i (placed (last_end xs) n)

@@ -9,11 +9,6 @@ pub same_sum : (f g : ℕ → ℕ) (from n : ℕ) → ((i : ℕ) → from ≤ i 
 same_sum f g from zero same = refl
 same_sum f g from (suc n) same = grind (arith, sum_by-cons, same_sum f g (from + 1) n)
 
-sum_changed : (f g : ℕ → ℕ) (h from n : ℕ) → from ≤ h → h < from + n → ((i : ℕ) → i ≢ h → f i ≡ g i)
-    → sum_by f (range_with_len from n) + g h ≡ sum_by g (range_with_len from n) + f h
-sum_changed f g h from zero low high same = absurd (omega arith)
-sum_changed f g h from (suc n) low high same = grind (arith, sum_by-cons, same_sum, sum_changed f g h (from + 1) n)
-
 room_by-none : (n p : ℕ) → room_by p (replicate n None) ≡ 0
 room_by-none n p = grind (arith, place_in-none)
 

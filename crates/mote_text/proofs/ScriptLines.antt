@@ -21,9 +21,6 @@ with_last_onto_first byte ([] ∷ []) some = refl
 with_last_onto_first byte ((first ∷ line) ∷ []) some = rw (has_bytes first line, has_bytes byte (first ∷ line)) refl
 with_last_onto_first byte (line ∷ next ∷ later) some = refl
 
-pub lines_of_none : script_lines [] ≡ []
-lines_of_none = refl
-
 -- one more byte in front: a newline ends an empty line, any other byte goes in front of the first line
 pub lines_with_byte : (byte : ℕ) (bytes : List ℕ) (is_end : Bool) → (byte == 10) ≡ is_end →
     script_lines (byte ∷ bytes) ≡ (if is_end then [] ∷ script_lines bytes else onto_first byte (script_lines bytes))

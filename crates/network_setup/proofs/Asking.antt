@@ -64,19 +64,7 @@ silent_here apps p stimuli (inl early) = let test : nat_lt p 4 ≡ true = grind 
 silent_here apps p stimuli (inr late) =
     says_of_application mote_app_says apps p stimuli (omega (arith, late)) ∙ silent_beyond apps (p - 4) stimuli (omega (arith, late))
 
-either_way : (early : Bool) → (if early then Call.Wait else Call.Wait) ≡ Call.Wait
-either_way true = refl
-either_way false = refl
-
-none_beyond : {X : Type 0} (xs : List X) (i : ℕ) → length xs ≤ i → slice_get xs i ≡ None
-none_beyond [] i beyond = refl
-none_beyond (x ∷ xs) zero beyond = absurd (omega (arith, beyond))
-none_beyond (x ∷ xs) (suc i) beyond = none_beyond xs i (omega (arith, beyond))
-
 module _ (motes : List (Vec MoteApp)) (m p : ℕ) where
-  pub silent_mote : length motes ≤ m → (stimuli : List Stimulus) → voices_of motes m p stimuli ≡ Call.Wait
-  silent_mote beyond stimuli = rw (none_beyond motes m beyond) (either_way (nat_lt p 4))
-
   pub silent_application : (apps : Vec MoteApp) → m < length motes → apps ≡ get_or motes m apps → (p < 4) ⊎ (4 + length apps.items ≤ p) →
       (stimuli : List Stimulus) → voices_of motes m p stimuli ≡ Call.Wait
   silent_application apps within there lacks stimuli =

@@ -56,20 +56,10 @@ no_and false = refl
 if_so : (config : Config) → is_bootable config ≡ true → if_bootable config ≡ Some config
 if_so config boots = rw boots refl
 
-if_not : (config : Config) → is_bootable config ≡ false → if_bootable config ≡ None
-if_not config fails = rw fails refl
-
 pub is_said : (words : List (List ℕ)) (calls : Option (List ℕ)) (config : Config) (own : List MoteApp) → IsMoteSaid words calls config own →
     is_bootable config ≡ true → config_said words calls ≡ Some config
 is_said words calls config own mote boots =
     rw mote.said (subst (λ (c : Config). if_bootable c ≡ Some config) mote.is (if_so config boots))
-
-pub not_bootable : (words : List (List ℕ)) (calls : Option (List ℕ)) (config : Config) (own : List MoteApp) →
-    IsMoteSaid words calls config own → is_bootable config ≡ false → SaysNoMote words calls
-not_bootable words calls config own mote fails =
-    let none : config_said words calls ≡ None =
-    rw mote.said (subst (λ (c : Config). if_bootable c ≡ None) mote.is (if_not config fails)) in
-    no_configuration none
 
 pub too_many : (words : List (List ℕ)) (calls : Option (List ℕ)) (sizes : Config) (own : List MoteApp) → AreSaid (names_said None words) calls own →
     sizes_said None words default_config ≡ Some sizes → nat_le (length own) 16 ≡ false → SaysNoMote words calls
@@ -78,10 +68,6 @@ too_many words calls sizes own said is many =
     let over : nat_le (count_said words calls) 16 ≡ false = rw (← count) many in
     let none : config_said words calls ≡ None = rw (is, over, no_and _) refl in
     no_configuration none
-
-pub bad_words : (words : List (List ℕ)) (calls : Option (List ℕ)) → AreBadWords None words default_config → SaysNoMote words calls
-bad_words words calls (inl no_sizes) = let none : config_said words calls ≡ None = rw no_sizes refl in no_configuration none
-bad_words words calls (inr unknown) = no_application unknown
 
 -- why a line of this form says no motes
 pub no_motes : (text : List ℕ) (setup : SetupView) (line : MoteLine) → mote_line text ≡ Some line →

@@ -50,10 +50,6 @@ text_more quiet (h ∷ log) more air =
 
 -- the air after a step
 
-or_right : (a b : Bool) → (a || b) ≡ false → b ≡ false
-or_right true b none = absurd (cc)
-or_right false b none = none
-
 aired_sends : (m : ℕ) (o : Option (ArrayVec ℕ)) (air : Air) → aired_if m o air ≡ all_done (sends m o) air
 aired_sends m None air = refl
 aired_sends m (Some bytes) air = refl

@@ -99,10 +99,3 @@ less_handed w old new fed few none =
     let motes : length new.net.motes ≡ length old.net.motes = ap length h.others ∙ length-set old.net.motes w.mote h.after in
     let taken : rounds_of new.waiting new.net.bound ≡ 0 = ap (λ (o : Option Waiting). rounds_of o new.net.bound) none in
     omega (arith, started, rounds, motes, taken, few)
-
-pub less_missed : (w : Waiting) (old new : StepsView) → new.net ≡ old.net → new.waiting ≡ None → left_to_do new < left_to_do (record old { waiting = Some w })
-less_missed w old new same none =
-    let taken : rounds_of new.waiting new.net.bound ≡ 0 = ap (λ (o : Option Waiting). rounds_of o new.net.bound) none in
-    let to_do_same : to_do new.net ≡ to_do old.net = ap to_do same in
-    let left_same : left_at_work new.net ≡ left_at_work old.net = ap left_at_work same in
-    omega (arith, taken, to_do_same, left_same)

@@ -21,9 +21,6 @@ module _ (t : Timer) where
     pub is_timer_flips : is_timer t u ≡ false → is_timer u t ≡ false
     is_timer_flips e = grind arith
 
-    pub same_slot : IsNamed t → IsNamed u → slot_of t ≡ slot_of u → is_timer t u ≡ true
-    same_slot h k e = grind arith
-
 module _ (k : ℕ) where
   -- a slot and its timer
 

@@ -65,26 +65,6 @@ module _ (touch : Deed → Touch) where
   abbrev pub KindLaw : Blocks → Call → Reply → Type 0
   KindLaw blocks call reply = IsReplyFor (use_of (touch (deed call))) blocks reply
 
-  nothing : (blocks : Blocks) (call : Call) (reply : Reply) → touch (deed call) ≡ Touch.Spares → KindLaw blocks call reply
-  nothing = grind decide
-
--- Bytes in a process's managed blocks, and in all of them.
-
--- sums over consecutive numbers
-
-module _ (f : ℕ → ℕ) (g : ℕ → ℕ) where
-  same-terms : (n from : ℕ) → ((h : ℕ) → from ≤ h → g h ≡ f h)
-      → sum_by g (range_with_len from n) ≡ sum_by f (range_with_len from n)
-  same-terms zero from e = refl
-  same-terms (suc n) from e = grind (decide, sum_by-cons, same-terms n (from + 1) (λ h low. e h (omega arith)))
-
-  -- one term differs
-  other-term : (k n from : ℕ) → from ≤ k → k < from + n → ((h : ℕ) → h ≢ k → g h ≡ f h)
-      → sum_by g (range_with_len from n) + f k ≡ sum_by f (range_with_len from n) + g k
-  other-term k zero from low high e = grind decide
-  other-term k (suc n) from low high e =
-      grind (decide, sum_by-cons, other-term k n (from + 1), same-terms n (from + 1))
-
 -- What each call preserves of managed memory.
 
 abbrev pub own_blocks : ℕ → Memory → Blocks
