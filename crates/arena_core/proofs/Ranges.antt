@@ -5,7 +5,7 @@
 --     changes_only                            a write changes only its range
 --     take_past                               a prefix of two lists that reaches into the second
 use Rattle.std.proofs.Common.{◌≡◌, ℕ, ◌+◌, ◌-◌, ◌≤◌, ◌⊎◌, inl, inr, List, ◌++◌, length, take, slice_range, ap, arith, length-take, length-drop}
-use Rattle.std.proofs.lemmas.List.{drop_at, drop-drop, take-append-drop, take-take, take-append-le, take_at}
+use Rattle.std.proofs.lemmas.List.{drop_at, drop-drop, take-take, take-append-le, take_at}
 use Rattle.std.proofs.lemmas.Slice.{between_is}
 use Rattle.std.proofs.Math.Seq.{take-append-add}
 use Rattle.arena_core.specs.Code.Written.{written}

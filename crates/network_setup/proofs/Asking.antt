@@ -1,5 +1,5 @@
 -- A turn of one application among those of all motes, or of none of them.
-use Rattle.std.proofs.Common.{◌≡◌, ◌≢◌, ◌<◌, ◌≤◌, ◌+◌, ◌-◌, ◌⊎◌, ◌==◌, ◌&&◌, ℕ, inl, inr, nat_lt, None, zero, suc, Bool, true, false, List, [], ◌∷◌, length, set, get_or, slice_get, refl, ap, sym, ◌∙◌, arith, Some, if◌then◌else◌}
+use Rattle.std.proofs.Common.{◌≡◌, ◌≢◌, ◌<◌, ◌≤◌, ◌+◌, ◌-◌, ◌⊎◌, ◌==◌, ◌&&◌, ℕ, inl, inr, nat_lt, zero, suc, Bool, true, false, List, [], ◌∷◌, length, set, get_or, slice_get, refl, ap, sym, ◌∙◌, arith, Some}
 use Rattle.std.proofs.lemmas.Bool.Decides.{nat_tests}
 use Rattle.std.specs.Global.{Vec}
 use Rattle.mote_types.proofs.Voices.{says_of_application, slice_get_set_other}

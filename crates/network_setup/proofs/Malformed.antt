@@ -1,10 +1,10 @@
 -- Which words and lists of calls say no mote.
-use Rattle.std.proofs.Common.{◌≡◌, ◌≢◌, ◌⊎◌, ◌+◌, ◌∙◌, ℕ, Bool, true, false, ◌&&◌, List, [], ◌∷◌, ◌++◌, length, Option, Some, None, Result, Ok, Err, IsErrAnd, nat_le, ap, append-nil, append_assoc, arith, inl, inr, is_some, refl, subst, sym, if◌then◌else◌}
+use Rattle.std.proofs.Common.{◌≡◌, ◌≢◌, ◌⊎◌, ◌+◌, ◌∙◌, ℕ, Bool, true, false, ◌&&◌, List, [], ◌∷◌, ◌++◌, length, Option, Some, None, Result, Ok, Err, IsErrAnd, nat_le, ap, append-nil, append_assoc, arith, is_some, refl, subst, sym, if◌then◌else◌}
 use Rattle.kernel_core.specs.Machine.{is_bootable}
 use Rattle.kernel_core.specs.declared.config.Config.{Config}
 use Rattle.network_setup.specs.Code.Setups.{IfMalformed}
-use Rattle.network_setup.specs.Code.Words.{AreBadWords, AreNamed, IsListLast, IsMoteSaid, TakesWords}
-use Rattle.network_setup.specs.MoteLines.{AreSaid, HasCalls, MoteLine, SaysNoMote, SaysNoMotes, config_said, count_said, if_bootable, mote_line, names_said, no_application, no_configuration, sizes_said}
+use Rattle.network_setup.specs.Code.Words.{AreNamed, IsListLast, IsMoteSaid, TakesWords}
+use Rattle.network_setup.specs.MoteLines.{AreSaid, HasCalls, MoteLine, SaysNoMote, SaysNoMotes, config_said, count_said, if_bootable, mote_line, names_said, no_configuration, sizes_said}
 use Rattle.network_setup.specs.SetupView.{SetupView, default_config}
 use Rattle.network_setup.specs.declared.fault.LineFault.{LineFault}
 use Rattle.network_setup.specs.declared.mote_app.MoteApp.{MoteApp}

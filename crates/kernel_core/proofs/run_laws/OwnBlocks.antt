@@ -1,5 +1,5 @@
 -- What each call preserves of a kind of memory, and so what a transcript shows.
-use Rattle.std.proofs.Common.{◌≡◌, ℕ, ◌+◌, ◌≤◌, Bool, true, false, List, [], ◌∷◌, refl, Option, Some, None, ◌==◌, if◌then◌else◌, fold, length, zero, suc, ◌<◌, arith, ◌≢◌, sum_by, ◌&&◌, ◌∙◌, ap, sym, subst, append-nil, nat_le, drop, slice_get, get_or, replicate}
+use Rattle.std.proofs.Common.{◌≡◌, ℕ, ◌+◌, ◌≤◌, Bool, true, false, List, [], ◌∷◌, refl, Option, Some, None, ◌==◌, if◌then◌else◌, fold, length, zero, suc, arith, sum_by, ◌&&◌, ◌∙◌, ap, sym, subst, append-nil, nat_le, drop, slice_get, get_or, replicate}
 use Rattle.mmem_core.specs.ManagedStore.{with_block}
 use Rattle.node_memory.specs.Answered.{Asked, done, unless_refused}
 use Rattle.node_memory.specs.MemoryCalls.{on_heap, on_managed}
@@ -8,9 +8,9 @@ use Rattle.node_memory.specs.HeapCalls.{done_or_no_room}
 use Rattle.node_memory.specs.Memory.{with_heap, with_managed}
 use Rattle.node_memory.specs.Code.Conditions.{is_memory_call}
 use Rattle.std.proofs.lemmas.List.{get_or-set_other, get_or-set_same, length-set}
-use Rattle.std.proofs.lemmas.List.Sums.{sum_by-cons, sum_by-set}
+use Rattle.std.proofs.lemmas.List.Sums.{sum_by-set}
 use Rattle.std.specs.Option.{option_map}
-use Rattle.kernel_core.proofs.Common.{decide, list_all-append, Call, Reply, Refusal, Entry, OwnTurn, own_from, reply_in, reply_of, is_done, ticks_in, up_to_call, Blocks, no_blocks, Memory, is_kernel_process, AreOwn, IsReplyFor, Deed, Touch, blocks_of, deed, use_of, range_with_len, number_of, size_of, taken_by, block_of, is_name, ask, managed_touch, heap_touch, list_all, Frame, front_slot, Config, Machine, booted, after_call, frame_dropped}
+use Rattle.kernel_core.proofs.Common.{decide, list_all-append, Call, Reply, Refusal, Entry, OwnTurn, own_from, reply_in, reply_of, is_done, ticks_in, up_to_call, Blocks, no_blocks, Memory, is_kernel_process, AreOwn, IsReplyFor, Deed, Touch, blocks_of, deed, use_of, number_of, size_of, taken_by, block_of, is_name, ask, managed_touch, heap_touch, list_all, Frame, front_slot, Config, Machine, booted, after_call, frame_dropped}
 use Rattle.kernel_core.proofs.run_laws.Whole.{Knowledge, told, told_all, answered, marks, due, View, Laws, Starts, run-told, call-law}
 use Rattle.heap_core.specs.HeapStore.{block_of as heap_block_of, HeapStore}
 use Rattle.node_memory.proofs.HeapBlocks.{Becomes, Results, alloc-results, realloc-results, free-results, write-results}
