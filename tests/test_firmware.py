@@ -229,6 +229,49 @@ def test_byte_0_in_a_record(contiki: Contiki, tmp_path: Path) -> None:
     assert (ran.returncode, messages(ran.stderr)) == (1, ["line 3 of the record has a byte 0"]), output_of(ran)
 
 
+@pytest.mark.parametrize("old,new,line,told_as", [
+    (b"tick 1\n", b"tick 1\n# " + 1023 * b"x" + b"\n", 4, "is malformed"),
+    (b"tick 1\n", b"tick 1" + 1019 * b"0" + b"\n", 3, "is malformed"),
+    (b"tick 1\n", b"tick 1" + 5000 * b"0", 3, "is malformed"),
+    (b"\n", b"\r\n", 1, "ends with byte 13, as on Windows: save it with line ends of byte 10 alone"),
+    (b"tick 2\n", b"tick 2\r\n", 5, "ends with byte 13, as on Windows: save it with line ends of byte 10 alone"),
+], ids=["long comment", "long input", "long end", "line ends of Windows", "one such line end"])
+def test_malformed_record(contiki: Contiki, tmp_path: Path, old: bytes, new: bytes, line: int, told_as: str) -> None:
+    """A line that is too long isn't taken for the end of a record, nor are other line ends."""
+    _, record = recorded(contiki, tmp_path / "record", BLINKER, b"tick 1\ntick 2\n")
+    ran = replayed(contiki, tmp_path / "record", BLINKER, record.replace(old, new))
+    assert (ran.returncode, messages(ran.stderr)) == (1, [f"line {line} of the record {told_as}"]), output_of(ran)
+
+
+def test_longest_line_of_a_record(contiki: Contiki, tmp_path: Path) -> None:
+    """A comment of 1,024 bytes is read; a line of 256 bytes on the serial line is recorded and replayed."""
+    script = b"serial " + 255 * b"61" + b"0a\n"
+    ran, record = recorded(contiki, tmp_path / "record", CONTIKI / "shell.c", script)
+    assert script in record
+    again = replayed(contiki, tmp_path / "record", CONTIKI / "shell.c", record + b"#" + 1023 * b"x" + b"\n")
+    assert (again.returncode, again.stdout) == (0, ran.stdout), output_of(again)
+
+
+@pytest.mark.parametrize("more", [b" 0", b"x", b" # check 1 00000000", b"00000000000000000000"])
+def test_malformed_value(contiki: Contiki, tmp_path: Path, more: bytes) -> None:
+    """All of a value's line counts: otherwise a lost line end would hide the line after it."""
+    _, record = recorded(contiki, tmp_path / "record", THERMO, SECONDS)
+    value = next(line for line in record.splitlines() if line.startswith(b"# value "))
+    number = record[:record.index(value)].count(10) + 1
+    ran = replayed(contiki, tmp_path / "record", THERMO, record.replace(value, value + more, 1))
+    assert ran.returncode == 1 and messages(ran.stderr)[-1].endswith(f": line {number} of the record is malformed"), output_of(ran)
+
+
+def test_record_that_ends_within_a_line(contiki: Contiki, tmp_path: Path) -> None:
+    """A board whose port is too slow may end its record within a line, which isn't part of the run then."""
+    ran, record = recorded(contiki, tmp_path / "record", THERMO, b"tick 200\nserial 680a\n")
+    program = tmp_path / "program"
+    succeed(ROOT / "contiki", "--library", contiki.library, "--build", program, THERMO)
+    for end in range(record.index(b"\n") + 1, len(record)):
+        again = run(program, "--replay", stdin=record[:end] + b"# the record ends here: the port is too slow\n")
+        assert again.returncode == 0 and ran.stdout.startswith(again.stdout), (end, output_of(again))
+
+
 def test_long_record(contiki: Contiki, tmp_path: Path) -> None:
     """A record may be longer than a script: that of a board which ran for days replays to its end."""
     ran, record = recorded(contiki, tmp_path / "record", BLINKER, b"tick 200\n")

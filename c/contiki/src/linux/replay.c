@@ -22,14 +22,31 @@ begins(const char *line, const char *words, const char **rest)
   return strncmp(line, words, length) == 0;
 }
 
-/* Reads the next whole line. A line at the end that was cut off isn't part of the run. A board may begin anew within a line, as at a loss
- * of power: that line is the first one of the next run. */
+static CC_NORETURN void
+stop_at_bad_line(void)
+{
+  stop("line %" PRIu64 " of the record is malformed", line_number);
+}
+
+/* Removes what is before the last of these words. */
+static void
+begin_at(char *line, const char *words)
+{
+  const char *begin = line;
+  for(const char *it = line; (it = strstr(it, words)) != NULL; it++) {
+    begin = it;
+  }
+  memmove(line, begin, strlen(begin) + 1);
+}
+
+/* Reads the next whole line. A line at the end that was cut off isn't part of the run. A record may end within a line, and a board may
+ * begin anew within one, as at a loss of power: that line is the first one of the next run. */
 static bool
 next_line(char *line)
 {
-  const char *text, *anew = line;
+  const char *text;
   size_t length;
-  if(read_line(record, &text, &length) != READ_LINE || !is_whole_line()) {
+  if(read_line(record, &text, &length) != READ_LINE || (!is_whole_line() && length <= LINE_LIMIT)) {
     return false;
   }
   memcpy(line, text, length);
@@ -38,10 +55,14 @@ next_line(char *line)
   if(strlen(line) < length) {
     stop("line %" PRIu64 " of the record has a byte 0", line_number);
   }
-  for(const char *it = line; (it = strstr(it, "# record ")) != NULL; it++) {
-    anew = it;
+  if(length > LINE_LIMIT) {
+    stop_at_bad_line();
   }
-  memmove(line, anew, strlen(anew) + 1);
+  if(length > 0 && line[length - 1] == '\r') {
+    stop("line %" PRIu64 " of the record ends with byte 13, as on Windows: save it with line ends of byte 10 alone", line_number);
+  }
+  begin_at(line, "# the record ends here");
+  begin_at(line, "# record ");
   return true;
 }
 
@@ -143,12 +164,24 @@ run_replay(void)
     }
     sum_line(line, strlen(line));
     if(feed_line(line, strlen(line)) != 0) {
-      stop("line %" PRIu64 " of the record is malformed", line_number);
+      stop_at_bad_line();
     }
     input_count++;
     run_to_rest();
   }
   end_replay();
+}
+
+/* The number of a value: all that follows its words. */
+static uint32_t
+read_value(const char *text)
+{
+  char *end;
+  unsigned long long number = strtoull(text, &end, 10);
+  if(*text < '0' || *text > '9' || *end != '\0' || number > UINT32_MAX) {
+    stop_at_bad_line();
+  }
+  return (uint32_t)number;
 }
 
 /* The next value of the record. Notes of a board may be before it. */
@@ -165,8 +198,8 @@ take_value(uint32_t *value)
       fputs("contiki: the record ends where this run reads a value\n", stderr);
       end_replay();
     }
-    if(begins(line, "# value ", &rest) && *rest >= '0' && *rest <= '9') {
-      *value = (uint32_t)strtoul(rest, NULL, 10);
+    if(begins(line, "# value ", &rest)) {
+      *value = read_value(rest);
       value_count++;
       return true;
     }
