@@ -85,9 +85,21 @@ build_board_driver() {
     { mkdir -p "$driver/out" && cp -rT "$made" "$copy" && mv -T "$copy" "$objects"; } 2>/dev/null || objects=$made
 }
 
+# Refuses sizes that the mote refuses where it is opened: the board would begin anew without end.
+check_sizes() {
+    local name least=4
+    for name in mmem heap ${quota:+quota}; do
+        [[ $name != heap ]] || least=20
+        ((${!name} >= least && ${!name} <= 65536 && ${!name} % 4 == 0)) ||
+            give_up "--$name needs a multiple of 4 from $least to 65536" 64
+        least=4
+    done
+    ((header == 16 || header == 8)) || give_up "--header needs 16 or 8" 64
+}
+
 # Writes the program's settings, in C.
 write_settings() {
-    local heap=4096 mmem=4096 header=16 quota=0 quiet=1 has_record=true runs=NULL shows=NULL i name value
+    local heap=4096 mmem=4096 header=16 quota='' has_quota=0 quiet=1 has_record=true runs=NULL shows=NULL i name value
     [[ -z $unrecorded ]] || has_record=false
     # Only a script's transcript needs the kernel's memory for a line.
     [[ -z $script ]] || quiet=0 has_record=false runs=run_board_script shows=show_board_line
@@ -97,13 +109,15 @@ write_settings() {
         [[ $value =~ ^[0-9]{1,9}$ ]] || give_up "$name needs a number" 64
         printf -v "${name#--}" %s "$((10#$value))"
     done
+    check_sizes
+    [[ -z $quota ]] || has_quota=1
     node=${node:-0}
     [[ $node =~ ^[0-9]{1,5}$ ]] || node=65536
     ((10#$node <= 65535)) || give_up "a mote's number is at most 65535" 64
     {
         echo '#include "firmware.h"'
         echo "const struct board_settings board_settings = {"
-        echo "  .sizes = {.mmem = $mmem, .heap = $heap, .header = $header, .has_quota = $((quota > 0)), .quota = $quota, .quiet = $quiet},"
+        echo "  .sizes = {.mmem = $mmem, .heap = $heap, .header = $header, .has_quota = $has_quota, .quota = ${quota:-0}, .quiet = $quiet},"
         echo "  .node = $((10#$node)), .has_record = $has_record, .stops_at_fault = ${stops:-false},"
         echo "  .run_script = $runs, .show_script_line = $shows};"
     } >"$room/settings.c"
