@@ -10,7 +10,7 @@
 #include <stdlib.h>
 
 struct activation *activation;
-uint64_t rounds_begun;
+uint32_t rounds_begun;
 const void *stack_begin;
 
 const struct activation *
@@ -19,9 +19,13 @@ present_activation(void)
   return activation;
 }
 
-/* A call that one process makes in the name of another. */
+/* The reply to the last call. */
+static struct toarmuts_turn last_answer;
+
+/* A call that one process makes in the name of another, and what is read of its reply. */
 static const struct toarmuts_call *errand;
-static struct toarmuts_turn errand_answer;
+static uint32_t errand_reply;
+static uint64_t errand_number;
 
 /* Calls that processes make as soon as they have the reply that they await: others freed their blocks, or set or stopped their timers. Few
  * programs need this table. */
@@ -47,8 +51,11 @@ static void
 run_errand(void)
 {
   const struct toarmuts_call *call = errand;
+  const struct toarmuts_turn *answer;
   errand = NULL;
-  errand_answer = *mote_call(call);
+  answer = mote_call(call);
+  errand_reply = answer->reply;
+  errand_number = answer->number;
 }
 
 /*
@@ -206,17 +213,16 @@ make_late_calls(const struct process *p, struct toarmuts_turn *reply)
 const struct toarmuts_turn *
 mote_call(const struct toarmuts_call *call)
 {
-  static struct toarmuts_turn answer;
   if(activation == NULL) {
     stop("a call of the mote is made outside of any process");
   }
   note_frame(__builtin_frame_address(0));
   flush_console();
-  call_and_wait(call, &answer);
+  call_and_wait(call, &last_answer);
   if(late_count > 0) {
-    make_late_calls(activation->process, &answer);
+    make_late_calls(activation->process, &last_answer);
   }
-  return &answer;
+  return &last_answer;
 }
 
 const struct toarmuts_turn *
@@ -274,14 +280,16 @@ ask_for(struct process *owner, const struct toarmuts_call *call)
     errand = NULL;
     stop("a timer or a block of %s must change, and can't: the process isn't running, or is in an activation", name_of(owner));
   }
-  return &errand_answer;
+  last_answer.reply = errand_reply;
+  last_answer.number = errand_number;
+  return &last_answer;
 }
 
 static void
 leave_call(const struct process *owner, const struct toarmuts_call *call)
 {
   if(late_count == late_room) {
-    late_room = late_room == 0 ? 16 : 2 * late_room;
+    late_room = late_room == 0 ? 2 : 2 * late_room;
     late_calls = realloc(late_calls, late_room * sizeof *late_calls);
     if(late_calls == NULL) {
       give_up(STATUS_NO_MEMORY, "out of memory");

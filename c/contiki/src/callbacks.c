@@ -19,13 +19,19 @@ struct callbacks {
   unsigned count, room;
 };
 
-/* Those of each process. */
+/* Those of each process, once any has set a timer. */
 static struct callbacks *tables;
+static unsigned table_count;
 
-void
-make_callbacks(void)
+static struct callbacks *
+table_of(const struct process *p)
 {
-  tables = take_bytes(process_count * sizeof *tables);
+  unsigned index = index_of(p);
+  if(table_count == 0) {
+    tables = take_bytes(process_count * sizeof *tables);
+    table_count = process_count;
+  }
+  return &tables[index];
 }
 
 static clock_time_t
@@ -45,7 +51,7 @@ cell_at(struct callbacks *table, unsigned position)
 static bool
 find_callback(const struct ctimer *c, struct process **holder, unsigned *position)
 {
-  for(unsigned i = 0; i < process_count; i++) {
+  for(unsigned i = 0; i < table_count; i++) {
     struct callbacks *table = &tables[i];
     unsigned slot = slot_of(c, table->cells, CALLBACK_TIMERS);
     if(slot == CALLBACK_TIMERS || !table->cells[slot].is_armed) {
@@ -64,7 +70,7 @@ find_callback(const struct ctimer *c, struct process **holder, unsigned *positio
 static void
 arm_slot(struct process *holder, unsigned slot, const struct cell *cell)
 {
-  struct cell *own = &tables[index_of(holder)].cells[slot];
+  struct cell *own = &table_of(holder)->cells[slot];
   uint32_t left = (uint32_t)left_of(cell->start, cell->interval);
   ORDER(holder, TOARMUTS_CALL_CALLBACK_SET, slot, left);
   own->timer = cell->timer;
@@ -76,7 +82,7 @@ static void
 add_waiting(struct callbacks *table, const struct cell *cell)
 {
   if(table->count == table->room) {
-    table->room = table->room == 0 ? 8 : 2 * table->room;
+    table->room = table->room == 0 ? 2 : 2 * table->room;
     table->waiting = realloc(table->waiting, table->room * sizeof *table->waiting);
     if(table->waiting == NULL) {
       give_up(STATUS_NO_MEMORY, "out of memory");
@@ -96,7 +102,7 @@ remove_waiting(struct callbacks *table, unsigned i)
 static void
 arm_next(struct process *holder)
 {
-  struct callbacks *table = &tables[index_of(holder)];
+  struct callbacks *table = table_of(holder);
   unsigned first = 0;
   struct cell next;
   for(unsigned i = 1; i < table->count; i++) {
@@ -113,7 +119,7 @@ arm_next(struct process *holder)
 static void
 arm(struct process *holder, const struct cell *cell)
 {
-  struct callbacks *table = &tables[index_of(holder)];
+  struct callbacks *table = table_of(holder);
   unsigned slot = free_slot(cell->timer, table->cells, CALLBACK_TIMERS);
   if(slot < CALLBACK_TIMERS) {
     arm_slot(holder, slot, cell);
@@ -129,7 +135,7 @@ arm(struct process *holder, const struct cell *cell)
 static void
 disarm(struct process *holder, unsigned position)
 {
-  struct callbacks *table = &tables[index_of(holder)];
+  struct callbacks *table = table_of(holder);
   if(position >= CALLBACK_TIMERS) {
     remove_waiting(table, position - CALLBACK_TIMERS);
     return;
@@ -152,7 +158,7 @@ set_to_end(struct ctimer *c)
   unsigned position;
   note_armed(&cell, clock_now(), checked_interval(left_of(c->etimer.timer.start, c->etimer.timer.interval)));
   if(find_callback(c, &holder, &position) &&
-     (holder != next || position > SHARED_SLOT || (position == SHARED_SLOT && tables[index_of(holder)].count > 0))) {
+     (holder != next || position > SHARED_SLOT || (position == SHARED_SLOT && table_of(holder)->count > 0))) {
     disarm(holder, position);
   }
   arm(next, &cell);
@@ -219,7 +225,7 @@ ctimer_expired(struct ctimer *c)
   if(!is_process(c->etimer.p)) {
     return c->etimer.p == PROCESS_NONE;
   }
-  return find_callback(c, &holder, &position) && has_run_out(cell_at(&tables[index_of(holder)], position));
+  return find_callback(c, &holder, &position) && has_run_out(cell_at(table_of(holder), position));
 }
 
 /*
@@ -230,7 +236,7 @@ ctimer_expired(struct ctimer *c)
 bool
 ctimer_told(struct process *p, unsigned slot)
 {
-  struct callbacks *table = &tables[index_of(p)];
+  struct callbacks *table = table_of(p);
   struct ctimer *c = (struct ctimer *)(uintptr_t)table->cells[slot].timer;
   if(!table->cells[slot].is_armed) {
     return !PT_SCHEDULE(p->thread(&p->pt, PROCESS_EVENT_NONE, (process_data_t)(uintptr_t)slot));
@@ -252,9 +258,9 @@ ctimer_told(struct process *p, unsigned slot)
 bool
 stays_for_callbacks(const struct process *p)
 {
-  const struct callbacks *table = &tables[index_of(p)];
-  bool has_any = table->count > 0;
-  for(unsigned slot = 0; slot < CALLBACK_TIMERS; slot++) {
+  const struct callbacks *table = table_count == 0 ? NULL : table_of(p);
+  bool has_any = table != NULL && table->count > 0;
+  for(unsigned slot = 0; table != NULL && slot < CALLBACK_TIMERS; slot++) {
     has_any |= table->cells[slot].is_armed;
   }
   return has_any && heir_of(p) == NULL;
@@ -264,7 +270,11 @@ stays_for_callbacks(const struct process *p)
 void
 pass_on_callbacks(const struct process *p)
 {
-  struct callbacks *table = &tables[index_of(p)];
+  struct callbacks *table;
+  if(table_count == 0) {
+    return;
+  }
+  table = table_of(p);
   for(unsigned position = 0; position < CALLBACK_TIMERS + table->count; position++) {
     struct cell *cell = cell_at(table, position);
     if(cell->is_armed) {
@@ -279,7 +289,11 @@ pass_on_callbacks(const struct process *p)
 clock_time_t
 least_callback(unsigned index, clock_time_t least)
 {
-  const struct callbacks *table = &tables[index];
+  const struct callbacks *table;
+  if(table_count == 0) {
+    return least;
+  }
+  table = &tables[index];
   return least_end(table->waiting, table->count, least_end(table->cells, CALLBACK_TIMERS, least));
 }
 
@@ -287,7 +301,9 @@ least_callback(unsigned index, clock_time_t least)
 void
 check_callbacks(const struct process *p, const void *frame)
 {
-  const struct callbacks *table = &tables[index_of(p)];
-  check_cells(table->cells, CALLBACK_TIMERS, frame, "ctimer");
-  check_cells(table->waiting, table->count, frame, "ctimer");
+  if(table_count > 0) {
+    const struct callbacks *table = table_of(p);
+    check_cells(table->cells, CALLBACK_TIMERS, frame, "ctimer");
+    check_cells(table->waiting, table->count, frame, "ctimer");
+  }
 }

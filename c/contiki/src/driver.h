@@ -45,8 +45,8 @@ struct activation {
 extern struct activation *activation;
 const struct activation *present_activation(void);
 
-/* The number of rounds that delivered an event or a callback. */
-extern uint64_t rounds_begun;
+/* The number of rounds that delivered an event or a callback, less any multiple of 2^32. */
+extern uint32_t rounds_begun;
 
 /* The frame of main, below which the stack grows down. */
 extern const void *stack_begin;
@@ -57,7 +57,7 @@ void run_activation(const struct toarmuts_turn *turn);
 /* 0, or why the call was refused. */
 unsigned refusal_of(const struct toarmuts_turn *answer);
 
-/* Makes a call that has only numbers, for a process. */
+/* Makes a call that has only numbers, for a process. Of the reply only `reply` and `number` are that of this call. */
 const struct toarmuts_turn *ask_for(struct process *owner, const struct toarmuts_call *call);
 #define ASK_FOR(owner, call_kind, ...) ask_numbers((owner), (call_kind), (const uint32_t[4]){__VA_ARGS__})
 static inline const struct toarmuts_turn *
@@ -109,7 +109,6 @@ void run_to_rest(void);
 extern struct process *processes[MOST_PROCESSES];
 extern unsigned process_count;
 void number_processes(void);
-void make_tables(void);
 struct process *process_of(uint64_t number);
 bool is_process(const struct process *p);
 unsigned index_of(const struct process *p);
@@ -123,7 +122,6 @@ void start_for_errand(struct process *p);
 bool activate(struct activation *present);
 
 /* timers.c */
-void make_cells(void);
 struct etimer *etimer_told(struct process *p, unsigned slot);
 void note_settled(const struct process *owner, unsigned slot, bool has_expired);
 void stop_event_timers(const struct process *p);
@@ -139,7 +137,6 @@ void check_callbacks(const struct process *p, const void *frame);
 
 /* memory.c */
 void *take_bytes(size_t size);
-void make_block_tables(void);
 unsigned free_handle(void);
 bool check_late(bool depends);
 void check_blocks(const struct process *p, const void *frame);

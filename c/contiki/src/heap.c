@@ -23,17 +23,18 @@ struct heap_table {
   struct heap_block blocks[MOST_BLOCKS];
 };
 
-/* Those of each process, once any has allocated a block: they take 1 KB each on a board, where few programs use the heap. */
-static struct heap_table *tables;
-static unsigned table_count;
+/* Those of each process; NULL for one that has never allocated a block. One takes 1 KB on a board, where few processes use the heap. */
+static struct heap_table *tables[MOST_PROCESSES];
 
-static void
-make_heap_tables(void)
+/* The table of a process that allocates. */
+static struct heap_table *
+table_of(const struct process *owner)
 {
-  if(table_count == 0) {
-    tables = take_bytes(process_count * sizeof *tables);
-    table_count = process_count;
+  struct heap_table **table = &tables[index_of(owner)];
+  if(*table == NULL) {
+    *table = take_bytes(sizeof **table);
   }
+  return *table;
 }
 
 /* Zones: reserved parts of the heap. Their blocks may be anywhere in it. */
@@ -149,7 +150,7 @@ end_of_others(const struct heap_block *parts, const struct heap_block *but)
 static struct heap_block *
 parts_of(const struct process *owner)
 {
-  return &tables[index_of(owner)].blocks[SHARED_BLOCK];
+  return &table_of(owner)->blocks[SHARED_BLOCK];
 }
 
 /* Whether the shared block has parts but this one. */
@@ -200,12 +201,12 @@ free_slot_of(const struct heap_table *table)
 static struct heap_block *
 find_block(const void *ptr, struct process **owner, unsigned *slot)
 {
-  for(unsigned i = 0; i < table_count * MOST_BLOCKS; i++) {
-    struct heap_block *block = &tables[i / MOST_BLOCKS].blocks[i % MOST_BLOCKS];
-    if(block->bytes == ptr) {
+  for(unsigned i = 0; i < process_count * MOST_BLOCKS; i++) {
+    struct heap_table *table = tables[i / MOST_BLOCKS];
+    if(table != NULL && table->blocks[i % MOST_BLOCKS].bytes == ptr) {
       *owner = processes[i / MOST_BLOCKS];
       *slot = i % MOST_BLOCKS;
-      return block;
+      return &table->blocks[*slot];
     }
   }
   return NULL;
@@ -238,12 +239,11 @@ heapmem_zone_alloc(heapmem_zone_t zone, size_t size)
     stop("heap memory is allocated outside of any process");
   }
   owner = activation->process;
-  make_heap_tables();
-  slot = free_slot_of(&tables[index_of(owner)]);
+  slot = free_slot_of(table_of(owner));
   if(!zone_has_room(zone, size, 0) || !allocates(owner, slot, size, &at)) {
     return NULL;
   }
-  block = &tables[index_of(owner)].blocks[slot];
+  block = &table_of(owner)->blocks[slot];
   *block = (struct heap_block){.bytes = take_bytes(size), .size = size, .at = at, .zone = zone};
   zones[zone].taken += taken_by(size);
   return block->bytes;
@@ -369,8 +369,10 @@ heapmem_stats(heapmem_stats_t *stats)
   stats->available = known->available;
   stats->footprint = known->footprint;
   stats->chunks = known->chunks;
-  for(unsigned i = 0; i < table_count; i++) {
-    count_parts(&tables[i].blocks[SHARED_BLOCK], stats);
+  for(unsigned i = 0; i < process_count; i++) {
+    if(tables[i] != NULL) {
+      count_parts(&tables[i]->blocks[SHARED_BLOCK], stats);
+    }
   }
 }
 
@@ -381,10 +383,10 @@ heapmem_print_debug_info(bool print_chunks)
   heapmem_stats(&stats);
   printf("heap: %zu bytes allocated, %zu overhead, %zu available, footprint %zu, %zu chunks\n", stats.allocated, stats.overhead,
          stats.available, stats.footprint, stats.chunks);
-  for(unsigned i = 0; print_chunks && i < table_count * MOST_BLOCKS; i++) {
-    const struct heap_block *block = &tables[i / MOST_BLOCKS].blocks[i % MOST_BLOCKS];
-    if(block->bytes != NULL) {
-      printf("chunk of %s: %zu bytes\n", name_of(processes[i / MOST_BLOCKS]), block->size);
+  for(unsigned i = 0; print_chunks && i < process_count * MOST_BLOCKS; i++) {
+    const struct heap_table *table = tables[i / MOST_BLOCKS];
+    if(table != NULL && table->blocks[i % MOST_BLOCKS].bytes != NULL) {
+      printf("chunk of %s: %zu bytes\n", name_of(processes[i / MOST_BLOCKS]), table->blocks[i % MOST_BLOCKS].size);
     }
   }
 }

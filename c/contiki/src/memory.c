@@ -175,7 +175,7 @@ memb_numfree(struct memb *m)
 
 enum { HANDLES = 16 };
 
-/* Those of each process. */
+/* Those of each process, once any has allocated a block. */
 static struct mmem *(*handles)[HANDLES];
 
 /* All blocks, in the order in which they were allocated. */
@@ -192,6 +192,9 @@ free_handle(void)
   if(activation == NULL) {
     stop("managed memory is allocated outside of any process");
   }
+  if(handles == NULL) {
+    handles = take_bytes(process_count * sizeof *handles);
+  }
   while(handle < HANDLES && handles[index_of(activation->process)][handle] != NULL) {
     handle++;
   }
@@ -206,9 +209,9 @@ free_handle(void)
 void
 check_blocks(const struct process *p, const void *frame)
 {
-  const struct mmem *const *own = (const struct mmem *const *)handles[index_of(p)];
   for(unsigned handle = 0; has_any_on_stack && handle < HANDLES; handle++) {
-    if(own[handle] != NULL && is_lost(own[handle], frame)) {
+    const struct mmem *own = handles[index_of(p)][handle];
+    if(own != NULL && is_lost(own, frame)) {
       stop("a struct mmem on the stack has a block, which is lost at this wait: make the struct static");
     }
   }
@@ -261,7 +264,7 @@ mmem_free(struct mmem *m)
   while(*place != NULL && *place != m) {
     place = &(*place)->next;
   }
-  while(i < process_count * HANDLES && handles[i / HANDLES][i % HANDLES] != m) {
+  while(*place != NULL && i < process_count * HANDLES && handles[i / HANDLES][i % HANDLES] != m) {
     i++;
   }
   if(*place == NULL || i == process_count * HANDLES) {
@@ -279,11 +282,4 @@ mmem_free(struct mmem *m)
 void
 mmem_init(void)
 {
-}
-
-/* Makes the tables of the program's processes. */
-void
-make_block_tables(void)
-{
-  handles = take_bytes(process_count * sizeof *handles);
 }

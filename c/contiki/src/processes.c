@@ -65,12 +65,26 @@ add_process(struct process *p)
   processes[process_count++] = p;
 }
 
-static int
-compare_entries(const void *a, const void *b)
+/* Whether an entry of a process is before another one: by file and line, then by name. */
+static bool
+is_before(const struct process_entry *left, const struct process_entry *right)
 {
-  const struct process_entry *left = a, *right = b;
   int by_file = strcmp(left->file, right->file), by_line = (left->line > right->line) - (left->line < right->line);
-  return by_file != 0 ? by_file : by_line != 0 ? by_line : strcmp(left->identifier, right->identifier);
+  int by_name = strcmp(left->identifier, right->identifier);
+  return by_file != 0 ? by_file < 0 : by_line != 0 ? by_line < 0 : by_name != 0 ? by_name < 0 : left < right;
+}
+
+/* The first entry after another one, or the first of all; NULL after the last one. */
+static const struct process_entry *
+entry_after(const struct process_entry *last)
+{
+  const struct process_entry *next = NULL;
+  for(const struct process_entry *entry = __start_process_entries; entry < __stop_process_entries; entry++) {
+    if((last == NULL || is_before(last, entry)) && (next == NULL || is_before(entry, next))) {
+      next = entry;
+    }
+  }
+  return next;
 }
 
 /*
@@ -81,23 +95,13 @@ compare_entries(const void *a, const void *b)
 void
 number_processes(void)
 {
-  /* Static, so that no sanitizer reports a leak if there are too many. */
-  static struct process_entry *entries;
-  size_t count = (size_t)(__stop_process_entries - __start_process_entries);
+  const struct process_entry *entry = NULL;
   if(autostart_processes == NULL) {
     give_up(STATUS_BAD_WORDS, "no AUTOSTART_PROCESSES, so no process is started");
   }
-  entries = calloc(count + 1, sizeof *entries);
-  if(entries == NULL) {
-    give_up(STATUS_NO_MEMORY, "out of memory");
-  }
-  if(count > 0) {
-    memcpy(entries, __start_process_entries, count * sizeof *entries);
-  }
-  qsort(entries, count, sizeof *entries, compare_entries);
-  for(size_t i = 0; i < count; i++) {
-    if(!is_autostarted(entries[i].process) && entries[i].process != &tcpip_process) {
-      add_process(entries[i].process);
+  while((entry = entry_after(entry)) != NULL) {
+    if(!is_autostarted(entry->process) && entry->process != &tcpip_process) {
+      add_process(entry->process);
     }
   }
   not_started = process_count;
@@ -107,15 +111,6 @@ number_processes(void)
   for(struct process *const *started = autostart_processes; *started != NULL; started++) {
     add_process(*started);
   }
-  free(entries);
-}
-
-/* Makes the tables for these processes. A board has room for them once the mote is open. */
-void
-make_tables(void)
-{
-  make_cells();
-  make_block_tables();
 }
 
 /* The process of this number, or NULL. */
@@ -180,7 +175,7 @@ place_of(const void *pointer)
 static void
 make_room_for_pointers(void)
 {
-  pointer_room = pointer_room == 0 ? 64 : 2 * pointer_room;
+  pointer_room = pointer_room == 0 ? 8 : 2 * pointer_room;
   pointers = realloc(pointers, pointer_room * sizeof *pointers);
   free(places);
   places = calloc(2 * (size_t)pointer_room, sizeof *places);

@@ -12,20 +12,26 @@
 
 enum { EVENT_TIMERS = 8, MOST_QUESTIONS = 1000000 };
 
-/* Those of each process, and when it ended last. */
-static struct cell (*event_cells)[EVENT_TIMERS];
-static clock_time_t *ended_at;
+/* The event timers of a process, and when it ended last. */
+struct event_timers {
+  struct cell cells[EVENT_TIMERS];
+  clock_time_t ended_at;
+};
+
+/* Those of each process, once any has set a timer. */
+static struct event_timers *tables;
 
 /* Whether a timer on the stack was ever set. Few programs have one, and only then all timers are checked before each wait. */
 static bool has_any_on_stack;
 
-/* Makes the cells of the program's processes. */
-void
-make_cells(void)
+static struct cell *
+cells_of(const struct process *p)
 {
-  event_cells = take_bytes(process_count * sizeof *event_cells);
-  ended_at = take_bytes(process_count * sizeof *ended_at);
-  make_callbacks();
+  unsigned index = index_of(p);
+  if(tables == NULL) {
+    tables = take_bytes(process_count * sizeof *tables);
+  }
+  return tables[index].cells;
 }
 
 /* The clock, by the call `clock`, so that a program that waits for it in an endless loop is halted. */
@@ -108,7 +114,7 @@ is_due(const struct cell *cell)
 bool
 has_run_out(const struct cell *cell)
 {
-  return is_due(cell) && cell->set_in < rounds_begun;
+  return is_due(cell) && cell->set_in != rounds_begun;
 }
 
 /* Whether it runs out later, and its event wasn't received. */
@@ -200,7 +206,7 @@ note_expired(struct cell *cell)
 static void
 settle(struct process *owner, unsigned slot)
 {
-  struct cell *cell = &event_cells[index_of(owner)][slot];
+  struct cell *cell = &cells_of(owner)[slot];
   if(cell->is_armed && is_due(cell) && !awaits_reply(owner) && ASK_FOR(owner, TOARMUTS_CALL_TIMER_EXPIRED, slot)->number != 0) {
     note_expired(cell);
     cell->waiting++;
@@ -212,7 +218,7 @@ settle(struct process *owner, unsigned slot)
 static void
 settle_for_change(struct process *owner, unsigned slot)
 {
-  struct cell *cell = &event_cells[index_of(owner)][slot];
+  struct cell *cell = &cells_of(owner)[slot];
   settle(owner, slot);
   if(cell->is_armed && is_due(cell) && awaits_reply(owner)) {
     ORDER(owner, TOARMUTS_CALL_TIMER_EXPIRED, slot);
@@ -226,14 +232,14 @@ settle_for_change(struct process *owner, unsigned slot)
 void
 note_settled(const struct process *owner, unsigned slot, bool has_expired)
 {
-  event_cells[index_of(owner)][slot].waiting -= !has_expired;
+  cells_of(owner)[slot].waiting -= !has_expired;
 }
 
 /* Stops the mote's timer, if the timer is armed for a process. An event that is already in the queue is still delivered. */
 static void
 disarm(const struct etimer *et, struct process *owner)
 {
-  struct cell *cells = event_cells[index_of(owner)];
+  struct cell *cells = cells_of(owner);
   unsigned slot = slot_of(et, cells, EVENT_TIMERS);
   if(slot == EVENT_TIMERS) {
     return;
@@ -250,7 +256,7 @@ static unsigned
 take_timer(struct etimer *et)
 {
   struct process *owner = process_current;
-  struct cell *cells = event_cells[index_of(owner)];
+  struct cell *cells = cells_of(owner);
   unsigned slot;
   if(et->p != owner && is_process(et->p)) {
     disarm(et, et->p);
@@ -272,7 +278,7 @@ arm_to_end(struct etimer *et, unsigned slot)
 {
   uint32_t interval = checked_interval(left_of(et->timer.start, et->timer.interval));
   ORDER(process_current, TOARMUTS_CALL_TIMER_SET, slot, interval);
-  note_armed(&event_cells[index_of(process_current)][slot], clock_now(), interval);
+  note_armed(&cells_of(process_current)[slot], clock_now(), interval);
   et->p = process_current;
 }
 
@@ -291,7 +297,7 @@ void
 etimer_reset(struct etimer *et)
 {
   unsigned slot = take_timer(et);
-  struct cell *cell = &event_cells[index_of(process_current)][slot];
+  struct cell *cell = &cells_of(process_current)[slot];
   bool is_same = cell->start == et->timer.start && cell->interval == et->timer.interval;
   if(!is_over(et)) {
     /* It hasn't run out: it continues, or is set again if it was stopped. */
@@ -329,7 +335,7 @@ void
 etimer_restart(struct etimer *et)
 {
   unsigned slot = take_timer(et);
-  struct cell *cell = &event_cells[index_of(process_current)][slot];
+  struct cell *cell = &cells_of(process_current)[slot];
   et->timer.start = clock_now();
   if(cell->interval == et->timer.interval) {
     ORDER(process_current, TOARMUTS_CALL_TIMER_RESTART, slot);
@@ -350,9 +356,9 @@ etimer_adjust(struct etimer *et, int td)
   if(!is_process(owner)) {
     return;
   }
-  slot = slot_of(et, event_cells[index_of(owner)], EVENT_TIMERS);
+  slot = slot_of(et, cells_of(owner), EVENT_TIMERS);
   if(slot < EVENT_TIMERS) {
-    const struct cell *cell = &event_cells[index_of(owner)][slot];
+    const struct cell *cell = &cells_of(owner)[slot];
     settle(owner, slot);
     if(awaits_reply(owner) ? is_pending(cell) : cell->is_armed) {
       process_current = owner;
@@ -388,11 +394,11 @@ etimer_expired(struct etimer *et)
     return et->p == PROCESS_NONE;
   }
   owner = et->p;
-  slot = slot_of(et, event_cells[index_of(owner)], EVENT_TIMERS);
+  slot = slot_of(et, cells_of(owner), EVENT_TIMERS);
   if(slot < EVENT_TIMERS) {
     settle(owner, slot);
   }
-  return et->p == PROCESS_NONE || (slot < EVENT_TIMERS && awaits_reply(owner) && has_run_out(&event_cells[index_of(owner)][slot]));
+  return et->p == PROCESS_NONE || (slot < EVENT_TIMERS && awaits_reply(owner) && has_run_out(&cells_of(owner)[slot]));
 }
 
 clock_time_t
@@ -411,7 +417,7 @@ etimer_start_time(struct etimer *et)
 struct etimer *
 etimer_told(struct process *p, unsigned slot)
 {
-  struct cell *cell = &event_cells[index_of(p)][slot];
+  struct cell *cell = &cells_of(p)[slot];
   if(cell->waiting > 0) {
     cell->waiting--;
   } else if(cell->is_armed && is_due(cell)) {
@@ -440,7 +446,7 @@ next_end(void)
   clock_time_t least = NEVER;
   note_question();
   for(unsigned i = 0; i < process_count; i++) {
-    least = least_end(event_cells[i], EVENT_TIMERS, least);
+    least = tables == NULL ? least : least_end(tables[i].cells, EVENT_TIMERS, least);
     least = least_callback(i, least);
   }
   return least;
@@ -474,8 +480,8 @@ check_cells(const struct cell *cells, unsigned count, const void *frame, const c
 void
 check_timers(const void *frame)
 {
-  for(unsigned i = 0; has_any_on_stack && i < process_count; i++) {
-    check_cells(event_cells[i], EVENT_TIMERS, frame, "etimer");
+  for(unsigned i = 0; has_any_on_stack && tables != NULL && i < process_count; i++) {
+    check_cells(tables[i].cells, EVENT_TIMERS, frame, "etimer");
   }
   for(unsigned i = 0; has_any_on_stack && i < process_count; i++) {
     check_callbacks(processes[i], frame);
@@ -486,9 +492,12 @@ check_timers(const void *frame)
 void
 forget_event_timers(const struct process *p)
 {
-  ended_at[index_of(p)] = clock_now();
+  if(tables == NULL) {
+    return;
+  }
+  tables[index_of(p)].ended_at = clock_now();
   for(unsigned slot = 0; slot < EVENT_TIMERS; slot++) {
-    struct cell *cell = &event_cells[index_of(p)][slot];
+    struct cell *cell = &cells_of(p)[slot];
     if(cell->is_armed && has_run_out(cell)) {
       note_expired(cell);
     }
@@ -500,9 +509,9 @@ forget_event_timers(const struct process *p)
 void
 renew_event_timers(const struct process *p)
 {
-  unsigned index = index_of(p);
-  for(unsigned slot = 0; clock_now() != ended_at[index] && slot < EVENT_TIMERS; slot++) {
-    event_cells[index][slot].waiting = 0;
+  struct event_timers *own = tables == NULL ? NULL : &tables[index_of(p)];
+  for(unsigned slot = 0; own != NULL && clock_now() != own->ended_at && slot < EVENT_TIMERS; slot++) {
+    own->cells[slot].waiting = 0;
   }
 }
 
@@ -510,8 +519,8 @@ renew_event_timers(const struct process *p)
 void
 stop_event_timers(const struct process *p)
 {
-  for(unsigned slot = 0; slot < EVENT_TIMERS; slot++) {
-    if(event_cells[index_of(p)][slot].is_armed) {
+  for(unsigned slot = 0; tables != NULL && slot < EVENT_TIMERS; slot++) {
+    if(cells_of(p)[slot].is_armed) {
       MOTE_ASK(TOARMUTS_CALL_TIMER_STOP, slot);
     }
   }

@@ -11,9 +11,9 @@ struct cell {
   const void *timer;     /* the struct etimer or ctimer that has it, or NULL */
   clock_time_t start;    /* as the mote has it */
   clock_time_t interval; /* as the mote has it */
-  uint64_t set_in;       /* the round in which it was armed last */
-  bool is_armed;         /* and neither stopped nor received since */
-  unsigned waiting;      /* events in the queue from before it was armed last */
+  uint32_t set_in;       /* the round in which it was armed last */
+  bool is_armed : 1;     /* and neither stopped nor received since */
+  unsigned waiting : 31; /* events in the queue from before it was armed last */
 };
 
 static const clock_time_t NEVER = (clock_time_t)-1;
@@ -30,7 +30,6 @@ void check_cells(const struct cell *cells, unsigned count, const void *frame, co
 void note_question(void);
 
 /* callbacks.c */
-void make_callbacks(void);
 clock_time_t least_callback(unsigned index, clock_time_t least);
 
 #pragma GCC visibility pop

@@ -295,7 +295,6 @@ main(int count, char **word)
     return STATUS_FINISHED;
   }
   number_processes();
-  make_tables();
   if(words.asks_for_names) {
     return print_names();
   }

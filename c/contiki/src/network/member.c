@@ -80,7 +80,6 @@ join(const struct network_host *host, uint16_t number, clock_time_t longest_dela
   stack_begin = stack;
   join_network(number, longest_delay);
   number_processes();
-  make_tables();
   return process_count;
 }
 
