@@ -7,6 +7,7 @@ import os
 import pty
 import re
 import select
+import shutil
 import signal
 import subprocess
 import time
@@ -17,7 +18,7 @@ import pytest
 
 from contiki_programs import Contiki, messages, program_of, script_of, transcript_of, write_source
 from emulator import CORES, HAS_NEWLIB, PATIENCE, Builder, Emulated, kernels, replay, run_script, whole_lines
-from tools import EXAMPLES, ROOT, Word, needs, output_of, run, succeed
+from tools import EXAMPLES, ROOT, Word, needs, once, output_of, run, succeed
 
 pytestmark = [needs("arm-none-eabi-gcc", "qemu-system-arm"),
               pytest.mark.skipif(not HAS_NEWLIB, reason="not here: libnewlib-arm-none-eabi")]
@@ -275,7 +276,7 @@ def test_record_that_nobody_reads(contiki: Contiki, build: Builder, boards: list
     assert ran.returncode == 0 and it.heard["console"].startswith(ran.stdout[:len(it.heard["console"])]), output_of(ran)
 
 
-FAULTS = ["null", "zero", "exit", "abort", "assert", "timers", "8", "100", "1000", "4000"]
+FAULTS = ["null", "zero", "exit", "abort", "assert", "timers", "partly", "value", "8", "100", "1000", "4000"]
 
 
 @pytest.mark.parametrize("how", FAULTS)
@@ -371,6 +372,65 @@ def test_fault_while_a_port_takes_nothing(build: Builder, boards: list[Emulated]
     it.send("console", b"exit\n")
     assert it.ended(ports=("record",)) == 0
     assert b"the program called exit\n" in it.heard["record"], it.heard["record"][-300:]
+
+
+# What each error changes in the driver's sources, and the fault of faults.c at which it is noticed.
+PLANTED = {
+    "a fault's message is cut": ("board/faults.c", "REPORT_ROOM - report->length;", "(REPORT_ROOM - report->length) / 4;", "timers"),
+    "a fault's message lacks its line end": ("board/faults.c", 'output_put_at_once(CONSOLE, "\\n", 1);',
+                                             'output_put_at_once(CONSOLE, "", 0);', "exit"),
+    "the record lacks a fault's message": ("board/faults.c", "  if(is_recording()) {", "  if(!is_recording()) {", "exit"),
+    "the guards are off": ("board/start.c", "MPU_CONTROL = 5;", "MPU_CONTROL = 0;", "1000"),
+    "NULL isn't guarded": ("board/start.c", "  guard(0, NULL, NULL_GUARD);\n", "", "null"),
+    "the stack isn't guarded": ("board/start.c", "  guard(1, low - (1u << log2_of_size), log2_of_size);\n", "", "1000"),
+    "a division by 0 is none": ("board/start.c", "CONFIGURATION |= 0x11;", "CONFIGURATION |= 0x1;", "zero"),
+    "what was printed is lost": ("board/faults.c", "    flush_console();\n", "", "partly"),
+    "a value isn't recorded": ("record.c", '  record_note("value ", value, "");\n', "", "value"),
+    "calls aren't in the sum": ("mote.c", "    sum_call(call);\n", "", "exit"),
+    "an input isn't in the sum": ("record.c", "  sum_line(line.text, line.length);\n", "", "exit"),
+}
+
+
+@pytest.fixture(scope="module")
+def planted_tree(shared: Path) -> Path:
+    """The command and the driver, to be changed."""
+    def make(folder: Path) -> None:
+        folder.mkdir()
+        for name in "contiki", "VERSION":
+            shutil.copy2(ROOT / name, folder / name)
+        shutil.copytree(ROOT / "c", folder / "c", ignore=shutil.ignore_patterns("out"))
+    return once(shared / "planted", make)
+
+
+def fault_told(contiki: Contiki, it: Emulated, place: Path, how: str) -> bool:
+    """Whether the board tells of a fault what the replay of its record tells on Linux. A board that doesn't see it goes on."""
+    it.until("record", b"# check ")
+    it.send("console", how.encode() + b"\n")
+    end = time.monotonic() + PATIENCE
+    while it.process.poll() is None and it.heard["record"].count(b"# check ") < 2 and time.monotonic() < end:
+        it.pump(0.05)
+    it.pump(0.2)
+    ran = replay(contiki, place, it.heard["record"], HERE / "faults.c", "--text")
+    line = f"contiki: {messages(ran.stderr)[-1]}\n".encode()
+    has_ended, is_printed = it.process.poll() is not None, ran.stdout + line in it.heard["console"]
+    return has_ended and is_printed and b"# " + line in it.heard["record"]
+
+
+@pytest.mark.parametrize("what", PLANTED)
+def test_planted_error(contiki: Contiki, build: Builder, boards: list[Emulated], planted_tree: Path, tmp_path: Path, what: str) -> None:
+    """An error in the driver for boards is noticed: the board's fault isn't that of the replay."""
+    file, old, new, how = PLANTED[what]
+    tree = Path(shutil.copytree(planted_tree, tmp_path / "tree"))
+    source = tree / "c/contiki/src" / file
+    text = source.read_text(encoding="utf-8")
+    assert text.count(old) == 1, text.count(old)
+    source.write_text(text.replace(old, new), encoding="utf-8")
+    for name, command in (("right", ROOT / "contiki"), ("wrong", tree / "contiki")):
+        image = tmp_path / name
+        ran = run(command, "--library", build.library, "--board", LARGE, HERE / "faults.c", "-o", image)
+        assert ran.returncode == 0, output_of(ran)
+        it = start(boards, image, LARGE, tmp_path / f"board of {name}")
+        assert fault_told(contiki, it, tmp_path / "record", how) == (name == "right"), (name, it.heard)
 
 
 def test_without_a_record(build: Builder, boards: list[Emulated], tmp_path: Path) -> None:
@@ -518,6 +578,11 @@ def test_run_at_a_terminal(contiki: Contiki, build: Builder, tmp_path: Path) -> 
     (["--board", LARGE, "--run", "--record", "file", "--no-record"], "--record FILE is the image's record: leave out --no-record"),
     (["--run"], "-o, --run, --script, --radio, --no-record and --stop-at-fault are for --board"),
     (["--board", LARGE, "-o", "image", "--heap", "x"], "--heap needs a number"),
+    (["--board", LARGE, "-o", "image", "--heap", "3"], "--heap needs a multiple of 4 from 20 to 65536"),
+    (["--board", LARGE, "-o", "image", "--heap", "16"], "--heap needs a multiple of 4 from 20 to 65536"),
+    (["--board", LARGE, "-o", "image", "--mmem", "65540"], "--mmem needs a multiple of 4 from 4 to 65536"),
+    (["--board", LARGE, "-o", "image", "--quota=0"], "--quota needs a multiple of 4 from 4 to 65536"),
+    (["--board", LARGE, "-o", "image", "--header", "12"], "--header needs 16 or 8"),
     (["--board", LARGE, "-o", "image", "--quiet"], "a board writes its whole transcript: leave out --quiet"),
     (["--board", LARGE, "-o", "image", "--node", "70000"], "a mote's number is at most 65535"),
 ])

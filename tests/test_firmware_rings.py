@@ -15,7 +15,8 @@ HERE = ROOT / "tests/c/firmware"
 SOURCES = ROOT / "c/contiki/src"
 HEADERS = (f"-I{ROOT}/c/contiki/include", f"-I{CRATES}/toarmuts/include")
 # Each test, and the parts that it runs.
-PARTS = {"rings": ["rings.c"], "loop": ["main.c", "clock.c", "rings.c", "slip.c"], "rings_threads": ["rings.c"]}
+PARTS = {"rings": ["rings.c"], "loop": ["main.c", "clock.c", "rings.c", "slip.c"], "rings_threads": ["rings.c"],
+         "frames": ["rings.c", "slip.c"]}
 COMPILERS = [pytest.param("gcc"), pytest.param("clang", marks=needs("clang"))]
 
 
@@ -28,10 +29,10 @@ def run_test(compiler: str, name: str, room: Path, *options: str, sources: Path 
 
 
 @with_sanitizers
-@pytest.mark.parametrize("name", ["rings", "loop"])
+@pytest.mark.parametrize("name", ["rings", "loop", "frames"])
 @pytest.mark.parametrize("compiler", COMPILERS)
 def test_part(tmp_path: Path, compiler: str, name: str) -> None:
-    """Rings keep each byte, at each position and size; nothing is slept over, wherever it comes."""
+    """Rings keep each byte, at each position and size; nothing is slept over, wherever it comes; frames pass as they are."""
     all_hold(run_test(compiler, name, tmp_path, "-O1", "-DRANDOM_CALLS=100000", *SANITIZERS))
 
 
@@ -69,8 +70,9 @@ PLANTED = {
     "the end of a frame is taken for one": ("rings", "rings.c", [("has_gap = byte != SLIP_END;", "has_gap = false;")]),
     "what follows a gap is put": ("rings", "rings.c", [("byte != SLIP_END || ring_used", "ring_used")]),
     "lost outputs count as one": ("rings", "rings.c", [("lost += (uint32_t)length", "lost += 1")]),
-    "an output refuses what fits": ("rings", "rings.c", [("length > output_left(port)", "length >= output_left(port)")]),
-    "an output is put without room": ("rings", "rings.c", [("length > output_left(port)", "length > output_left(port) + 1")]),
+    "an output refuses what fits": ("rings", "rings.c", [("while(output_left(port) < room)", "while(output_left(port) <= room)")]),
+    "an output is put without room": ("rings", "rings.c", [("while(output_left(port) < room)", "while(output_left(port) + 1 < room)")]),
+    "a port without room isn't waited for": ("rings", "rings.c", [("    if(!has_patience(port)) {", "    if(port < PORTS) {")]),
     "a port that takes nothing is waited for without end": ("rings", "rings.c", [
         ("run_script != NULL || output_is_awaited(port, true)", "run_script == NULL || output_is_awaited(port, true)")]),
     "a port is waited for anew for each message": ("rings", "rings.c", [
@@ -93,6 +95,28 @@ PLANTED = {
     "frames don't wake": ("loop", "rings.c", [("has_work(CONSOLE) || has_work(RADIO)", "has_work(CONSOLE)")]),
     "the main loop doesn't ask for frames": ("loop", "main.c", [("length = take_frame_bytes(bytes)", "length = 0")]),
     "time is passed over a timer's end": ("loop", "main.c", [("due > passed && due < now ? due : now", "due > now + 1 ? now : now")]),
+    "no time is passed before an input": ("loop", "main.c", [("  pass_time(now);\n  pass_input(kind",
+                                                              "  pass_time(0 * now);\n  pass_input(kind")]),
+    "a tick is lost where an input is taken": ("loop", "main.c", [("  pass_time(now);\n  pass_input(kind",
+                                                                  "  pass_time(now - 1);\n  pass_input(kind")]),
+    "an interrupt calls the mote": ("loop", "rings.c", [
+        ("  put_input(input, byte, byte == end_of[port]);",
+         "  put_input(input, byte, byte == end_of[port]);\n  if(byte == end_of[port]) {\n    next_due();\n  }")]),
+    "a check is skipped": ("loop", "main.c", [("  record_check();\n", "")]),
+    "a check is before the rest": ("loop", "main.c", [("  run_to_rest();\n  record_check();\n", "  record_check();\n  run_to_rest();\n")]),
+    "the mote has an input before the record": ("loop", "main.c", [
+        ("  record_input(kind, ticks, bytes, length);\n  if(feed_input(kind, ticks, bytes, length) != 0) {",
+         "  uint32_t status = feed_input(kind, ticks, bytes, length);\n  record_input(kind, ticks, bytes, length);\n  if(status != 0) {")]),
+    "an escape isn't sent": ("frames", "slip.c", [("bytes[i] == END || bytes[i] == ESC;", "bytes[i] == END;")]),
+    "an escape isn't taken": ("frames", "slip.c", [("byte = byte == ESC_END ? END : ESC;", "byte = byte == ESC_END ? END : byte;")]),
+    "an escape of another byte is taken": ("frames", "slip.c", [("    is_bad |= byte != ESC_END && byte != ESC_ESC;\n", "")]),
+    "an escape at a frame's end is ignored": ("frames", "slip.c", [("is_bad || is_escaped ? 0 : length", "is_bad ? 0 : length")]),
+    "the longest frame is refused": ("frames", "slip.c", [("  if(length == MOST) {", "  if(length == MOST - 1) {")]),
+    "a frame that is too long is taken": ("frames", "slip.c", [("  if(length == MOST) {", "  if(length == MOST + 1) {")]),
+    "the end of a frame that is too long is taken for one": ("frames", "slip.c", [("  is_bad |= length > 0;\n", "")]),
+    "a sent frame lacks its last byte": ("frames", "slip.c", [("i < count && i < MOST", "i + 1 < count && i < MOST")]),
+    "the longest frame is sent without its last byte": ("frames", "slip.c", [("i < count && i < MOST", "i < count && i + 1 < MOST")]),
+    "a bad frame isn't counted": ("frames", "slip.c", [("  bad_count += is_bad || is_escaped;\n", "")]),
     "a count is shown before its byte": ("rings_threads", "ring.h", [("put + 1, memory_order_release", "put + 1, memory_order_relaxed")]),
     "room is given back before it's read": ("rings_threads", "ring.h", [("taken + 1, memory_order_release",
                                                                          "taken + 1, memory_order_relaxed")]),

@@ -1,6 +1,7 @@
 /* A process with a mistake, which a line of the serial line names. */
 #include "contiki.h"
 
+#include "dev/value.h"
 #include "lib/assert.h"
 
 #include <stdlib.h>
@@ -34,6 +35,12 @@ set_timers(void)
   }
 }
 
+static uint32_t
+read_zero(void)
+{
+  return (uint32_t)zero + 7;
+}
+
 static void
 fail(const char *how)
 {
@@ -50,6 +57,12 @@ fail(const char *how)
     assert(zero != 0);
   } else if(strcmp(how, "timers") == 0) {
     set_timers();
+  } else if(strcmp(how, "partly") == 0) {
+    printf("no line end");
+    exit(1);
+  } else if(strcmp(how, "value") == 0) {
+    printf("%u\n", (unsigned)value_of(read_zero));
+    exit(1);
   } else {
     int size = atoi(how);
     printf("%d\n", size == 8 ? deep_8(0) : size == 100 ? deep_100(0) : size == 1000 ? deep_1000(0) : deep_4000(0));

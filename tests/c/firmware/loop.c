@@ -12,7 +12,7 @@
 #include <setjmp.h>
 #include <stdlib.h>
 
-enum { HZ = 1000, TICKS = 128, MOST_POINTS = 1000000, MOST_LATE = 64, FEWEST_RUNS = 13 };
+enum { HZ = 1000, TICKS = 128, MOST_POINTS = 1000000, MOST_LATE = 64, FEWEST_RUNS = 8 };
 #define NEVER UINT64_MAX
 
 const uint32_t board_hz = HZ;
@@ -22,6 +22,7 @@ const uint8_t *stack_low;
 const void *stack_begin;
 extern const uint8_t board_stack_low_run[];
 const uint8_t board_stack_low_run[1];
+uint8_t board_heap_start[sizeof(struct report)] __attribute__((aligned(8)));
 
 /* A row of runs: what an interrupt brings, the counts that pass at each point, and the ticks to the mote's timer, or 0 if it has none. */
 struct row {
@@ -53,8 +54,12 @@ static unsigned long points;
 /* Counts of the board, and ticks of the mote. */
 static uint64_t now = UINT32_MAX - 5000; /* so board_count soon begins anew */
 static uint64_t begin = NEVER, came, wakes_at = NEVER, due = NEVER, passed;
+static uint64_t asked; /* when the clock was read last */
 
-static bool has_come = true, came_in_sleep, is_pending, wake_is_pending, is_fed = true;
+static bool has_come = true, came_in_sleep, is_pending, wake_is_pending, is_fed = true, is_in_interrupt;
+
+/* What must follow an input, in this order. */
+static enum step { RECORDING, FEEDING, RUNNING, CHECKING } next = RUNNING;
 static uint32_t interrupts_are_off;
 
 /* The board. */
@@ -63,9 +68,11 @@ static void
 handle_input(void)
 {
   is_pending = false;
+  is_in_interrupt = true;
   for(const char *byte = row->bytes; *byte != '\0'; byte++) {
     input_received(row->port, (uint8_t)*byte);
   }
+  is_in_interrupt = false;
 }
 
 /* An interrupt is handled at once, or, while interrupts are off, later. */
@@ -117,6 +124,7 @@ board_count(void)
   uint32_t count;
   point();
   begin = begin == NEVER ? now : begin;
+  asked = now;
   count = (uint32_t)now;
   point();
   return count;
@@ -186,9 +194,17 @@ begin_run(void)
   due = row->timer == 0 ? NEVER : (now - begin) * TICKS / HZ + row->timer;
 }
 
+static void
+must_be(enum step what, enum step then)
+{
+  check("an input is recorded, fed, run to its rest and checked, in the main loop", next == what && !is_in_interrupt);
+  next = then;
+}
+
 uint64_t
 next_due(void)
 {
+  check("an interrupt makes no call of the mote", !is_in_interrupt);
   point();
   if(has_come && !is_pending && is_fed && due == NEVER) {
     begin_run();
@@ -218,10 +234,12 @@ feed_input(uint32_t kind, uint32_t ticks, const uint8_t *bytes, size_t length)
 {
   const char *text = row->port == CONSOLE ? "a line\n" : "frame";
   point();
+  must_be(FEEDING, RUNNING);
   if(kind == TOARMUTS_TICK) {
     pass_ticks(ticks);
     return 0;
   }
+  check("the time is passed before an input", passed == (asked - begin) * TICKS / HZ);
   check("the input is that which came", kind == (row->port == CONSOLE ? TOARMUTS_SERIAL : TOARMUTS_FRAME) && !is_fed);
   check("its bytes are those which came", length == strlen(text) && memcmp(bytes, text, length) == 0);
   check("an input is taken at once", !is_late(came));
@@ -233,6 +251,28 @@ void
 note_losses(void)
 {
   point();
+}
+
+void
+run_to_rest(void)
+{
+  must_be(RUNNING, CHECKING);
+}
+
+void
+record_check(void)
+{
+  must_be(CHECKING, RECORDING);
+}
+
+void
+record_input(uint32_t kind, uint32_t ticks, const uint8_t *bytes, size_t length)
+{
+  (void)kind;
+  (void)ticks;
+  (void)bytes;
+  (void)length;
+  must_be(RECORDING, FEEDING);
 }
 
 /* What the loop needs besides. */
@@ -288,16 +328,11 @@ record_has_ended(void)
 /* clang-format off */
 DOES_NOTHING(open_console, void)
 DOES_NOTHING(number_processes, void)
-DOES_NOTHING(make_tables, void)
-DOES_NOTHING(run_to_rest, void)
-DOES_NOTHING(record_check, void)
 DOES_NOTHING(record_head, __attribute__((unused)) const struct record_head *head)
 DOES_NOTHING(limit_heap, __attribute__((unused)) const uint8_t *limit)
 DOES_NOTHING(join_network, __attribute__((unused)) uint16_t number, __attribute__((unused)) clock_time_t longest)
 DOES_NOTHING(open_mote, __attribute__((unused)) const struct toarmuts_configuration *sizes)
 DOES_NOTHING(guard_stack, __attribute__((unused)) const uint8_t *low, __attribute__((unused)) unsigned log2_of_size)
-DOES_NOTHING(record_input, __attribute__((unused)) uint32_t kind, __attribute__((unused)) uint32_t ticks,
-             __attribute__((unused)) const uint8_t *bytes, __attribute__((unused)) size_t length)
 /* clang-format on */
 
 int

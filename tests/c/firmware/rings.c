@@ -53,12 +53,15 @@ clock_count(void)
   return now;
 }
 
-void
-give_up(int status, const char *format, ...)
+/* The mote's memory, which nothing reads after a fault. */
+uint8_t board_heap_start[sizeof(struct report)] __attribute__((aligned(8)));
+
+void *
+take_bytes(size_t size)
 {
-  (void)status;
-  (void)format;
-  abort();
+  void *bytes = calloc(1, size);
+  must("there is memory", bytes != NULL);
+  return bytes;
 }
 
 /* What a ring must be. */
@@ -85,18 +88,38 @@ pop(struct queue *queue)
 }
 
 static struct queue inputs[RECORD];
-static struct queue outputs[PORTS] = {{.room = 1024}, {.room = 512}, {.room = 1024}};
+static struct queue outputs[PORTS] = {{.room = OUTPUT_ROOM}, {.room = OUTPUT_ROOM}, {.room = OUTPUT_ROOM}};
 static const uint8_t end_of[RECORD] = {'\n', 0xc0};
+
+/* Which ports were waited for, and have taken nothing since. */
+static bool is_given_up[PORTS];
+
+/* The bytes of a call of output_put, until they are in the ring. */
+static const uint8_t *coming;
+static size_t coming_length;
+
+static void
+note_put(enum port port)
+{
+  if(coming_length > 0 && output_used(port) == outputs[port].length + coming_length) {
+    while(coming_length > 0) {
+      push(&outputs[port], *coming++);
+      coming_length--;
+    }
+  }
+}
 
 void
 board_pump(enum port port)
 {
   must("bytes leave while interrupts are off", interrupts_are_off != 0);
+  note_put(port);
   now += PUMP;
   must("a port isn't waited for without end", now <= latest);
   for(size_t i = 0; i < port_takes; i++) {
     int byte = output_next(port);
     must("the next byte leaves", byte == pop(&outputs[port]));
+    is_given_up[port] &= byte < 0;
   }
 }
 
@@ -259,19 +282,24 @@ use_inputs(unsigned long calls)
 
 /* The outputs. */
 
+/* A port that takes bytes is waited for, but for one that was given up. */
 static void
 put(enum port port, size_t length)
 {
   uint8_t bytes[MOST_ROOM + 1];
   bool has_room = length <= outputs[port].room - outputs[port].length;
+  bool is_put = has_room || (length <= outputs[port].room && port_takes > 0 && !is_given_up[port]);
+  uint64_t before = now;
   for(size_t i = 0; i < length; i++) {
     bytes[i] = (uint8_t)next_random();
-    if(has_room) {
-      push(&outputs[port], bytes[i]);
-    }
   }
-  outputs[port].lost += has_room ? 0 : length;
-  must("all bytes are put, or none", output_put(port, bytes, length) == has_room);
+  outputs[port].lost += is_put ? 0 : length;
+  coming = bytes;
+  coming_length = length;
+  must("all bytes are put, or none", output_put(port, bytes, length) == is_put && coming_length == (is_put ? 0 : length));
+  must("where there is room nothing is waited for", !has_room || now == before + PUMP);
+  coming_length = 0;
+  is_given_up[port] |= !is_put;
 }
 
 static void
@@ -285,11 +313,11 @@ check_outputs(void)
   }
 }
 
-/* At each position an output takes as many bytes as it has room for, and refuses one more. */
+/* At each position an output takes as many bytes as it has room for, and of a port that takes nothing it refuses one more. */
 static void
 fill_outputs(void)
 {
-  for(size_t i = 0; i < 2 * MOST_ROOM + 3; i++) {
+  for(size_t i = 0; i < 2 * OUTPUT_ROOM + 3; i++) {
     for(enum port port = CONSOLE; port < PORTS; port++) {
       size_t room = outputs[port].room;
       port_takes = 0;
@@ -325,6 +353,7 @@ check_closed_rings(void)
   receive(CONSOLE, 'x');
   input_received(RECORD, 'x');
   check_inputs();
+  must("a message has room", (void *)take_report_room() == board_heap_start);
   port_takes = 1;
   for(size_t i = 0; i < sizeof text; i++) {
     push(&outputs[RECORD], (uint8_t)text[i]);
@@ -362,6 +391,9 @@ check_stuck_port(void)
   put_at_once(CONSOLE, 3);
   outputs[CONSOLE].lost += 3;
   must("and not a second time", now == before);
+  check_outputs();
+  put(CONSOLE, 1);
+  must("nor for what is printed", now == before);
   check_outputs();
   port_takes = room;
   output_put_at_once(RECORD, "", 0);

@@ -40,12 +40,16 @@ clock_count(void)
   return 0;
 }
 
-void
-give_up(int status, const char *format, ...)
+uint8_t board_heap_start[sizeof(struct report)] __attribute__((aligned(8)));
+
+void *
+take_bytes(size_t size)
 {
-  (void)status;
-  (void)format;
-  abort();
+  void *bytes = calloc(1, size);
+  if(bytes == NULL) {
+    abort();
+  }
+  return bytes;
 }
 
 /* The bytes, of which none ends a line. */

@@ -1,6 +1,7 @@
 /*
- * The image of a board, whose own linker script has the memories FLASH and RAM, and the sizes of the stack. The kernel's and the driver's code comes
- * first; the program's code and all constants are at 65,536 or above: an event's data below that is a number (docs/contiki.md).
+ * The image of a board, whose own linker script has the memories FLASH and RAM, and the sizes of the stack. The kernel's and the
+ * driver's code comes first; the program's code and all constants are at 65,536 or above: an event's data below that is a number
+ * (docs/contiki.md).
  */
 ENTRY(board_reset)
 
@@ -23,7 +24,7 @@ SECTIONS
 
   .bss (NOLOAD) : ALIGN(16) {
     /* First in RAM: it can't grow into anything. */
-    board_handler_stack_low = .; . += 768; . = ALIGN(8); board_handler_stack_top = .;
+    board_handler_stack_low = .; . += 512; . = ALIGN(8); board_handler_stack_top = .;
     board_bss_start = .; *(.bss*) *(COMMON) . = ALIGN(8); board_bss_end = .;
   } >RAM AT>RAM
 

@@ -63,10 +63,12 @@ gather(const char *bytes, size_t length)
 static void
 write_to(const FILE *file, const char *bytes, size_t length)
 {
-  if(file == stderr) {
-    output_put(CONSOLE, bytes, length);
-  } else {
+  if(file != stderr) {
     gather(bytes, length);
+    return;
+  }
+  for(size_t at = 0; at < length; at += CHUNK) {
+    output_put(CONSOLE, bytes + at, MIN(length - at, CHUNK));
   }
 }
 

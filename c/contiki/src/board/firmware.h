@@ -22,6 +22,7 @@ extern const struct board_settings board_settings;
 
 /* rings.c */
 enum { PATIENCE = 2 }; /* the seconds for which a port that takes nothing is waited for */
+enum { OUTPUT_ROOM = 256 };
 void rings_open(void);
 void rings_open_radio(void);
 struct report *take_report_room(void);
@@ -30,6 +31,7 @@ size_t input_take_line(uint8_t *bytes, size_t room);
 size_t input_take_byte(enum port port, uint8_t *byte);
 bool input_has_frame(void);
 uint32_t input_lost(enum port port);
+bool output_wait(enum port port, size_t room);
 bool output_put(enum port port, const void *bytes, size_t length);
 void output_put_at_once(enum port port, const void *bytes, size_t length);
 bool output_is_awaited(enum port port, bool is_behind);
@@ -61,7 +63,6 @@ void note_losses(void);
 extern bool shows_transcript;
 void run_board_script(void);
 void show_board_line(void);
-void put_transcript(const char *text, size_t length);
 
 /* allocator.c: where malloc's memory ends. */
 void limit_heap(const uint8_t *limit);

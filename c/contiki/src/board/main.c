@@ -7,7 +7,7 @@
 
 #include "../record.h"
 
-enum { LINE_ROOM = 256, RUN_GUARD = 12, MOST_WAITING = 384 };
+enum { LINE_ROOM = 256, RUN_GUARD = 12, MOST_WAITING = OUTPUT_ROOM / 2 };
 
 extern const uint8_t board_stack_low_run[];
 
@@ -27,7 +27,6 @@ open_all(void)
   open_mote(&board_settings.sizes);
   limit_heap((const uint8_t *)((uintptr_t)board_stack_low_run - (1u << RUN_GUARD)));
   guard_stack(board_stack_low_run, RUN_GUARD);
-  make_tables();
   rings_open();
   if(board_settings.node != 0) {
     radio_open();
@@ -54,21 +53,20 @@ pass_input(uint32_t kind, uint32_t ticks, const uint8_t *bytes, size_t length)
   if(feed_input(kind, ticks, bytes, length) != 0) {
     stop("the mote accepts no more inputs");
   }
-  rest();
 }
 
 /* Passes the time up to now, in parts that end where a timer runs out: so one input never causes more than one timer's turns, also where
  * the board was held up. */
 static void
-pass_time(void)
+pass_time(uint64_t now)
 {
   static uint64_t passed;
-  uint64_t now = clock_ticks();
   while(passed < now) {
     uint64_t due = next_due(), end = due > passed && due < now ? due : now;
     uint32_t ticks = end - passed > UINT32_MAX ? UINT32_MAX : (uint32_t)(end - passed);
     passed += ticks;
     pass_input(TOARMUTS_TICK, ticks, NULL, 0);
+    rest();
   }
 }
 
@@ -90,9 +88,10 @@ outputs_keep_up(void)
   return keep_up;
 }
 
-/* Takes a line or a frame, if one is whole. It isn't inlined: otherwise the turns of timers would have its bytes on the stack, too. */
+/* Takes a line or a frame, if one is whole, where no timer has run out by now. It isn't inlined: otherwise the mote's turns would have its
+ * bytes on the stack, too. */
 static __attribute__((noinline)) bool
-take_input(void)
+take_input(uint64_t now)
 {
   uint8_t bytes[LINE_ROOM];
   size_t length = input_take_line(bytes, sizeof bytes);
@@ -103,7 +102,7 @@ take_input(void)
   if(length == 0) {
     return false;
   }
-  pass_time();
+  pass_time(now);
   pass_input(kind, 0, bytes, length);
   return true;
 }
@@ -124,14 +123,14 @@ static CC_NORETURN void
 serve(void)
 {
   for(;;) {
-    uint64_t due;
+    uint64_t now = clock_ticks(), due = next_due();
     if(!outputs_keep_up()) {
-      clock_sleep_until(clock_ticks() + 1, never);
-      continue;
-    }
-    if(next_due() <= clock_ticks()) {
-      pass_time();
-    } else if(!take_input() && (due = next_due()) > clock_ticks()) {
+      clock_sleep_until(now + 1, never);
+    } else if(due <= now) {
+      pass_time(now);
+    } else if(take_input(now)) {
+      rest();
+    } else {
       note_losses();
       clock_sleep_until(due, has_work);
     }

@@ -1,12 +1,12 @@
 /*
- * What leaves the board: what is printed, on the console; what is sent, on the radio; and the record on the third port. Where that port is
- * too slow, the record ends, and says so: it never has a gap.
+ * What leaves the board: what is printed, on the console; what is sent, on the radio; and the record on the third port. Where that port
+ * takes nothing for a time, the record ends, and says so: it never has a gap.
  */
 #include "firmware.h"
 
 #include "../record.h"
 
-enum { END_ROOM = 48 };
+enum { END_ROOM = 48, PIECE = 64 };
 
 static uint64_t line_count;
 static bool has_ended;
@@ -29,20 +29,21 @@ record_has_ended(void)
   return has_ended;
 }
 
-/* The room of the ring that the last line needs is never used by others. */
+/* A line may be longer than the ring, so the record may end within one: a replay ends before that. The room of the ring that the last
+ * comment needs is never used by others. */
 void
 put_record(const void *bytes, size_t length)
 {
   static const char end[] = "# the record ends here: the port is too slow\n";
-  if(has_ended) {
-    return;
+  for(size_t at = 0; at < length && !has_ended; at += PIECE) {
+    size_t size = MIN(length - at, PIECE);
+    has_ended = !output_wait(RECORD, size + END_ROOM);
+    if(has_ended) {
+      output_put(RECORD, end, sizeof end - 1);
+    } else {
+      output_put(RECORD, (const uint8_t *)bytes + at, size);
+    }
   }
-  if(output_left(RECORD) < length + END_ROOM) {
-    has_ended = true;
-    output_put(RECORD, end, sizeof end - 1);
-    return;
-  }
-  output_put(RECORD, bytes, length);
 }
 
 /* value.h: on a board there is no replay. */

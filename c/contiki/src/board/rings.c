@@ -2,9 +2,7 @@
 #include "firmware.h"
 #include "ring.h"
 
-#include <stdlib.h>
-
-enum { INPUT_ROOM = 512, MANY = 256, INPUTS = RECORD, FIRST_ROOM = 16, LINE_END = '\n', SLIP_END = 0xc0, SLIP_ESC = 0xdb };
+enum { INPUT_ROOM = 512, MANY = 256, INPUTS = RECORD, FIRST_ROOM = 4, LINE_END = '\n', SLIP_END = 0xc0, SLIP_ESC = 0xdb };
 
 /* The interrupt writes, the main loop reads. */
 struct input {
@@ -28,37 +26,34 @@ struct output {
 static uint8_t first_bytes[PORTS][FIRST_ROOM];
 
 /* What comes from the console. A fault ends the run, and its message takes this room: no input is taken any more. */
-static union {
+union console_room {
   uint8_t bytes[INPUT_ROOM];
   struct report report;
-} console_room;
+};
 
+static union console_room *console_room;
 static struct input inputs[INPUTS];
 static struct output outputs[PORTS] = {{.ring = {.bytes = first_bytes[CONSOLE], .room = FIRST_ROOM}},
                                        {.ring = {.bytes = first_bytes[RADIO], .room = FIRST_ROOM}},
                                        {.ring = {.bytes = first_bytes[RECORD], .room = FIRST_ROOM}}};
 static const uint8_t end_of[INPUTS] = {LINE_END, SLIP_END};
-static const uint16_t output_rooms[PORTS] = {1024, 512, 1024};
 
 static void
-open_ring(struct ring *ring, uint32_t room)
+open_ring(struct ring *ring, uint8_t *bytes, uint32_t room)
 {
-  ring->bytes = malloc(room);
+  ring->bytes = bytes;
   ring->room = room;
-  if(ring->bytes == NULL) {
-    give_up(STATUS_NO_MEMORY, "out of memory");
-  }
 }
 
 /* Once the mote is open, when the stack of that is free. Until then no input is taken. */
 void
 rings_open(void)
 {
-  inputs[CONSOLE].ring.bytes = console_room.bytes;
-  inputs[CONSOLE].ring.room = INPUT_ROOM;
-  open_ring(&outputs[CONSOLE].ring, output_rooms[CONSOLE]);
+  console_room = take_bytes(sizeof *console_room);
+  open_ring(&inputs[CONSOLE].ring, console_room->bytes, INPUT_ROOM);
+  open_ring(&outputs[CONSOLE].ring, take_bytes(OUTPUT_ROOM), OUTPUT_ROOM);
   if(board_settings.has_record || board_settings.run_script != NULL) {
-    open_ring(&outputs[RECORD].ring, output_rooms[RECORD]);
+    open_ring(&outputs[RECORD].ring, take_bytes(OUTPUT_ROOM), OUTPUT_ROOM);
   }
 }
 
@@ -66,19 +61,21 @@ rings_open(void)
 void
 rings_open_radio(void)
 {
-  open_ring(&inputs[RADIO].ring, INPUT_ROOM);
-  open_ring(&outputs[RADIO].ring, output_rooms[RADIO]);
+  open_ring(&inputs[RADIO].ring, take_bytes(INPUT_ROOM), INPUT_ROOM);
+  open_ring(&outputs[RADIO].ring, take_bytes(OUTPUT_ROOM), OUTPUT_ROOM);
 }
 
-/* The room for the message of a fault. Interrupts are disabled. */
+/* The room for the message of a fault. Interrupts are disabled. Until the rings are open it is that of the mote, which isn't read any
+ * more. */
 struct report *
 take_report_room(void)
 {
   struct ring *ring = &inputs[CONSOLE].ring;
+  struct report *report = console_room == NULL ? (struct report *)(void *)board_heap_start : &console_room->report;
   ring->room = 0;
   atomic_store(&ring->taken, ring->put);
-  console_room.report.length = 0;
-  return &console_room.report;
+  report->length = 0;
+  return report;
 }
 
 /* Inputs. */
@@ -212,25 +209,6 @@ pump(enum port port)
   restore_interrupts(before);
 }
 
-/* Puts all bytes, or, if there is no room for them, none: then they are lost. A script has no time, so it waits instead. */
-bool
-output_put(enum port port, const void *bytes, size_t length)
-{
-  if(board_settings.run_script != NULL) {
-    output_put_at_once(port, bytes, length);
-    return true;
-  }
-  if(length > output_left(port)) {
-    outputs[port].lost += (uint32_t)length;
-    return false;
-  }
-  for(size_t i = 0; i < length; i++) {
-    ring_put(&outputs[port].ring, ((const uint8_t *)bytes)[i]);
-  }
-  pump(port);
-  return true;
-}
-
 /* Whether a port that lags is waited for. One that takes nothing for a time isn't, until it takes something. */
 bool
 output_is_awaited(enum port port, bool is_behind)
@@ -245,6 +223,50 @@ output_is_awaited(enum port port, bool is_behind)
   return is_behind && clock_count() - output->since <= (uint64_t)PATIENCE * board_hz;
 }
 
+/* Whether a port without room is waited for. A script has no time, so it waits without end. */
+static bool
+has_patience(enum port port)
+{
+  return board_settings.run_script != NULL || output_is_awaited(port, true);
+}
+
+/* Waits until there is room for so many bytes; false if the port takes nothing for a time. */
+bool
+output_wait(enum port port, size_t room)
+{
+  bool waits = output_left(port) < room;
+  while(output_left(port) < room) {
+    if(!has_patience(port)) {
+      return false;
+    }
+    pump(port);
+  }
+  if(waits) {
+    output_is_awaited(port, false);
+  }
+  return true;
+}
+
+/* Puts all bytes, for which an empty ring must have room, or none: they are lost if the port takes nothing for a time. In a script they
+ * leave at once, since the emulator ends after it. */
+bool
+output_put(enum port port, const void *bytes, size_t length)
+{
+  if(board_settings.run_script != NULL) {
+    output_put_at_once(port, bytes, length);
+    return true;
+  }
+  if(!output_wait(port, length)) {
+    outputs[port].lost += (uint32_t)length;
+    return false;
+  }
+  for(size_t i = 0; i < length; i++) {
+    ring_put(&outputs[port].ring, ((const uint8_t *)bytes)[i]);
+  }
+  pump(port);
+  return true;
+}
+
 /* Waits until all bytes have left: at a fault, where nothing else happens any more, and in a script. At a fault a port that takes nothing
  * doesn't hold up what follows: its bytes are lost. */
 void
@@ -254,7 +276,7 @@ output_put_at_once(enum port port, const void *bytes, size_t length)
   while(i < length || output_is_left(port)) {
     if(i < length && ring_put(&outputs[port].ring, ((const uint8_t *)bytes)[i])) {
       i++;
-    } else if(board_settings.run_script != NULL || output_is_awaited(port, true)) {
+    } else if(has_patience(port)) {
       pump(port);
     } else {
       outputs[port].lost += (uint32_t)(length - i);

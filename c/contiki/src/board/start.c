@@ -114,7 +114,7 @@ __attribute__((naked, used)) static void
 stop_at_fault(void)
 {
   __asm__ volatile("cpsid i\n tst lr, #4\n ite eq\n mrseq r0, msp\n mrsne r0, psp\n mrs r1, ipsr\n"
-                   " ldr r2, =board_handler_stack_top\n mrs r3, msp\n sub r3, r2, r3\n cmp r3, #256\n it hi\n movhi sp, r2\n"
+                   " ldr r2, =board_handler_stack_top\n mrs r3, msp\n sub r3, r2, r3\n cmp r3, #192\n it hi\n movhi sp, r2\n"
                    " ldr r2, =report_fault\n bic r2, #1\n mov r3, #0x01000000\n push {r2, r3}\n push {r0-r3, r12, lr}\n"
                    " ldr lr, =0xfffffff9\n bx lr\n");
 }
