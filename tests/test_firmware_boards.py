@@ -276,7 +276,7 @@ def test_record_that_nobody_reads(contiki: Contiki, build: Builder, boards: list
     assert ran.returncode == 0 and it.heard["console"].startswith(ran.stdout[:len(it.heard["console"])]), output_of(ran)
 
 
-FAULTS = ["null", "zero", "exit", "abort", "assert", "timers", "partly", "value", "8", "100", "1000", "4000"]
+FAULTS = ["null", "zero", "exit", "abort", "assert", "timers", "partly", "8", "100", "1000", "4000"]
 
 
 @pytest.mark.parametrize("how", FAULTS)
@@ -374,7 +374,7 @@ def test_fault_while_a_port_takes_nothing(build: Builder, boards: list[Emulated]
     assert b"the program called exit\n" in it.heard["record"], it.heard["record"][-300:]
 
 
-# What each error changes in the driver's sources, and the fault of faults.c at which it is noticed.
+# What each error changes in the driver's sources, and the lines for faults.c at which it is noticed: the last one is a fault.
 PLANTED = {
     "a fault's message is cut": ("board/faults.c", "REPORT_ROOM - report->length;", "(REPORT_ROOM - report->length) / 4;", "timers"),
     "a fault's message lacks its line end": ("board/faults.c", 'output_put_at_once(CONSOLE, "\\n", 1);',
@@ -385,9 +385,10 @@ PLANTED = {
     "the stack isn't guarded": ("board/start.c", "  guard(1, low - (1u << log2_of_size), log2_of_size);\n", "", "1000"),
     "a division by 0 is none": ("board/start.c", "CONFIGURATION |= 0x11;", "CONFIGURATION |= 0x1;", "zero"),
     "what was printed is lost": ("board/faults.c", "    flush_console();\n", "", "partly"),
-    "a value isn't recorded": ("record.c", '  record_note("value ", value, "");\n', "", "value"),
+    "a value isn't recorded": ("record.c", '  record_note("value ", value, "");\n', "", "value exit"),
+    "a value isn't in the sum": ("record.c", "  sum_number(value);\n", "  (void)value;\n", "value exit"),
     "calls aren't in the sum": ("mote.c", "    sum_call(call);\n", "", "exit"),
-    "an input isn't in the sum": ("record.c", "  sum_line(line.text, line.length);\n", "", "exit"),
+    "an input isn't in the sum": ("record.c", "  sum_line(line.text, line.length);\n", "", "value exit"),
 }
 
 
@@ -404,10 +405,12 @@ def planted_tree(shared: Path) -> Path:
 
 def fault_told(contiki: Contiki, it: Emulated, place: Path, how: str) -> bool:
     """Whether the board tells of a fault what the replay of its record tells on Linux. A board that doesn't see it goes on."""
-    it.until("record", b"# check ")
-    it.send("console", how.encode() + b"\n")
+    lines = how.split()
+    for number, line in enumerate(lines, 1):
+        it.until("record", b"# check ", number)
+        it.send("console", line.encode() + b"\n")
     end = time.monotonic() + PATIENCE
-    while it.process.poll() is None and it.heard["record"].count(b"# check ") < 2 and time.monotonic() < end:
+    while it.process.poll() is None and it.heard["record"].count(b"# check ") <= len(lines) and time.monotonic() < end:
         it.pump(0.05)
     it.pump(0.2)
     ran = replay(contiki, place, it.heard["record"], HERE / "faults.c", "--text")

@@ -62,7 +62,6 @@ fail(const char *how)
     exit(1);
   } else if(strcmp(how, "value") == 0) {
     printf("%u\n", (unsigned)value_of(read_zero));
-    exit(1);
   } else {
     int size = atoi(how);
     printf("%d\n", size == 8 ? deep_8(0) : size == 100 ? deep_100(0) : size == 1000 ? deep_1000(0) : deep_4000(0));
