@@ -113,7 +113,6 @@ PLANTED = {
     "an escape at a frame's end is ignored": ("frames", "slip.c", [("is_bad || is_escaped ? 0 : length", "is_bad ? 0 : length")]),
     "the longest frame is refused": ("frames", "slip.c", [("  if(length == MOST) {", "  if(length == MOST - 1) {")]),
     "a frame that is too long is taken": ("frames", "slip.c", [("  if(length == MOST) {", "  if(length == MOST + 1) {")]),
-    "the end of a frame that is too long is taken for one": ("frames", "slip.c", [("  is_bad |= length > 0;\n", "")]),
     "a sent frame lacks its last byte": ("frames", "slip.c", [("i < count && i < MOST", "i + 1 < count && i < MOST")]),
     "the longest frame is sent without its last byte": ("frames", "slip.c", [("i < count && i < MOST", "i < count && i + 1 < MOST")]),
     "a bad frame isn't counted": ("frames", "slip.c", [("  bad_count += is_bad || is_escaped;\n", "")]),
