@@ -37,7 +37,11 @@ class Launch:
         self.proving = "./prove" if named == "mote" else f"./prove {named}"
 
     def tell(self, text: str) -> None:
-        print(f"{self.name}: {text}", file=sys.stderr, flush=True)
+        """Prints a line on standard error. Where that is closed or full, the program runs all the same."""
+        try:
+            os.write(2, f"{self.name}: {text}\n".encode("utf-8", "backslashreplace"))
+        except OSError:
+            pass
 
     def give_up(self, why: str, status: int = 125) -> NoReturn:
         """Ends with a status that the program never has, since it did not run to its end."""

@@ -167,7 +167,9 @@ def main() -> int:
     ctypes.CDLL(None).prctl(PR_SET_PDEATHSIG, signal.SIGTERM)
 
     def tell(text: str) -> None:
-        print(f"unproved: {text}", file=sys.stderr, flush=True)
+        # Where standard error is closed or full, it is built all the same.
+        with contextlib.suppress(OSError):
+            os.write(2, f"unproved: {text}\n".encode("utf-8", "backslashreplace"))
 
     def begin() -> None:
         if not has_rt():

@@ -123,6 +123,16 @@ def test_full_disk(tree: Tree) -> None:
     assert [it.name for it in stored(tree)] == ["lock"] and tree.runs_unproved()
 
 
+@pytest.mark.parametrize("stderr", ["2>&-", "2>/dev/full"])
+def test_standard_error_that_fails(tree: Tree, stderr: str) -> None:
+    """Where standard error is closed or full all is built and runs, and standard output has nothing else."""
+    library = tree.crate("toarmuts") / "out/unproved/libtoarmuts.a"
+    for command, status, stdout in (("./mote a", 0, "words a\n"), ("scripts/unproved.py toarmuts", 0, f"{library}\n"),
+                                    ("./prove", 0, ""), ("./mote a", 3, "proved a\n")):
+        tree.shell(f"{command} </dev/null {stderr}")
+        assert (tree.ran.returncode, tree.stdout) == (status, stdout), command
+
+
 def test_library(tree: Tree) -> None:
     """The library for C has the exported functions. They are called once, so that none is left out."""
     text = 'pub mod more;\npub extern "C" fn one(\n    a: &[u8],\n    b: u32,\n) {}\n'
