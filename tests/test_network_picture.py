@@ -616,6 +616,14 @@ def test_the_command(command: Path, tmp_path: Path) -> None:
     assert (ran.returncode, ran.stdout) == (3, b"network_picture input --pcap\n= 3\n")
 
 
+def test_the_command_without_a_transcript(network_picture: Path) -> None:
+    """Standard input that can't be read is reported, and no chart of the script alone is drawn."""
+    assert network_picture.exists()
+    for redirection in ("<&-", "</"):
+        ran = with_stream(redirection, ROOT / "network-picture", THREE)
+        assert (ran.returncode, ran.stdout, ran.stderr.splitlines()[-1:]) == (5, b"", [b"network_picture: read failed"])
+
+
 def test_the_command_without_its_script(command: Path, tmp_path: Path) -> None:
     """A file that can't be read is reported, and nothing is run."""
     ran = run(command, tmp_path / "none.net")
