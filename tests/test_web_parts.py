@@ -10,7 +10,7 @@ from devtools import Browser, Page
 from tools import ROOT
 from web_page import in_chromium
 
-PARTS = ("bytes", "calls", "experiment", "network", "explain", "folding", "outcome", "link")
+PARTS = ("bytes", "calls", "experiment", "network", "explain", "folding", "outcome", "link", "runner")
 
 
 @pytest.fixture(scope="module")
@@ -251,3 +251,29 @@ def test_values(parts: Page) -> None:
         return JSON.stringify(found);""")
     wrong = [f"{expression}: {it!r}, not {wanted!r}" for (expression, wanted), it in zip(VALUES, json.loads(told)) if it != wanted]
     assert len(json.loads(told)) == len(VALUES) and not wrong, "\n".join(wrong)
+
+
+# What the worker's own script takes: the first library finds no memory, and a program that gets no input fails without a word.
+STAND_INS = """class OutOfMemory extends Error {}
+let made = 0;
+class Library { constructor() { if (++made === 1) throw new RangeError("no memory"); } }
+class Program { run(words, input) { if (input === null) throw new Error(""); return { status: 0, output: input }; } }
+"""
+
+
+@in_chromium
+def test_worker_that_fails(parts: Page) -> None:
+    """A task that fails says so and leaves the next ones a worker; one that never begins, or that its browser refuses, fails each task."""
+    source = "".join((ROOT / f"web/js/{name}.js").read_text(encoding="utf-8") for name in ("bytes", "worker"))
+    told = parts.ask(f"""
+        const phases = [], show = (phase) => phases.push(phase), given = {{ mote: {{ names: [], options: [] }}, options: [] }};
+        const ask = (runner, input) => runner.ask("picture", {{ ...given, transcript: input && utf8.encode(input) }})
+          .then(({{ svg }}) => `drawn ${{svg}}`, ({{ message }}) => `failed ${{message}}`);
+        const runner = new Runner({{ most: 1 }}, {json.dumps(STAND_INS + source)}, show), found = [];
+        for (const input of ["a", "b", null, "c"]) found.push(await ask(runner, input));
+        const broken = new Runner({{}}, "throw new Error('broken')", show);
+        for (const input of ["a", "b"]) found.push(await ask(broken, input));
+        broken.stop();
+        return {{ found, isBusy: runner.isBusy || broken.isBusy, last: phases.at(-1) }};""")
+    broken = "failed The page's worker failed: Uncaught Error: broken."
+    assert told == {"found": ["failed The mote ran out of memory.", "drawn b", "failed ", "drawn c", broken, broken], "isBusy": False, "last": None}

@@ -51,10 +51,11 @@ class HandMote {
     else this.feed(feed);
   }
 
-  // The same mote without the last call or input.
+  // The same mote without the last call or input. Where it can't be made, this one stays open.
   undone() {
+    const made = new HandMote(this.library, this.sizes, this.processes, this.actions.slice(0, -1));
     this.close();
-    return new HandMote(this.library, this.sizes, this.processes, this.actions.slice(0, -1));
+    return made;
   }
 
   get clock() {

@@ -30,8 +30,14 @@ function showExample(place) {
   return showExperiment(experiment);
 }
 
+// Another tab may have forgotten it.
 function showKept() {
-  const { mote, network, isNetwork: isOfMany } = kept.read();
+  const work = kept.read();
+  if (work === null) {
+    kept.tell();
+    return showExample(0);
+  }
+  const { mote, network, isNetwork: isOfMany } = work;
   introduce("", KEPT_SHOWN);
   fillFields(mote);
   fillFields(network);

@@ -5,13 +5,15 @@ class Runner {
   // `modules` are compiled; `source` is the worker's script; `show` is called with a phase, or null at the end of a task.
   constructor(modules, source, show) {
     const address = URL.createObjectURL(new Blob([source], { type: "text/javascript" }));
-    Object.assign(this, { modules, show, address, waiting: new Map(), tasks: 0 });
+    Object.assign(this, { modules, show, address, worker: null, waiting: new Map(), tasks: 0 });
     this.start();
   }
 
   start() {
     this.worker = new Worker(this.address);
     this.worker.onmessage = ({ data }) => this.take(data);
+    // A browser that refuses the worker has no message.
+    this.worker.onerror = ({ message }) => this.end(new Error(`The page's worker failed: ${message ?? "this browser refuses it"}.`));
     this.worker.postMessage({ modules: this.modules });
   }
 
@@ -23,7 +25,7 @@ class Runner {
     const { resolve, reject } = this.waiting.get(id);
     this.waiting.delete(id);
     if (this.waiting.size === 0) this.show(null);
-    if (failed) reject(new Error(failed));
+    if (failed !== undefined) reject(new Error(failed));
     else resolve(done);
   }
 
@@ -31,6 +33,7 @@ class Runner {
   ask(task, given) {
     const id = ++this.tasks;
     this.show("Starting");
+    if (this.worker === null) this.start();
     return new Promise((resolve, reject) => {
       this.waiting.set(id, { resolve, reject });
       this.worker.postMessage({ id, task, ...given });
@@ -42,11 +45,17 @@ class Runner {
   }
 
   stop() {
-    this.worker.terminate();
+    this.end(new Stopped());
+    this.start();
+  }
+
+  // Ends the worker, and rejects what waits for it. The next task starts another one.
+  end(why) {
+    this.worker?.terminate();
+    this.worker = null;
     const waiting = [...this.waiting.values()];
     this.waiting.clear();
     this.show(null);
-    this.start();
-    for (const { reject } of waiting) reject(new Stopped());
+    for (const { reject } of waiting) reject(why);
   }
 }

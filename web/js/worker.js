@@ -4,12 +4,12 @@ const MOST_UNFOLDED = 20000;
 // The number of motes of a network whose lines are put into words; those of others are shown as they are.
 const MOST_MOTES_IN_WORDS = 256;
 let modules = null;
+// null: they are made for the next task.
 let tools = null;
 
-// New instances: after a trap, nothing is known of the old ones.
 function makeTools() {
   const { library, most } = modules, program = (module, name) => new Program(modules[module], name, most);
-  tools = {
+  return {
     library: new Library(library, most), picture: program("picture", "mote_picture"), scenario: program("scenario", "scenario"),
     network: program("network", "network"), chart: program("picture", "network_picture"),
   };
@@ -104,14 +104,15 @@ const TASKS = {
 onmessage = ({ data }) => {
   if (data.modules) {
     modules = data.modules;
-    makeTools();
     return;
   }
   const { id } = data;
   try {
+    tools ??= makeTools();
     postMessage({ id, done: TASKS[data.task](data, (phase) => postMessage({ id, phase })) });
   } catch (error) {
-    makeTools();
+    // After a trap nothing is known of the instances.
+    tools = null;
     const isMemory = error instanceof OutOfMemory || error instanceof RangeError;
     postMessage({ id, failed: isMemory ? "The mote ran out of memory." : String(error.message) });
   }
