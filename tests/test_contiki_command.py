@@ -15,11 +15,12 @@ import pytest
 
 from contiki_programs import BLINKER, HELLO, SOURCES, Contiki, messages, outcome, program_of, script_of, transcript_of, write_source
 from test_contiki_refused import NO_PROGRAM
-from tools import EXAMPLES, ROOT, Completed, Word, needs, output_of, run, without, write_program
+from tools import EXAMPLES, ROOT, Completed, Word, needs, output_of, run, with_stream, without, write_program
 
 # Lines of comments that leave room for 7 bytes of the 16,777,216 of a script, which a line end precedes.
 COMMENTS = (b"#" * 1023 + b"\n") * 16_383 + b"#" * 1017
 SCRIPT = BLINKER.with_suffix(".script")
+HOUSE = ("beacon.c", "listener.c")
 FAULTS = SOURCES / "faults"
 ROOT_OF_NINE = "#include <math.h>\n" + program_of('static volatile double nine = 9; printf("%d\\n", (int)sqrt(nine));')
 ANNOTATED = "#define LOG_LEVEL 0\n" + program_of('LOG_ANNOTATE("#L %d\\n", 5); printf("end\\n");')
@@ -51,7 +52,9 @@ def check(ran: Completed, case: Case) -> None:
 
 @pytest.mark.parametrize("case", [
     refused([BLINKER, "--mmem"], "--mmem needs an argument"),
-    refused([BLINKER, "--clock-second", "0"], "--clock-second needs a number of at least 1"),
+    *(refused([BLINKER, "--clock-second", second], "--clock-second needs a number from 1 to 999999999") for second in ("0", "1000000000")),
+    *(refused([BLINKER, f"{option}="], f"{option} needs an argument")
+      for option in ("--network", "--only", "--record", "--replay", "--node", "--build", "--clock-second")),
     refused([BLINKER, "--cc", "none"], "there is no compiler none", 69),
     refused([BLINKER, "--library", "/none"], "/none has no libtoarmuts.a with toarmuts.h", 69),
     refused(["--mmem", "5", BLINKER], "bad sizes"),
@@ -65,6 +68,13 @@ def check(ran: Completed, case: Case) -> None:
     refused(["--test", "--picture", BLINKER], "--picture draws the whole transcript: leave out --test"),
     *(refused([*option, *option, BLINKER], f"{option[0]} is given twice")
       for option in (["--mmem", "64"], ["--quota", "8"], ["--quiet"], ["--text"])),
+    *(refused([option, "1", f"{option}=2", BLINKER], f"{option} is given twice")
+      for option in ("--clock-second", "--network", "--only", "--record", "--replay", "--node", "--build")),
+    refused(["--picture", "--gdb", BLINKER], "--picture and --gdb don't go together"),
+    refused(["--gdb", "--build", "x", BLINKER], "--gdb and --build don't go together"),
+    refused(["--build", "x", "-o", "y", BLINKER], "-o is for --board: --build has its own file"),
+    *(refused(["--build", place, BLINKER], f"--build {place}: no program can be written there") for place in ("/", "/none/x")),
+    Case(["--picture", "--picture", "--version"], out=f"contiki {(ROOT / 'VERSION').read_text(encoding='utf-8')}"),
     Case(["--version"], out=f"contiki {(ROOT / 'VERSION').read_text(encoding='utf-8')}"),
     Case(["--text", BLINKER], b"tick 128\ntick 128\n", out="LED on\nLED off\n"),
     Case(["--quiet", BLINKER], b"tick 128\n", out="4 event 136 0 -> print 4c4544206f6e0a\n"),
@@ -98,6 +108,39 @@ def test_arguments(contiki: Contiki, tmp_path: Path, case: Case) -> None:
 def test_help(contiki: Contiki, blinker: Path) -> None:
     for ran in contiki("--help"), run(blinker, "--text", "--mmem=64", "--heap=64", "--help"):
         assert (ran.returncode, ran.stdout[:5], ran.stderr) == (0, b"Runs ", b""), output_of(ran)
+
+
+@pytest.mark.parametrize("words", [[BLINKER], ["--network", EXAMPLES / "first/house.net", *map((EXAMPLES / "first").joinpath, HOUSE)]],
+                         ids=["mote", "network"])
+def test_streams_that_fail(contiki: Contiki, words: list[Word]) -> None:
+    """Standard input that is closed or a folder, and standard output that is closed or full."""
+    command = [ROOT / "contiki", "--library", contiki.library, *map(Path, map(str, words))]
+    for redirection, status, what in (("<&-", 5, "read"), ("</", 5, "read"), (">&-", 6, "write"), (">/dev/full", 6, "write")):
+        ran = with_stream(redirection, *command)
+        assert (ran.returncode, ran.stderr) == (status, f"contiki: {what} failed\n".encode()), output_of(ran)
+
+
+@pytest.mark.parametrize("word", ["--help", "--version"])
+def test_help_that_can_not_be_written(word: str) -> None:
+    for redirection in (">&-", ">/dev/full"):
+        ran = with_stream(redirection, ROOT / "contiki", word)
+        assert (ran.returncode, ran.stderr) == (6, b"contiki: write failed\n"), output_of(ran)
+
+
+def test_sources_of_a_record(contiki: Contiki, tmp_path: Path) -> None:
+    """A record names the sources that the program is made of, and the headers beside them, in folders of any name."""
+    def sources(name: str, text: str, header: str) -> bytes:
+        folder = tmp_path / name
+        folder.mkdir()
+        (folder / "own.h").write_text(header, encoding="utf-8")
+        source, record = write_source(folder, f'#include "own.h"\n{text}'), folder / "record"
+        assert contiki("--record", record, source).returncode == 0
+        return record.read_bytes().split()[4]
+
+    text = BLINKER.read_text(encoding="utf-8")
+    first = sources("plain", text, "")
+    assert sources("a blank, #, $HOME and $", text, "") == first
+    assert len({first, sources("another source", f"{text}\n", ""), sources("another header", text, "\n")}) == 3
 
 
 @pytest.mark.parametrize(("other", "why"), [
