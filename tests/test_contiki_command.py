@@ -20,7 +20,7 @@ from tools import EXAMPLES, ROOT, Completed, Word, needs, output_of, run, with_s
 # Lines of comments that leave room for 7 bytes of the 16,777,216 of a script, which a line end precedes.
 COMMENTS = (b"#" * 1023 + b"\n") * 16_383 + b"#" * 1017
 SCRIPT = BLINKER.with_suffix(".script")
-HOUSE = ("beacon.c", "listener.c")
+HOUSE = EXAMPLES / "first"
 FAULTS = SOURCES / "faults"
 ROOT_OF_NINE = "#include <math.h>\n" + program_of('static volatile double nine = 9; printf("%d\\n", (int)sqrt(nine));')
 ANNOTATED = "#define LOG_LEVEL 0\n" + program_of('LOG_ANNOTATE("#L %d\\n", 5); printf("end\\n");')
@@ -110,11 +110,11 @@ def test_help(contiki: Contiki, blinker: Path) -> None:
         assert (ran.returncode, ran.stdout[:5], ran.stderr) == (0, b"Runs ", b""), output_of(ran)
 
 
-@pytest.mark.parametrize("words", [[BLINKER], ["--network", EXAMPLES / "first/house.net", *map((EXAMPLES / "first").joinpath, HOUSE)]],
+@pytest.mark.parametrize("words", [[BLINKER], ["--network", HOUSE / "house.net", HOUSE / "beacon.c", HOUSE / "listener.c"]],
                          ids=["mote", "network"])
-def test_streams_that_fail(contiki: Contiki, words: list[Word]) -> None:
+def test_streams_that_fail(contiki: Contiki, words: list[str | Path]) -> None:
     """Standard input that is closed or a folder, and standard output that is closed or full."""
-    command = [ROOT / "contiki", "--library", contiki.library, *map(Path, map(str, words))]
+    command = [ROOT / "contiki", "--library", contiki.library, *words]
     for redirection, status, what in (("<&-", 5, "read"), ("</", 5, "read"), (">&-", 6, "write"), (">/dev/full", 6, "write")):
         ran = with_stream(redirection, *command)
         assert (ran.returncode, ran.stderr) == (status, f"contiki: {what} failed\n".encode()), output_of(ran)

@@ -276,4 +276,5 @@ def test_worker_that_fails(parts: Page) -> None:
         broken.stop();
         return {{ found, isBusy: runner.isBusy || broken.isBusy, last: phases.at(-1) }};""")
     broken = "failed The page's worker failed: Uncaught Error: broken."
-    assert told == {"found": ["failed The mote ran out of memory.", "drawn b", "failed ", "drawn c", broken, broken], "isBusy": False, "last": None}
+    found = ["failed The mote ran out of memory.", "drawn b", "failed ", "drawn c", broken, broken]
+    assert told == {"found": found, "isBusy": False, "last": None}
