@@ -114,7 +114,7 @@ def test_help(contiki: Contiki, blinker: Path) -> None:
                          ids=["mote", "network"])
 def test_streams_that_fail(contiki: Contiki, words: list[str | Path]) -> None:
     """Standard input that is closed or a folder, and standard output that is closed or full."""
-    command = [ROOT / "contiki", "--library", contiki.library, *words]
+    command: list[str | Path] = [ROOT / "contiki", "--library", contiki.library, *words]
     for redirection, status, what in (("<&-", 5, "read"), ("</", 5, "read"), (">&-", 6, "write"), (">/dev/full", 6, "write")):
         ran = with_stream(redirection, *command)
         assert (ran.returncode, ran.stderr) == (status, f"contiki: {what} failed\n".encode()), output_of(ran)
