@@ -172,6 +172,8 @@ WRONG = [
     (read("app hel\0lo\n"), BadScenario, "line 1: there is a byte 0 in the line"),
     (read("#\n app hello\n"), BadScenario, "line 2: the line begins with a space"),
     (read("app\thello\n"), BadScenario, "line 1: there is a tab in the line"),
+    (read("app hello\ntick  1\n"), BadScenario, "line 2: two spaces stand side by side"),
+    (read("app hello \n"), BadScenario, "line 1: the line ends with a space"),
     (read("calls wait,wait\n"), BadScenario, "line 1: there is no space after a comma"),
     (read("calls wait , wait\n"), BadScenario, "line 1: there is a space before a comma"),
     (read("calls wait, \n"), BadScenario, "line 1: there is no call after the last comma"),

@@ -99,9 +99,14 @@ def test_faults_have_files_of_their_own(tmp_path):
     # A module is looked for in the folder that the program is run in, wherever else Python looks.
     code = "import sys; from toarmuts.campaign import main; sys.path[0] = '/none'; sys.exit(main())"
     done = subprocess.run([sys.executable, "-c", code, *words], capture_output=True, text=True, check=False, cwd=tmp_path)
-    files = sorted(path.name for path in (tmp_path / "found").iterdir())
-    assert done.returncode == 1 and files == ["a-b-2.scenario", "a-b.scenario", "fault.scenario"], done.stderr
+    names = ["a-b-2.scenario", "a-b.scenario", "fault.scenario"]
+    assert done.returncode == 1 and sorted(os.listdir(tmp_path / "found")) == names, done.stderr
     assert "3 seeds, 27 runs, " in done.stdout and "3 faults" in done.stdout
+    # Where nothing can be printed, the files are there all the same.
+    with open("/dev/full", "wb") as full:
+        unprinted = subprocess.run([sys.executable, "-u", "-c", code, *words, "--found", "more"], stdout=full, stderr=subprocess.PIPE,
+                                   check=False, cwd=tmp_path)
+    assert unprinted.returncode == 2 and b"No space left" in unprinted.stderr and sorted(os.listdir(tmp_path / "more")) == names
 
 
 INTERRUPTED = """import os
@@ -362,6 +367,7 @@ def test_a_target_that_fails_itself_is_told(tmp_path, name, reason, jobs):
     ([f"{TARGET}:nobody"], "has no attribute 'nobody'"),
     ([f"{TARGET}:WORDS"], "is not a target: it has no draw(chance) and check(run)"),
     ([f"{TARGET}:Lists", "--seeds", "5:5"], "5:5 is not a range of seeds, as 0:100 is"),
+    ([f"{TARGET}:Lists", "--seeds", "0:9223372036854775808"], "0:9223372036854775808 is not a range of seeds, as 0:100 is"),
     ([f"{TARGET}:Lists", "--jobs", "0"], "0 is not a positive number"),
     ([f"{TARGET}:Lists", "--count", "-1"], "-1"),
 ])

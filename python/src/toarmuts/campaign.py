@@ -499,7 +499,7 @@ def write_found(found: Found, folder: pathlib.Path, taken: set[str]) -> pathlib.
 
 def _seeds(word: str) -> range:
     found = re.fullmatch(r"(\d+):(\d+)", word)
-    if found is None or int(found[1]) >= int(found[2]):
+    if found is None or not int(found[1]) < int(found[2]) <= sys.maxsize:
         raise argparse.ArgumentTypeError(f"{word} is not a range of seeds, as 0:100 is")
     return range(int(found[1]), int(found[2]))
 
@@ -552,8 +552,9 @@ def _report(units: list[Unit], asked: argparse.Namespace, seconds: float) -> int
     """Prints what was found, and how fast; returns the status."""
     faults = smallest(units)
     taken: set[str] = set()
-    for found, seeds in faults:
-        place = write_found(found, asked.found, taken)
+    # All are stored before any is printed, which may fail.
+    places = [write_found(found, asked.found, taken) for found, _ in faults]
+    for (found, seeds), place in zip(faults, places):
         print(f"{found.fault}: found by {seeds} of {len(units)} seeds; the smallest, of seed {found.seed}: {place}")
     if asked.coverage:
         coverage = Coverage()

@@ -27,12 +27,13 @@ MOST_TEXT = 255
 BAD_SIZES = "bad sizes"
 _OF_TRANSCRIPT = re.compile(r"[0-9]|(?:>|note|halt|bad|too)(?: |\Z)")
 _ENDS = ("finished", "halted", "too long", BAD_SIZES)
-# What is hard to see in a malformed line, and what is wrong with the commas of a list.
+# What is hard to see in a malformed line, and what is wrong with its spaces and the commas of a list.
 _FLAWS = tuple((re.compile(form), words) for form, words in (
     ("\\A\ufeff", "the file begins with a byte order mark"), ("\0", "there is a byte 0 in the line"),
     (r"\r\Z", "the line ends with byte 13, as lines of Windows do"), (r"\A ", "the line begins with a space"),
     (r"\t", "there is a tab in the line"), (r"\A(?:calls|mote) .*,\s*\Z", "there is no call after the last comma"),
-    (r"\A(?:calls|mote) .* ,", "there is a space before a comma"), (r"\A(?:calls|mote) .*,[^ ]", "there is no space after a comma")))
+    (r"\A(?:calls|mote) .* ,", "there is a space before a comma"), (r"\A(?:calls|mote) .*,[^ ]", "there is no space after a comma"),
+    ("  ", "two spaces stand side by side"), (r" \Z", "the line ends with a space")))
 # Rows, gaps, names of events and texts in quotes, where only `./scenario` has them.
 _OF_PROGRAM = re.compile(r'(?:rows|on .*|\.\.\.)\Z|(?:calls|mote|serial|frame|[0-9]+|>|times [0-9]+) .*"'
                          r"|[0-9]+ (?:[0-9]+ )?(?:synch|event) [A-Z]")
