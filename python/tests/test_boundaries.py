@@ -9,7 +9,12 @@ from toarmuts import BadInput, Options, Script, Transcript
 from toarmuts.coverage import Cell, Coverage
 from toarmuts.difference import first_difference
 from toarmuts.errors import NotReached
+from toarmuts.library import MOST_ROOM_KEPT
 from toarmuts.links import Loss, disk_links, graph_links
+from toarmuts.network_transcript import Frame
+from toarmuts.pcap import packets
+from toarmuts.rooms import Room
+from toarmuts.script import has_form
 from toarmuts.shrinking import make_case, shrink
 from toarmuts.until import advance_until
 from toarmuts.words import bytes_words
@@ -102,3 +107,33 @@ def test_a_quota_of_none() -> None:
 def test_flags_in_coverage(flag: str, counts: tuple[int, int]) -> None:
     coverage = Coverage().add(Transcript(f"4 synch 129 - -> is-running 4\n4 answer flag {flag} -> wait\n"))
     assert (coverage[Cell("is-running", "true")], coverage[Cell("is-running", "false")]) == counts
+
+
+@pytest.mark.parametrize(("word", "most"), [("serial", 256), ("frame", 127)])
+def test_longest_inputs(word: str, most: int) -> None:
+    assert [has_form(f"{word} {'0a' * count}") for count in (0, 1, most, most + 1)] == [False, True, True, False]
+
+
+def test_longest_comment() -> None:
+    assert [has_form("#" * count) for count in (1024, 1025)] == [True, False]
+
+
+def test_fraction_of_a_second() -> None:
+    """It is cut off: two thirds of a second are 666,666,666 nanoseconds."""
+    assert int.from_bytes(packets([Frame(5, 1, b"x")], 3)[24:28], "little") == 1
+    assert int.from_bytes(packets([Frame(5, 1, b"x")], 3)[28:32], "little") == 666_666_666
+
+
+def test_room_that_is_kept() -> None:
+    """A thread keeps room for its next run, and none that is larger than that."""
+    class OfBytes(Room):
+        def allocate(self, size: int) -> bytearray:
+            return bytearray(size)
+
+    sizes = []
+    for size in (1, MOST_ROOM_KEPT, MOST_ROOM_KEPT + 1):
+        room = OfBytes()
+        room.make(size)
+        room.shrink()
+        sizes.append((room.size, len(room.transcript or b"")))
+    assert sizes == [(1, 1), (MOST_ROOM_KEPT, MOST_ROOM_KEPT), (0, 0)]
