@@ -116,6 +116,20 @@ def test_killed(tree: Tree, script: str) -> None:
     assert sorted(it.name for it in stored(tree)) == ["lock", "mote", "sources"]
 
 
+def test_kept_elsewhere(tree: Tree) -> None:
+    """What is in the folder for temporary files runs where its folder is this user's own, and none that leads elsewhere."""
+    assert tree.runs_unproved() and builds(tree) == 1
+    kept = tree.room / "temporary" / f"unproved-{os.getuid()}{tree.root}-mote".replace("/", "-")
+    kept.parent.mkdir()
+    shutil.move(tree.crate("mote") / "out/unproved", kept)
+    tree.run("mote", TMPDIR=str(kept.parent))
+    assert tree.is_unproved() and builds(tree) == 1
+    kept.rename(tree.room / "planted")
+    kept.symlink_to(tree.room / "planted")
+    tree.run("mote", TMPDIR=str(kept.parent))
+    assert tree.is_unproved() and builds(tree) == 2
+
+
 def test_full_disk(tree: Tree) -> None:
     """A limit of each file's size has the same effect. The reason is reported, and nothing is left."""
     tree.shell("ulimit -f 64; ./mote")

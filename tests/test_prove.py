@@ -9,6 +9,7 @@ import signal
 import subprocess
 import threading
 import time
+from pathlib import Path
 
 import pytest
 
@@ -78,6 +79,14 @@ def test_most_jobs(monkeypatch: pytest.MonkeyPatch, wish: str, memory: int, jobs
     """RT_JOBS, or a job for each processor that has so much memory; at least one."""
     monkeypatch.setenv("RT_JOBS", wish)
     assert most_jobs(memory) == (jobs if jobs is not None else len(os.sched_getaffinity(0)))
+
+
+def test_jobs_that_memory_allows(monkeypatch: pytest.MonkeyPatch) -> None:
+    """With eight processors and 700 kB that are free."""
+    monkeypatch.delenv("RT_JOBS", raising=False)
+    monkeypatch.setattr(os, "sched_getaffinity", lambda _: set(range(8)))
+    monkeypatch.setattr(Path, "read_text", lambda *_, **__: "MemTotal: 9000 kB\nMemAvailable:   700 kB\n")
+    assert [most_jobs(memory) for memory in (50, 100, 350, 351, 701)] == [8, 7, 2, 1, 1]
 
 
 def test_what_is_under_way_is_told(tree: Tree) -> None:
@@ -241,6 +250,14 @@ def is_current(tree: Tree, *names: str) -> bool:
     return tree.run("prove", "--is-current", *names).returncode == 0
 
 
+def test_product_without_its_mark(proved_tree: Tree) -> None:
+    """What has no mark, as while it is replaced, isn't current, and no fault."""
+    assert is_current(proved_tree, "mote")
+    for name in ("proved", "mote"):
+        (proved_tree.crate("mote") / "out" / name).unlink()
+        assert not is_current(proved_tree, "mote") and (proved_tree.ran.returncode, proved_tree.stderr) == (1, "")
+
+
 def test_other_programs(tree: Tree) -> None:
     assert tree.run("prove", "scenario").returncode == 0 and tree.begun() == ["low", "scenario"] and tree.is_clean()
     tree.run("scenario", "--write", "a.runs")
@@ -264,6 +281,12 @@ def test_no_such_program(tree: Tree, word: str) -> None:
 def test_no_such_pause(tree: Tree, pause: str) -> None:
     tree.run("prove", f"--tell={pause}")
     assert tree.ran.returncode == 2 and f"prove: error: argument --tell: invalid seconds value: '{pause}'" in tree.stderr
+
+
+@pytest.mark.parametrize(("pause", "is_one"), [("0.09", False), ("0.1", True), ("86400", True), ("86401", False)])
+def test_shortest_and_longest_pause(tree: Tree, pause: str, is_one: bool) -> None:
+    tree.run("prove", f"--tell={pause}", "--is-current")
+    assert tree.ran.returncode == (1 if is_one else 2)
 
 
 def test_libraries(tree: Tree) -> None:

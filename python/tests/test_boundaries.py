@@ -8,7 +8,7 @@ import pytest
 from toarmuts import BadInput, Options, Script, Transcript
 from toarmuts.coverage import Cell, Coverage
 from toarmuts.difference import first_difference
-from toarmuts.errors import NotReached
+from toarmuts.errors import NotReached, cut
 from toarmuts.library import MOST_ROOM_KEPT
 from toarmuts.links import Loss, disk_links, graph_links
 from toarmuts.network_transcript import Frame
@@ -116,6 +116,10 @@ def test_longest_inputs(word: str, most: int) -> None:
 
 def test_longest_comment() -> None:
     assert [has_form("#" * count) for count in (1024, 1025)] == [True, False]
+
+
+def test_longest_text_of_a_message() -> None:
+    assert [cut("x" * count) for count in (500, 501)] == ["x" * 500, f"{'x' * 500}.. (501 characters)"]
 
 
 def test_fraction_of_a_second() -> None:

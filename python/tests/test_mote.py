@@ -540,6 +540,9 @@ def test_tables_and_objects_are_applications():
 def test_a_table_has_a_row_for_callbacks_and_none_for_other_events():
     table = Table({EventCode.INIT: [CallbackSet(0, 5), Print(b"a"), Print(b"b")], "callback": [Print(b"c"), CallbackSet(0, 5)]})
     assert toarmuts.run([table], "tick 5\nserial 0a\ntick 5\n").printed() == b"abcc"
+    # What is left of a row goes where another one begins.
+    table = Table({EventCode.INIT: [CallbackSet(0, 5), Wait(), Print(b"left")], "callback": [Print(b"c")]})
+    assert toarmuts.run([table], "tick 5\n").printed() == b"c"
     # It ends within a row; when it is started again it is told INIT, for which it has none.
     table = Table({EventCode.SERIAL_LINE: [Exit(), Print(b"never")]})
     run = toarmuts.run([table, "calls wait, wait, wait, start 4"], "serial 0a\nserial 0a\n")
