@@ -111,7 +111,7 @@ def test_full_disk(proved_tree: Tree, is_at_end: bool) -> None:
         tree.program.with_name("mote.new").symlink_to("/dev/full")
     assert tree.run("prove", FAILS="" if is_at_end else "mote").returncode == 1
     assert is_at_end or "no space left on device" in tree.stderr and "prove: mote isn't proved and built" in tree.stderr
-    assert tree.program.read_bytes() == before and tree.is_clean()
+    assert tree.program.read_bytes() == before and tree.is_clean() and not list(tree.program.parent.glob("*.new"))
     tree.take_back("high")
     assert tree.runs_proved()
 

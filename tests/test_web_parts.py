@@ -209,8 +209,8 @@ VALUES: list[tuple[str, Any]] = [
     ("foldedRows([...'abcdeabcdeabcde']).map(({ count }) => count)", [1, 1, 1, 1, 1, 10]),
     ("foldedRows([...'abcdeabcdeabcd']).length", 14),
     # The report of a run.
-    ("[0.04, 9.96, 10.2, 999.4, 999.6, 1000, 61240].map(milliseconds)",
-     ["0.0 ms", "10.0 ms", "10 ms", "999 ms", "1.0 s", "1.0 s", "61.2 s"]),
+    ("[0.04, 9.96, 10, 10.2, 999.4, 999.5, 999.6, 1000, 61240].map(milliseconds)",
+     ["0.0 ms", "10.0 ms", "10 ms", "10 ms", "999 ms", "1.0 s", "1.0 s", "1.0 s", "61.2 s"]),
     ("outcomeInWords({ end: { name: 'HALTED' }, lines: ['a'], took: 5, rows: null })", "The mote halted: 1 line in 5.0 ms."),
     ("outcomeInWords({ end: { name: 'FINISHED' }, lines: ['a', 'b'], took: 5, rows: [] })",
      "The script was run to its end: 2 lines in 5.0 ms, repeated lines folded."),
@@ -232,7 +232,9 @@ VALUES: list[tuple[str, Any]] = [
     ("await experimentOf(await linkOf({ network: 5 }))", "The link holds no experiment of this page."),
     ("(await linkOf({ network: 'a'.repeat(2 ** 25), quiet: true, only: null })).length < 100000", True),
     ("await experimentOf(await linkOf({ network: 'a'.repeat(2 ** 24), quiet: true, only: null }))", "The link holds more than 16 MB."),
-    ("(await experimentOf(await linkOf({ network: 'a'.repeat(2 ** 24 - 60), quiet: true, only: null }))).network.length", 2 ** 24 - 60),
+    # With 39 other bytes, 16 MB and no more.
+    ("(await experimentOf(await linkOf({ network: 'a'.repeat(2 ** 24 - 39), quiet: true, only: null }))).network.length", 2 ** 24 - 39),
+    ("await experimentOf(await linkOf({ network: 'a'.repeat(2 ** 24 - 38), quiet: true, only: null }))", "The link holds more than 16 MB."),
 ]
 
 
@@ -253,11 +255,17 @@ def test_values(parts: Page) -> None:
     assert len(json.loads(told)) == len(VALUES) and not wrong, "\n".join(wrong)
 
 
-# What the worker's own script takes: the first library finds no memory, and a program that gets no input fails without a word.
+# What the worker's own script takes: the first library finds no memory, and a program that gets no input fails without a word. The others
+# write which library they were made with.
 STAND_INS = """class OutOfMemory extends Error {}
 let made = 0;
 class Library { constructor() { if (++made === 1) throw new RangeError("no memory"); } }
-class Program { run(words, input) { if (input === null) throw new Error(""); return { status: 0, output: input }; } }
+class Program {
+  run(words, input) {
+    if (input === null) throw new Error("");
+    return { status: 0, output: utf8.encode(textOf(input) + made) };
+  }
+}
 """
 
 
@@ -270,11 +278,11 @@ def test_worker_that_fails(parts: Page) -> None:
         const ask = (runner, input) => runner.ask("picture", {{ ...given, transcript: input && utf8.encode(input) }})
           .then(({{ svg }}) => `drawn ${{svg}}`, ({{ message }}) => `failed ${{message}}`);
         const runner = new Runner({{ most: 1 }}, {json.dumps(STAND_INS + source)}, show), found = [];
-        for (const input of ["a", "b", null, "c"]) found.push(await ask(runner, input));
+        for (const input of ["a", "b", "b", null, "c"]) found.push(await ask(runner, input));
         const broken = new Runner({{}}, "throw new Error('broken')", show);
         for (const input of ["a", "b"]) found.push(await ask(broken, input));
         broken.stop();
         return {{ found, isBusy: runner.isBusy || broken.isBusy, last: phases.at(-1) }};""")
     broken = "failed The page's worker failed: Uncaught Error: broken."
-    found = ["failed The mote ran out of memory.", "drawn b", "failed ", "drawn c", broken, broken]
+    found = ["failed The mote ran out of memory.", "drawn b2", "drawn b2", "failed ", "drawn c3", broken, broken]
     assert told == {"found": found, "isBusy": False, "last": None}
