@@ -5,13 +5,14 @@ the rules of docs/network.md.
 """
 
 import os
+import shutil
 from pathlib import Path
 
 import pytest
 
 from stored_cases import StoredCase, stored_cases
 from test_faults import SMALL_NETWORK
-from tools import EXAMPLES, ROOT, cases, output_of, program, run, succeed
+from tools import EXAMPLES, ROOT, cases, output_of, program, run, succeed, write_program
 from tools import with_stream as with_stream
 
 SAMPLES = sorted((EXAMPLES / "networks").glob("*.net"))
@@ -256,6 +257,17 @@ def test_command_takes_a_file(network: Path, words: tuple[str, ...]) -> None:
     script = b"" if THREE in words else Path(THREE).read_bytes()
     shown = run(network, "--only", "3", stdin=Path(THREE).read_bytes()).stdout
     assert shown and run(ROOT / "network", *words, stdin=script).stdout == shown
+
+
+def test_words_of_the_command(tmp_path: Path) -> None:
+    """The first word that is no option and not after --only is the script, also where a file has the number's name."""
+    write_program(tmp_path / "scripts/launch", '#!/bin/sh\necho "$@"\ncat\n')
+    for name in ("3", "a b"):
+        (tmp_path / name).write_text(f"script {name}\n", encoding="utf-8")
+    command = shutil.copy2(ROOT / "network", tmp_path)
+    for words, told in ((("--only", "3"), "--only 3\nstdin\n"), (("--only", "3", "a b", "--quiet"), "--only 3 --quiet\nscript a b\n"),
+                        (("--only=3", "3", "a b"), "--only=3 a b\nscript 3\n"), (("--", "3"), "--\nscript 3\n")):
+        assert run(command, *words, stdin=b"stdin\n", cwd=tmp_path).stdout.decode() == f"network input {told}"
 
 
 @pytest.mark.parametrize("word", ["no such file", str(EXAMPLES)], ids=["no file", "a folder"])

@@ -609,9 +609,9 @@ def test_the_command(command: Path, tmp_path: Path) -> None:
     """A word that is no option is the script, whose lines go first; its last line may have no end."""
     script = tmp_path / "a script"
     script.write_bytes(b"mote 1 relay")
-    ran = run(command, "--from", "3", "--clock-second", "8", script, "--pcap", stdin=b"= 3\n")
+    ran = run(command, "--from", "3", "--to", "7", "--clock-second", "8", script, "--pcap", stdin=b"= 3\n")
     assert (ran.returncode, ran.stderr) == (3, b"")
-    assert ran.stdout == b"network_picture input --from 3 --clock-second 8 --pcap\nmote 1 relay\n= 3\n"
+    assert ran.stdout == b"network_picture input --from 3 --to 7 --clock-second 8 --pcap\nmote 1 relay\n= 3\n"
     ran = run(command, "--pcap", stdin=b"= 3\n")
     assert (ran.returncode, ran.stdout) == (3, b"network_picture input --pcap\n= 3\n")
 
