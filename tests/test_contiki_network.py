@@ -321,6 +321,10 @@ def test_refused_arguments(contiki: Contiki, tmp_path: Path, words: list[Word], 
     assert outcome(contiki(*(net if word == "{net}" else word for word in words))) == (status, "", f"contiki: {told_why}\n")
 
 
+def test_last_line_without_an_end(runner: Runner) -> None:
+    assert runner.text(f"mote 1 {HELLO.name}", [HELLO], "") == ["1 Hello, world"]
+
+
 def test_names_of_sources(runner: Runner, tmp_path: Path) -> None:
     """A word is a source's path or its last part; if two have this last part, it must be the path."""
     text = HELLO.read_text(encoding="utf-8")
