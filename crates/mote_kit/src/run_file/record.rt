@@ -1,31 +1,13 @@
 //! What a file says of a run, as JSON, so that other programs needn't parse the format.
 
+use crate::mote::Sizes;
 use crate::run_file::parts::Part;
 use crate::run_file::written_run::WrittenRun;
 use std::alloc::{AllocError, Global};
-use std::fmt;
+use std::fmt::Write;
 
-/// A text in JSON; null where there is none.
-#[derive(Clone, Copy, Drop)]
-struct Text<'a> {
-    text: Option<&'a str>,
-}
-
-impl fmt::Display for Text<'_> {
-    fn fmt<W: fmt::Write>(&self, f: &mut fmt::Formatter<W>) -> fmt::Result {
-        let Some(text) = self.text else {
-            return f.write_str("null");
-        };
-        f.write_char('"')?;
-        for c in text.chars() {
-            write_char(f, c)?;
-        }
-        f.write_char('"')
-    }
-}
-
-/// Writes a character of a text in JSON.
-fn write_char<W: fmt::Write>(f: &mut fmt::Formatter<W>, c: char) -> fmt::Result {
+/// Appends a character of a text in JSON.
+fn push_char(json: &mut String, c: char) -> Result<(), AllocError> {
     let text = match c {
         '"' => "\\\"",
         '\\' => "\\\\",
@@ -34,97 +16,111 @@ fn write_char<W: fmt::Write>(f: &mut fmt::Formatter<W>, c: char) -> fmt::Result 
         '\t' => "\\t",
         '\u{8}' => "\\b",
         '\u{c}' => "\\f",
-        '\0'..='\u{1f}' => return write!(f, "\\u{:04x}", u32::from(c)),
-        _ => return f.write_char(c),
+        '\0'..='\u{1f}' => {
+            return write!(json, "\\u{:04x}", u32::from(c)).or(Err(AllocError));
+        }
+        _ => return json.push(c),
     };
-    f.write_str(text)
+    json.push_str(text)
 }
 
-/// What a file says of a run.
-#[derive(Drop)]
-struct Record<'s, 'a> {
-    part: Part<'a>,
-    run: &'s WrittenRun<'a>,
-}
-
-impl fmt::Display for Record<'_, '_> {
-    /// An object of JSON.
-    fn fmt<W: fmt::Write>(&self, f: &mut fmt::Formatter<W>) -> fmt::Result {
-        let run = self.run;
-        f.write_str("{\"applications\":[")?;
-        self.write_applications(f)?;
-        let ends = Text { text: run.end() };
-        let file = Text {
-            text: Some(self.part.path),
-        };
-        let name = Text {
-            text: self.part.name,
-        };
-        let network = run.is_network();
-        let script = Text {
-            text: Some(run.script()),
-        };
-        let transcript = Text {
-            text: run.transcript_shown(),
-        };
-        write!(
-            f,
-            "],\"ends\":{ends},\"file\":{file},\"name\":{name},\"network\":{network}"
-        )?;
-        write!(
-            f,
-            ",\"script\":{script},\"transcript\":{transcript},\"words\":["
-        )?;
-        self.write_words(f)?;
-        f.write_str("]}")
+/// Appends a text in JSON; null where there is none.
+fn push_text(json: &mut String, text: Option<&str>) -> Result<(), AllocError> {
+    let Some(text) = text else {
+        return json.push_str("null");
+    };
+    json.push('"')?;
+    for c in text.chars() {
+        push_char(json, c)?;
     }
+    json.push('"')
 }
 
-impl Record<'_, '_> {
-    /// Writes the applications of the run, each as a list of its lines.
-    fn write_applications<W: fmt::Write>(&self, f: &mut fmt::Formatter<W>) -> fmt::Result {
-        let mut before = "";
-        for application in &self.run.applications {
-            f.write_str(before)?;
-            write_list(f, application.lines.as_slice())?;
-            before = ",";
-        }
-        Ok(())
+/// Appends texts, each after what is before it.
+fn push_texts(json: &mut String, texts: &[(&str, Option<&str>)]) -> Result<(), AllocError> {
+    for (before, text) in texts {
+        json.push_str(before)?;
+        push_text(json, *text)?;
     }
-
-    /// Writes the arguments of `mote` and `mote-picture` for the sizes of the run, and `--quiet`; for a network those of `network`.
-    fn write_words<W: fmt::Write>(&self, f: &mut fmt::Formatter<W>) -> fmt::Result {
-        let sizes = self.run.sizes();
-        if !self.run.is_network() {
-            write!(
-                f,
-                "\"--mmem\",\"{}\",\"--heap\",\"{}\",",
-                sizes.mmem, sizes.heap
-            )?;
-            if let Some(quota) = sizes.quota {
-                write!(f, "\"--quota\",\"{quota}\",")?;
-            }
-            write!(f, "\"--header\",\"{}\"", sizes.header)?;
-        }
-        match (self.run.is_quiet(), self.run.is_network()) {
-            (true, true) => f.write_str("\"--quiet\""),
-            (true, false) => f.write_str(",\"--quiet\""),
-            (false, _) => Ok(()),
-        }
-    }
+    Ok(())
 }
 
-/// Writes texts as a list.
-fn write_list<W: fmt::Write>(f: &mut fmt::Formatter<W>, texts: &[&str]) -> fmt::Result {
+/// Appends texts as a list.
+fn push_list(json: &mut String, texts: &[&str]) -> Result<(), AllocError> {
     let mut before = "[";
     for text in texts {
-        write!(f, "{before}{}", Text { text: Some(*text) })?;
+        json.push_str(before)?;
+        push_text(json, Some(*text))?;
         before = ",";
     }
-    f.write_str("]")
+    json.push_str("]")
+}
+
+/// Appends the applications of a run, each as a list of its lines.
+fn push_applications(json: &mut String, run: &WrittenRun<'_>) -> Result<(), AllocError> {
+    let mut before = "";
+    for application in &run.applications {
+        json.push_str(before)?;
+        push_list(json, application.lines.as_slice())?;
+        before = ",";
+    }
+    Ok(())
+}
+
+/// Appends the arguments of `mote` and `mote-picture` for these sizes.
+fn push_sizes(json: &mut String, sizes: Sizes) -> Result<(), AllocError> {
+    for (before, size) in [
+        ("\"--mmem\",\"", Some(sizes.mmem)),
+        ("\",\"--heap\",\"", Some(sizes.heap)),
+        ("\",\"--quota\",\"", sizes.quota),
+        ("\",\"--header\",\"", Some(sizes.header)),
+    ] {
+        if let Some(size) = size {
+            write!(json, "{before}{size}").or(Err(AllocError))?;
+        }
+    }
+    json.push('"')
+}
+
+/// Appends the arguments of `mote` and `mote-picture` for a run, or for a network those of `network`.
+fn push_words(json: &mut String, run: &WrittenRun<'_>) -> Result<(), AllocError> {
+    if !run.is_network() {
+        push_sizes(json, run.sizes())?;
+    }
+    json.push_str(match (run.is_quiet(), run.is_network()) {
+        (true, true) => "\"--quiet\"",
+        (true, false) => ",\"--quiet\"",
+        (false, _) => "",
+    })
+}
+
+/// Appends what a file says of a run, as an object of JSON.
+fn push_record(json: &mut String, part: Part<'_>, run: &WrittenRun<'_>) -> Result<(), AllocError> {
+    let before_script = if run.is_network() {
+        ",\"network\":true,\"script\":"
+    } else {
+        ",\"network\":false,\"script\":"
+    };
+    json.push_str("{\"applications\":[")?;
+    push_applications(json, run)?;
+    push_texts(
+        json,
+        &[
+            ("],\"ends\":", run.end()),
+            (",\"file\":", Some(part.path)),
+            (",\"name\":", part.name),
+            (before_script, Some(run.script())),
+            (",\"transcript\":", run.transcript_shown()),
+        ],
+    )?;
+    json.push_str(",\"words\":[")?;
+    push_words(json, run)?;
+    json.push_str("]}")
 }
 
 /// What a file says of the run of one of its parts, as a line of JSON without its end.
 pub fn json_of(alloc: Global, part: Part<'_>, run: &WrittenRun<'_>) -> Result<String, AllocError> {
-    Record { part, run }.to_string(alloc)
+    let mut json = String::new(alloc);
+    push_record(&mut json, part, run)?;
+    Ok(json)
 }

@@ -26,7 +26,7 @@ fn event_number(name: &str) -> Option<u8> {
 
 /// Whether names and quotes may be in a line, apart from `times` and a number before it.
 fn may_have(line: &str) -> bool {
-    let word = line.split(' ').next().unwrap_or("");
+    let (word, _) = line.split_once(' ').unwrap_or((line, ""));
     matches!(
         word,
         "calls" | "on" | "mote" | "serial" | "frame" | ">" | "note"
