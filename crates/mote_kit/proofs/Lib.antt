@@ -1,3 +1,4 @@
 mod Examples
 mod Fitting
+mod Joined
 mod WholeScript

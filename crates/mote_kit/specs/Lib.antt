@@ -1,4 +1,9 @@
+pub mod Changes
+pub mod Faults
 pub mod Gaps
+pub mod NewLines
 pub mod Outcomes
+pub mod Parts
+pub mod Unread
 -- The code's invariants.
 pub mod Code

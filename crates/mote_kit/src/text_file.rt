@@ -1,5 +1,8 @@
 //! Files of text, which are read and replaced as a whole.
 
+ghost use Rattle.std.specs.Prelude.{IfErr};
+ghost use Rattle.mote_kit.specs.Faults.{IsOfReading, IsOfWriting};
+
 use crate::run_file::line_at;
 use std::fs::{File, OpenFile};
 use std::io::Write;
@@ -41,7 +44,9 @@ impl fmt::Display for TextFault {
 }
 
 /// Why a file can't be read.
-fn read_fault(kind: io::ErrorKind) -> TextFault {
+fn read_fault(kind: io::ErrorKind) -> TextFault
+    ensures { IsOfReading result }
+{
     match kind {
         io::ErrorKind::OutOfMemory => TextFault::OutOfMemory,
         io::ErrorKind::NotFound => TextFault::NoFile,
@@ -51,7 +56,9 @@ fn read_fault(kind: io::ErrorKind) -> TextFault {
 }
 
 /// Why a file can't be replaced.
-fn write_fault(kind: io::ErrorKind) -> TextFault {
+fn write_fault(kind: io::ErrorKind) -> TextFault
+    ensures { IsOfWriting result }
+{
     match kind {
         io::ErrorKind::OutOfMemory => TextFault::OutOfMemory,
         io::ErrorKind::PermissionDenied => TextFault::ReadOnly,
@@ -65,7 +72,9 @@ fn write_fault(kind: io::ErrorKind) -> TextFault {
 /// # Errors
 ///
 /// Where it can't be read, and where it isn't UTF-8.
-pub fn read_text<R: AllocGlobal + Files>(rt: &R, path: &str) -> Result<String, TextFault> {
+pub fn read_text<R: AllocGlobal + Files>(rt: &R, path: &str) -> Result<String, TextFault>
+    ensures { IfErr result IsOfReading }
+{
     let bytes = match fs::read(rt, path) {
         Ok(bytes) => bytes,
         Err(error) => return Err(read_fault(error.kind())),
@@ -84,11 +93,9 @@ pub fn read_text<R: AllocGlobal + Files>(rt: &R, path: &str) -> Result<String, T
 /// # Errors
 ///
 /// Where that fails. The file is then as it was.
-pub fn replace_text<R: AllocGlobal + Files>(
-    rt: &R,
-    path: &str,
-    text: &str,
-) -> Result<(), TextFault> {
+pub fn replace_text<R: AllocGlobal + Files>(rt: &R, path: &str, text: &str) -> Result<(), TextFault>
+    ensures { IfErr result IsOfWriting }
+{
     match replace(rt, path, text) {
         Ok(()) => Ok(()),
         Err(error) => Err(write_fault(error.kind())),

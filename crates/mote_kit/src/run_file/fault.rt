@@ -2,6 +2,7 @@
 
 ghost use Rattle.std.specs.Prelude.{◌≡◌, ◌≤◌, Some, IfOk};
 ghost use Rattle.mote_text.specs.Script.{read_number};
+ghost use Rattle.mote_kit.specs.Faults.{may_be_mistyped};
 
 use mote_text::script::read_number;
 use std::alloc::{AllocError, AllocFailed};
@@ -65,7 +66,9 @@ pub enum Fault<'a> {
 
 impl Fault<'_> {
     /// Whether a word is at fault that a typing mistake may have spoilt.
-    pub fn is_of_words(&self) -> bool {
+    pub fn is_of_words(&self) -> bool
+        ensures { result ≡ may_be_mistyped self.now }
+    {
         match self {
             Fault::Word(fault, _) => !matches!(
                 fault,
@@ -99,12 +102,20 @@ impl fmt::Display for Fault<'_> {
 }
 
 impl From<AllocError> for Fault<'_> {
+    ghost use Rattle.mote_kit.specs.declared.run_file.fault.Fault.{Fault};
+
+    ghost from_gives = { λ _ fault. fault ≡ Fault.OutOfMemory };
+
     fn from(_error: AllocError) -> Self {
         Fault::OutOfMemory
     }
 }
 
 impl<T: Drop> From<AllocFailed<T>> for Fault<'_> {
+    ghost use Rattle.mote_kit.specs.declared.run_file.fault.Fault.{Fault};
+
+    ghost from_gives = { λ _ fault. fault ≡ Fault.OutOfMemory };
+
     fn from(_error: AllocFailed<T>) -> Self {
         Fault::OutOfMemory
     }

@@ -1,6 +1,7 @@
 //! The script of a run, line by line, and the clock that it reaches.
 
-ghost use Rattle.std.specs.Prelude.{◌≡◌, string_bytes};
+ghost use Rattle.std.specs.Prelude.{◌≡◌, ◌++◌, ◌↔◌, [], false, string_bytes, OnOk, IfErr};
+ghost use Rattle.mote_kit.specs.NewLines.{repeated};
 
 use crate::run_file::fault::{Fault, WordFault};
 use crate::run_file::line::Line;
@@ -23,7 +24,11 @@ pub(crate) struct Inputs {
 }
 
 impl Inputs {
-    pub(crate) fn new(alloc: Global) -> Self {
+    pub(crate) fn new(alloc: Global) -> Self
+        ensures script { string_bytes result.script ≡ [] }
+        ensures clock { result.clock ≡ 0 }
+        ensures open { result.has_ended ≡ false }
+    {
         Inputs {
             script: String::new(alloc),
             clock: 0,
@@ -57,7 +62,12 @@ impl Inputs {
     }
 
     /// Appends a line a number of times.
-    pub(crate) fn push<'a>(&mut self, count: u32, line: &str) -> Result<(), Fault<'a>> {
+    pub(crate) fn push<'a>(&mut self, count: u32, line: &str) -> Result<(), Fault<'a>>
+        ensures script { OnOk result (string_bytes self.new.script ≡ string_bytes self.old.script ++ repeated count line.now) }
+        ensures open { OnOk result (self.old.has_ended ≡ false) }
+        ensures same_end { self.new.has_ended ≡ self.old.has_ended }
+        ensures fails { IfErr result (λ fault. (fault ≡ Fault.OutOfMemory) ↔ (self.old.has_ended ≡ false)) }
+    {
         if self.has_ended {
             return Err(Fault::Rule(rule::LAST_LINE));
         }
@@ -122,7 +132,9 @@ fn serial_line<'a>(alloc: Global, text: &str) -> Result<String, Fault<'a>> {
 }
 
 /// Appends a line a number of times.
-pub(crate) fn push_lines(text: &mut String, count: u32, line: &str) -> Result<(), AllocError> {
+pub(crate) fn push_lines(text: &mut String, count: u32, line: &str) -> Result<(), AllocError>
+    ensures { OnOk result (string_bytes text.new ≡ string_bytes text.old ++ repeated count line.now) }
+{
     for _ in 0..count {
         text.push_str(line)?;
         text.push('\n')?;

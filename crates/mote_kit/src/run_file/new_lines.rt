@@ -1,5 +1,10 @@
 //! The lines of a file, with the results of its runs.
 
+ghost use Rattle.std.specs.Prelude.{◌≡◌, ◌++◌, ◌∷◌, [], false, map, flat_map, List, ℕ, string_bytes, IfOk, OnOk};
+ghost use Rattle.std.specs.Str.Lines.{lines};
+ghost use Rattle.mote_kit.specs.Gaps.{Fits};
+ghost use Rattle.mote_kit.specs.Outcomes.{EndsAsSaid, IsText};
+
 use crate::run_file::comparison::is_shown;
 use crate::run_file::outcome::Outcome;
 use crate::run_file::written_run::{ShownLine, WrittenRun};
@@ -14,7 +19,10 @@ pub struct NewLines {
 
 impl NewLines {
     /// The lines of a text.
-    pub fn of(alloc: Global, text: &str) -> Result<Self, AllocError> {
+    pub fn of(alloc: Global, text: &str) -> Result<Self, AllocError>
+        ensures above { IfOk result (λ new. (rest : List (List ℕ)) × (map string_bytes new.lines.items ≡ [] ∷ rest)) }
+        ensures text { IfOk result (λ new. flat_map string_bytes new.lines.items ≡ text.now) }
+    {
         let mut new = NewLines {
             lines: Vec::new(alloc),
         };
@@ -25,18 +33,18 @@ impl NewLines {
         Ok(new)
     }
 
-    fn push(&mut self, alloc: Global, line: &str) -> Result<(), AllocError> {
+    fn push(&mut self, alloc: Global, line: &str) -> Result<(), AllocError>
+        ensures { OnOk result (map string_bytes self.new.lines.items ≡ map string_bytes self.old.lines.items ++ line.now ∷ []) }
+    {
         self.lines.push(String::from_str(alloc, line)?)?;
         Ok(())
     }
 
     /// All lines as a text.
-    pub fn text(&self, alloc: Global) -> Result<String, AllocError> {
-        let mut text = String::new(alloc);
-        for line in &self.lines {
-            text.push_str(line.as_str())?;
-        }
-        Ok(text)
+    pub fn text(&self, alloc: Global) -> Result<String, AllocError>
+        ensures { IfOk result (λ text. string_bytes text ≡ flat_map string_bytes self.now.lines.items) }
+    {
+        self.lines.concat(alloc)
     }
 
     /// Removes the line of this number.
@@ -75,7 +83,11 @@ impl NewLines {
         alloc: Global,
         run: &WrittenRun<'_>,
         outcome: &Outcome,
-    ) -> Result<bool, AllocError> {
+    ) -> Result<bool, AllocError>
+        ensures same { IfOk result (λ changes. changes ≡ false → self.new ≡ self.old) }
+        ensures comes_out { IfOk result (λ changes. changes ≡ false → EndsAsSaid run.now.said_end outcome.now
+            × ((text : List ℕ) × IsText outcome.now.transcript.items text × Fits (lines (string_bytes run.now.transcript)) (lines text))) }
+    {
         let is_shown = is_shown(alloc, run, outcome.text())?;
         if is_shown && run.has_result() && outcome.ended_as_said(run) {
             return Ok(false);

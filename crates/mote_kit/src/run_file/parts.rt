@@ -1,6 +1,8 @@
 //! The runs of a file: where the text of each begins.
 
-ghost use Rattle.std.specs.Prelude.{◌≡◌, ◌≤◌, ◌==◌, ◌+◌, ◌-◌, ◌^◌, filter, length, min, take};
+ghost use Rattle.std.specs.Prelude.{◌≡◌, ◌≤◌, ◌<◌, ◌==◌, ◌+◌, ◌-◌, ◌^◌, List, ℕ, filter, length, min, take, IfOk};
+ghost use Rattle.std.specs.List.{All};
+ghost use Rattle.mote_kit.specs.Parts.{IsPartOf};
 
 use crate::difference::line_ends;
 use crate::run_file::fault::{Fault, Misread, WordFault};
@@ -42,22 +44,37 @@ pub fn parts_of<'a>(
     alloc: Global,
     path: &'a str,
     text: &'a str,
-) -> Result<Vec<Part<'a>>, Misread<'a>> {
+) -> Result<Vec<Part<'a>>, Misread<'a>>
+    ensures { IfOk result (λ parts. All (IsPartOf path.now text.now) parts.items) }
+{
     let mut parts = Vec::new(alloc);
-    match text_with_heads(text) {
-        Some((above, runs)) => {
-            check_above(above)?;
-            push_parts(&mut parts, path, line_of(text, runs), runs)?;
-        }
-        // A text with no heads is one run.
-        None => parts.push(Part {
-            path,
-            name: None,
-            first_line: 1,
-            lines: text,
-        })?,
+    match read_parts(&mut parts, path, text) {
+        Ok(()) => Ok(parts),
+        Err(misread) => Err(misread),
     }
-    Ok(parts)
+}
+
+/// Appends the parts of the text of the file of this path.
+fn read_parts<'a>(
+    parts: &mut Vec<Part<'a>>,
+    path: &'a str,
+    text: &'a str,
+) -> Result<(), Misread<'a>>
+    ensures { All (IsPartOf path.now text.now) parts.old.items → All (IsPartOf path.now text.now) parts.new.items }
+{
+    let Some((above, runs)) = text_with_heads(text) else {
+        // A text with no heads is one run.
+        let (name, first_line, lines) = (None, 1, text);
+        parts.push(Part {
+            path,
+            name,
+            first_line,
+            lines,
+        })?;
+        return Ok(());
+    };
+    check_above(above)?;
+    push_parts(parts, path, line_of(text, runs), runs)
 }
 
 /// What is above the first head, and what is after it, where the text has one.
@@ -76,7 +93,8 @@ fn line_of(text: &str, rest: &str) -> usize {
 
 /// The number of the line of a file in which a byte is.
 pub fn line_at(bytes: &[u8], offset: usize) -> usize
-    ensures { offset ≤ length bytes.now →
+    ensures from_one { 0 < result }
+    ensures number { offset ≤ length bytes.now →
         result ≡ min (length (filter (λ byte. byte == 10) (take offset bytes.now)) + 1) (2 ^ 64 - 1) }
 {
     let before = bytes.get(..offset).unwrap_or(&[]);
@@ -105,7 +123,9 @@ fn push_parts<'a>(
     path: &'a str,
     line: usize,
     text: &'a str,
-) -> Result<(), Misread<'a>> {
+) -> Result<(), Misread<'a>>
+    ensures { (whole : List ℕ) → All (IsPartOf path.now whole) parts.old.items → All (IsPartOf path.now whole) parts.new.items }
+{
     let mut line = line;
     for part in text.split("\n== ") {
         let (name, lines) = part.split_once('\n').unwrap_or((part, ""));

@@ -1,8 +1,10 @@
 //! A run of a file, and what the file says of its outcome.
 
-ghost use Rattle.std.specs.Prelude.{◌≡◌, ◌≢◌, ◌==◌, ◌||◌, ◌↔◌, ◌⊎◌, if◌then◌else◌, [], None, Some, true, false, is_some, option_map, length, not, codes, string_bytes, IfSome, IsSomeAnd};
+ghost use Rattle.std.specs.Prelude.{◌≡◌, ◌≢◌, ◌==◌, ◌||◌, ◌↔◌, ◌⊎◌, ◌++◌, ◌∷◌, if◌then◌else◌, [], None, Some, true, false, is_some, option_map, length, not, codes, string_bytes, IfSome, IsSomeAnd, IfOk, IfErr, OnOk, Ok, get_or};
 ghost use Rattle.kernel_core.specs.Machine.{is_bootable};
 ghost use Rattle.mote_run.specs.Code.Runs.{config_of};
+ghost use Rattle.mote_kit.specs.NewLines.{repeated};
+ghost use Rattle.mote_kit.specs.Unread.{IsOfRun};
 
 use crate::gaps::GAP;
 use crate::mote::Sizes;
@@ -191,43 +193,51 @@ impl<'a> WrittenRun<'a> {
         &mut self,
         alloc: Global,
         line: Line<'a>,
-    ) -> Result<Option<Unread<'a>>, Fault<'a>> {
+    ) -> Result<Option<Unread<'a>>, Fault<'a>>
+        ensures skipped { ((line.entry.text.now ≡ []) ⊎ (get_or line.entry.text.now 0 0 ≡ 35)) → (result ≡ Ok None) × (self.new ≡ self.old) }
+        ensures last_line { (self.new ≡ self.old) ⊎ (self.new.last_line ≡ line.entry.number) }
+        ensures kind { IfOk result (λ unread. IfSome unread (λ line. IsOfRun self.new.is_network line)) }
+    {
         if line.text.is_empty() || line.text.starts_with('#') {
             return Ok(None);
         }
         let is_first = self.last_line < self.first_line;
         self.last_line = line.number;
-        match line.word {
-            "times" => self.repeat(alloc, line),
-            "network" | "last" | "at" | "quiet" | "ends" | "==" => {
-                self.read_word(alloc, line, is_first)?;
-                Ok(None)
-            }
-            _ if line.text == GAP => {
-                self.has_gaps = true;
-                self.push_shown(line)?;
-                Ok(None)
-            }
-            _ if self.is_network => self.append(alloc, line),
-            _ => self.read_line_of_mote(alloc, line),
+        if line.word == "times" {
+            self.repeat(alloc, line)
+        } else if line.text == GAP {
+            self.has_gaps = true;
+            self.push_shown(line)?;
+            Ok(None)
+        } else if self.read_word(alloc, line, is_first)? {
+            Ok(None)
+        } else if self.is_network {
+            self.append(alloc, line)
+        } else {
+            self.read_line_of_mote(alloc, line)
         }
     }
 
-    /// Reads a line that the run of a mote and that of a network may have.
+    /// Reads a line that the run of a mote and that of a network may have. Returns whether it is one.
     fn read_word(
         &mut self,
         alloc: Global,
         line: Line<'a>,
         is_first: bool,
-    ) -> Result<(), Fault<'a>> {
-        match line.word {
+    ) -> Result<bool, Fault<'a>>
+        ensures last_line { self.new.last_line ≡ self.old.last_line }
+    {
+        let read = match line.word {
             "network" => self.begin_network(line, is_first),
             "last" => self.inputs.end_with(line.rest),
             "at" => self.inputs.advance_to(alloc, line.rest),
             "quiet" => self.set_quiet(line),
             "ends" => self.set_end(line),
-            _ => Err(Fault::Rule(rule::NAME)),
-        }
+            "==" => Err(Fault::Rule(rule::NAME)),
+            _ => return Ok(false),
+        };
+        read?;
+        Ok(true)
     }
 
     /// Reads what only the run of a mote has, and otherwise a line of the script or the transcript.
@@ -235,7 +245,11 @@ impl<'a> WrittenRun<'a> {
         &mut self,
         alloc: Global,
         line: Line<'a>,
-    ) -> Result<Option<Unread<'a>>, Fault<'a>> {
+    ) -> Result<Option<Unread<'a>>, Fault<'a>>
+        ensures last_line { self.new.last_line ≡ self.old.last_line }
+        ensures network { self.new.is_network ≡ self.old.is_network }
+        ensures kind { self.old.is_network ≡ false → IfOk result (λ unread. IfSome unread (λ line. IsOfRun false line)) }
+    {
         match line.word {
             "app" | "calls" | "rows" | "on" => Ok(Some(self.push_application(alloc, line)?)),
             "mmem" | "heap" | "quota" | "header" => {
@@ -247,7 +261,9 @@ impl<'a> WrittenRun<'a> {
     }
 
     /// From here on the lines are those of a network.
-    fn begin_network(&mut self, line: Line<'a>, is_first: bool) -> Result<(), Fault<'a>> {
+    fn begin_network(&mut self, line: Line<'a>, is_first: bool) -> Result<(), Fault<'a>>
+        ensures others { self.new ≡ record self.old { is_network = self.new.is_network } }
+    {
         if !line.rest.is_empty() {
             return Err(Fault::Word(WordFault::TakesNoWord, line.word));
         }
@@ -259,7 +275,11 @@ impl<'a> WrittenRun<'a> {
     }
 
     /// Stores the line of an application, or of a row of the last one.
-    fn push_application(&mut self, alloc: Global, line: Line<'a>) -> Result<Unread<'a>, Fault<'a>> {
+    fn push_application(&mut self, alloc: Global, line: Line<'a>) -> Result<Unread<'a>, Fault<'a>>
+        ensures last_line { self.new.last_line ≡ self.old.last_line }
+        ensures network { self.new.is_network ≡ self.old.is_network }
+        ensures kind { IfOk result (λ line. IsOfRun false line) }
+    {
         let Some(row) = line.text.strip_prefix("on ") else {
             let mut lines = Vec::new(alloc);
             lines.push(line.text)?;
@@ -278,7 +298,9 @@ impl<'a> WrittenRun<'a> {
         }
     }
 
-    fn set_quiet(&mut self, line: Line<'a>) -> Result<(), Fault<'a>> {
+    fn set_quiet(&mut self, line: Line<'a>) -> Result<(), Fault<'a>>
+        ensures others { self.new ≡ record self.old { is_quiet = self.new.is_quiet } }
+    {
         if !line.rest.is_empty() {
             return Err(Fault::Word(WordFault::TakesNoWord, line.word));
         }
@@ -289,7 +311,9 @@ impl<'a> WrittenRun<'a> {
         Ok(())
     }
 
-    fn set_end(&mut self, line: Line<'a>) -> Result<(), Fault<'a>> {
+    fn set_end(&mut self, line: Line<'a>) -> Result<(), Fault<'a>>
+        ensures others { self.new ≡ record self.old { said_end = self.new.said_end } }
+    {
         if self.said_end.is_some() {
             return Err(Fault::Word(WordFault::Twice, line.word));
         }
@@ -301,14 +325,22 @@ impl<'a> WrittenRun<'a> {
     }
 
     /// Appends a line as often as the number before it says.
-    fn repeat(&mut self, alloc: Global, line: Line<'a>) -> Result<Option<Unread<'a>>, Fault<'a>> {
+    fn repeat(&mut self, alloc: Global, line: Line<'a>) -> Result<Option<Unread<'a>>, Fault<'a>>
+        ensures last_line { self.new.last_line ≡ self.old.last_line }
+        ensures network { self.new.is_network ≡ self.old.is_network }
+        ensures kind { IfOk result (λ unread. IfSome unread (λ line. IsOfRun self.old.is_network line)) }
+    {
         let (count, text) = line.rest.split_once(' ').unwrap_or((line.rest, ""));
         let count = number_of(count, 1, MOST_TIMES)?;
         self.append(alloc, Line::of(line.number, count, text))
     }
 
     /// Appends a line to the script of a mote. Returns one of the transcript, or of a network.
-    fn append(&mut self, alloc: Global, line: Line<'a>) -> Result<Option<Unread<'a>>, Fault<'a>> {
+    fn append(&mut self, alloc: Global, line: Line<'a>) -> Result<Option<Unread<'a>>, Fault<'a>>
+        ensures last_line { self.new.last_line ≡ self.old.last_line }
+        ensures network { self.new.is_network ≡ self.old.is_network }
+        ensures kind { IfOk result (λ unread. IfSome unread (λ line. IsOfRun self.old.is_network line)) }
+    {
         match (self.is_network, is_of_transcript(line, self.is_network)) {
             (_, true) => Ok(Some(Unread::Shown(line))),
             (true, false) => Ok(Some(Unread::OfNetwork(line))),
@@ -324,7 +356,13 @@ impl<'a> WrittenRun<'a> {
     /// # Errors
     ///
     /// Where the script has its last line.
-    pub fn push_input(&mut self, count: u32, line: &str) -> Result<(), Fault<'a>> {
+    pub fn push_input(&mut self, count: u32, line: &str) -> Result<(), Fault<'a>>
+        ensures script { OnOk result
+            (string_bytes self.new.inputs.script ≡ string_bytes self.old.inputs.script ++ repeated count line.now) }
+        ensures open { OnOk result (self.old.inputs.has_ended ≡ false) }
+        ensures fails { IfErr result (λ fault. (fault ≡ Fault.OutOfMemory) ↔ (self.old.inputs.has_ended ≡ false)) }
+        ensures others { self.new ≡ record self.old { inputs = self.new.inputs } }
+    {
         self.inputs.push(count, line)
     }
 
@@ -333,7 +371,14 @@ impl<'a> WrittenRun<'a> {
     /// # Errors
     ///
     /// `OutOfMemory` alone.
-    pub fn push_shown(&mut self, line: Line<'a>) -> Result<(), Fault<'a>> {
+    pub fn push_shown(&mut self, line: Line<'a>) -> Result<(), Fault<'a>>
+        ensures transcript { OnOk result
+            (string_bytes self.new.transcript ≡ string_bytes self.old.transcript ++ repeated line.entry.count line.entry.text.now) }
+        ensures shown { OnOk result (self.new.shown.items ≡ self.old.shown.items
+            ++ record { line = line.entry.number; size = length (repeated line.entry.count line.entry.text.now) } ∷ []) }
+        ensures memory { IfErr result (λ fault. fault ≡ Fault.OutOfMemory) }
+        ensures others { self.new ≡ record self.old { transcript = self.new.transcript; shown = self.new.shown } }
+    {
         let begin = self.transcript.len();
         push_lines(&mut self.transcript, line.count, line.text)?;
         self.shown.push(ShownLine {
