@@ -414,9 +414,9 @@ def fault_told(contiki: Contiki, it: Emulated, place: Path, how: str) -> bool:
         it.pump(0.05)
     it.pump(0.2)
     ran = replay(contiki, place, it.heard["record"], HERE / "faults.c", "--text")
-    line = f"contiki: {messages(ran.stderr)[-1]}\n".encode()
-    has_ended, is_printed = it.process.poll() is not None, ran.stdout + line in it.heard["console"]
-    return has_ended and is_printed and b"# " + line in it.heard["record"]
+    message = f"contiki: {messages(ran.stderr)[-1]}\n".encode()
+    has_ended, is_printed = it.process.poll() is not None, ran.stdout + message in it.heard["console"]
+    return has_ended and is_printed and b"# " + message in it.heard["record"]
 
 
 @pytest.mark.parametrize("what", PLANTED)
