@@ -1,10 +1,9 @@
 //! Chunks and gaps, and how much of which gap a block takes.
 
-ghost use Rattle.std.specs.Prelude.{◌≡◌, ◌≤◌, ◌<◌, IfSome, is_none};
-ghost use Rattle.std.specs.Option.{option_map_or};
-ghost use Rattle.heap_core.specs.HeapStore.{least_room, room_taken, shorter};
+ghost use Rattle.std.specs.Prelude.{◌≡◌, ◌≤◌, ◌<◌, IfSome, is_none, nat_lt, if◌then◌else◌, ◌==◌};
+ghost use Rattle.heap_core.specs.HeapStore.{least_room, room_taken};
 ghost use Rattle.heap_core.specs.Code.Chunks.{number_in, owner_in, place_in_link, size_in, is_a_name};
-ghost use Rattle.heap_core.specs.Code.Links.{gap_count, IsLink};
+ghost use Rattle.heap_core.specs.Code.Links.{gap_count, gap_found, IsLink};
 
 use mote_types::rounding::rounded;
 
@@ -19,6 +18,9 @@ const HALF: u32 = 65536;
 
 /// The word of a link that leads nowhere. It is above each position, so a walk up to a position ends there without an extra test.
 pub(crate) const NOWHERE: u32 = u32::MAX;
+
+/// The length of no gap: each one is shorter.
+pub(crate) const NO_LENGTH: u64 = 1 << 32;
 
 /// What a header describes: a live block or a gap, from offset `at` of the region on.
 #[derive(Clone, Copy, Drop)]
@@ -40,6 +42,30 @@ pub struct Chunk {
 pub struct Gap {
     pub at: u32,
     pub len: u32,
+}
+
+/// The gap that a search has found so far: where it begins, its length, and the word for the highest gap below it. Its length is
+/// `NO_LENGTH` where there is none yet.
+#[derive(Clone, Copy, Drop)]
+pub struct Candidate {
+    pub at: usize,
+    pub len: u64,
+    pub below: usize,
+}
+
+/// What a search has found.
+#[derive(Clone, Copy, Drop)]
+pub struct Fit {
+    pub gap: Option<Gap>,
+    /// Where the highest gap below that one begins, or below the top gap where none was found.
+    pub below: Option<u32>,
+}
+
+/// Where a block goes, and where the highest gap below it begins.
+#[derive(Clone, Copy, Drop)]
+pub struct Target {
+    pub place: Place,
+    pub below: Option<u32>,
 }
 
 /// Where a block goes: its header to `at`, and `room` bytes after that.
@@ -83,13 +109,34 @@ pub(crate) fn gap_count(len: u32) -> u16
     if len == 0 { 0 } else { 1 }
 }
 
-/// The shorter of a gap found before, if there is one, and this one. The one found before on a tie.
-pub(crate) fn shorter(best: Option<Gap>, gap: Gap) -> Gap
-    ensures { result ≡ option_map_or (λ other. shorter other gap) best gap }
+/// The shorter of the gap found before and this one. The one found before on a tie.
+pub(crate) fn shorter(best: Candidate, gap: Candidate) -> Candidate
+    ensures { result ≡ (if nat_lt gap.len best.len then gap else best) }
 {
-    match best {
-        Some(other) if other.len <= gap.len => other,
-        _ => gap,
+    if gap.len < best.len { gap } else { best }
+}
+
+/// What a search has found at its end, where `last` is the word for the last gap that it passed.
+pub(crate) fn fit_of(best: Candidate, last: usize) -> Fit
+    requires at { best.at < 4294967296 }
+    requires len { best.len ≤ NO_LENGTH }
+    requires below { best.below < 4294967296 }
+    requires last { last < 4294967296 }
+    ensures gap { result.gap ≡ gap_found best }
+    ensures below { result.below ≡ place_in_link (if best.len == NO_LENGTH then last else best.below) }
+{
+    if best.len == NO_LENGTH {
+        return Fit {
+            gap: None,
+            below: link_told(last as u32),
+        };
+    }
+    Fit {
+        gap: Some(Gap {
+            at: best.at as u32,
+            len: best.len as u32,
+        }),
+        below: link_told(best.below as u32),
     }
 }
 

@@ -1,9 +1,8 @@
 //! The gaps beside a position, found along the links from the lowest gap on.
 
 ghost use Rattle.std.specs.Prelude.{◌≡◌};
-ghost use Rattle.std.specs.Option.{option_map};
 ghost use Rattle.heap_core.specs.Code.FreeList.{gaps_among};
-ghost use Rattle.heap_core.specs.Code.Links.{HasGapList, gap_below, gap_from};
+ghost use Rattle.heap_core.specs.Code.Links.{HasGapList, gap_below, gap_from, place_below};
 
 use crate::chunk::{Chunk, NOWHERE, link_told, link_word};
 use crate::region::Region;
@@ -29,11 +28,20 @@ impl Region {
         ensures next { result.next ≡ gap_from at (gaps_among (chunks_of self.now arena.now.bytes)) }
     {
         let (below, next) = self.places_beside(arena, at);
-        let below = match below {
+        let below = self.gap_told(arena, at, below);
+        Beside { below, next }
+    }
+
+    /// The highest gap below a position, where it begins at `below`.
+    pub(crate) fn gap_told(&self, arena: &Arena, at: u32, below: Option<u32>) -> Option<Chunk>
+        requires gaps { HasGapList self.now arena.now.bytes }
+        requires below { below ≡ place_below at (gaps_among (chunks_of self.now arena.now.bytes)) }
+        ensures { result ≡ gap_below at (gaps_among (chunks_of self.now arena.now.bytes)) }
+    {
+        match below {
             Some(place) => Some(self.chunk_at(arena, place)),
             None => None,
-        };
-        Beside { below, next }
+        }
     }
 
     /// The highest gap below a position, where `known` is the highest one below offset `at`.
@@ -58,7 +66,7 @@ impl Region {
     /// Where the highest gap below a position begins, and the lowest one from there on. No gap above that one is looked at.
     fn places_beside(&self, arena: &Arena, at: u32) -> (Option<u32>, Option<u32>)
         requires gaps { HasGapList self.now arena.now.bytes }
-        ensures below { result.0 ≡ option_map (λ gap. gap.at) (gap_below at (gaps_among (chunks_of self.now arena.now.bytes))) }
+        ensures below { result.0 ≡ place_below at (gaps_among (chunks_of self.now arena.now.bytes)) }
         ensures next { result.1 ≡ gap_from at (gaps_among (chunks_of self.now arena.now.bytes)) }
     {
         let bytes = self.bytes(arena);

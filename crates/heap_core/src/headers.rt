@@ -1,6 +1,6 @@
 //! Reads and writes headers, and the bytes after them.
 
-ghost use Rattle.std.specs.Prelude.{◌≡◌, ◌+◌, ◌-◌, ◌≤◌, ◌<◌, ◌⊎◌, true, None, IfSome, false, length, slice_range};
+ghost use Rattle.std.specs.Prelude.{◌≡◌, ◌+◌, ◌-◌, ◌≤◌, ◌<◌, ◌⊎◌, true, None, Some, IfSome, false, length, slice_range};
 ghost use Rattle.std.specs.Int.{from_le_bytes};
 ghost use mir.Syntax.{w32};
 ghost use Rattle.arena_core.specs.Code.Outside.{ChangesOnly};
@@ -8,7 +8,7 @@ ghost use Rattle.mote_types.specs.Bytes.{resized};
 ghost use Rattle.heap_core.specs.Code.Chunks.{chunk_at, is_a_name, place_in_link, word_at};
 ghost use Rattle.heap_core.specs.Code.PlacedBlocks.{bytes_in_chunk, bytes_given};
 
-use crate::chunk::{Chunk, is_a_name, link_told, link_word, owned_word, owner_in, size_in};
+use crate::chunk::{Chunk, FREED, is_a_name, link_told, link_word, owned_word, owner_in, size_in};
 use crate::region::Region;
 use arena_core::{Arena, Span};
 
@@ -63,6 +63,23 @@ impl Region {
             owner,
             size: size_in(second),
             link,
+        }
+    }
+
+    /// The chunk at an offset, which was freed and is not joined yet.
+    pub(crate) fn freed_chunk(&self, arena: &Arena, at: u32) -> Chunk
+        requires within { IsWithin self.now arena.now.bytes }
+        requires inside { at + 12 ≤ self.now.span.len }
+        requires freed { (chunk_at arena.now.bytes self.now.span.at at).owner ≡ Some FREED }
+        ensures { result ≡ chunk_at arena.now.bytes self.now.span.at at }
+    {
+        let header = self.span.at + at;
+        Chunk {
+            at,
+            len: arena.word(header),
+            owner: Some(FREED),
+            size: size_in(arena.word(header + 4)),
+            link: link_told(arena.word(header + 8)),
         }
     }
 

@@ -75,10 +75,10 @@ impl Heap {
         ensures rest { KeepsToSpan self.old self.new arena.old arena.new }
     {
         self.region.join(arena);
-        let place = self.region.place(arena, n)?;
+        let target = self.region.place(arena, n)?;
         let name = number_of(key);
-        self.region.put_block(arena, place, name as u32, n, None);
-        self.region.places.put(name, place.at);
+        self.region.put_block(arena, target, name as u32, n, None);
+        self.region.places.put(name, target.place.at);
         Some(())
     }
 

@@ -1,6 +1,7 @@
 //! The chunk of a name, and walks over the chunks, from the lowest on.
 
-ghost use Rattle.std.specs.Prelude.{◌≡◌, ◌≤◌, ◌<◌, ◌+◌, find, Some, None, IsSome};
+ghost use Rattle.std.specs.Prelude.{◌≡◌, ◌≤◌, ◌<◌, ◌+◌, find, Some, None, IsSome, IfSome};
+ghost use Rattle.std.specs.Option.{option_map, option_map_or};
 ghost use Rattle.heap_core.specs.HeapStore.{stats_of, find_block, best_gap, gaps, place, room_in_place};
 ghost use Rattle.heap_core.specs.Code.FreeList.{Stands, LiveIn, gaps_among};
 ghost use Rattle.heap_core.specs.Code.ChunkRanges.{chunks_behind};
@@ -9,15 +10,17 @@ ghost use Rattle.heap_core.specs.Code.Owners.{owned_by, Owned};
 ghost use Rattle.heap_core.specs.Code.PlacedBlocks.{block_in_chunk, place_in_chunk};
 
 use crate::chunk::{
-    Chunk, Gap, NOWHERE, Place, is_gap, is_live, least_room, link_word, room_taken, shorter,
+    Candidate, Chunk, Fit, NO_LENGTH, NOWHERE, Place, Target, fit_of, is_gap, is_live, least_room,
+    link_word, room_taken, shorter,
 };
 use crate::region::Region;
 use arena_core::Arena;
 use mote_types::reply::HeapStats;
 
 impl Region {
+    ghost use Rattle.heap_core.specs.declared.chunk.Gap.{Gap as OfGaps};
     ghost use Rattle.heap_core.specs.Code.Layout.{chunks_of, store_of, HasChunks};
-    ghost use Rattle.heap_core.specs.Code.Links.{HasGapList, gap_below, gap_from};
+    ghost use Rattle.heap_core.specs.Code.Links.{HasGapList, gap_below, gap_from, place_below};
     ghost use Rattle.heap_core.specs.Code.HeapBytes.{heap_of, IsLaidOut};
 
     /// The chunk of a name's block.
@@ -45,30 +48,39 @@ impl Region {
 
     /// The shortest gap below the top gap that has `need` bytes, the lowest on a tie. No gap above one that fits exactly is
     /// looked at.
-    pub(crate) fn best_gap(&self, arena: &Arena, need: u64) -> Option<Gap>
+    pub(crate) fn best_gap(&self, arena: &Arena, need: u64) -> Fit
         requires gaps { HasGapList self.now arena.now.bytes }
-        ensures { result ≡ best_gap need (gaps (store_of self.now arena.now.bytes)) }
+        ensures gap { result.gap ≡ best_gap need (gaps (store_of self.now arena.now.bytes)) }
+        ensures below { result.below ≡ place_below (option_map_or (λ (gap : OfGaps). gap.at) result.gap self.now.footprint)
+            (gaps_among (chunks_of self.now arena.now.bytes)) }
     {
         let bytes = self.bytes(arena);
-        let mut best = None;
+        let mut best = Candidate {
+            at: NOWHERE as usize,
+            len: NO_LENGTH,
+            below: NOWHERE as usize,
+        };
+        let mut last = NOWHERE as usize;
         let mut next = link_word(self.lowest) as usize;
         while next != NOWHERE as usize {
-            let len = self.len_told(arena, bytes, next);
-            if len as u64 >= need {
-                best = Some(shorter(
+            let len = self.len_told(arena, bytes, next) as u64;
+            if len >= need {
+                best = shorter(
                     best,
-                    Gap {
-                        at: next as u32,
+                    Candidate {
+                        at: next,
                         len,
+                        below: last,
                     },
-                ));
-                if len as u64 == need {
-                    return best;
+                );
+                if len == need {
+                    return fit_of(best, last);
                 }
             }
+            last = next;
             next = self.next_word(arena, bytes, next);
         }
-        best
+        fit_of(best, last)
     }
 
     /// The bytes that the live blocks take, and what is left of the span.
@@ -100,20 +112,29 @@ impl Region {
     }
 
     /// Where a block of `n` bytes goes.
-    pub(crate) fn place(&self, arena: &Arena, n: u32) -> Option<Place>
+    pub(crate) fn place(&self, arena: &Arena, n: u32) -> Option<Target>
         requires gaps { HasGapList self.now arena.now.bytes }
-        ensures { result ≡ place n (store_of self.now arena.now.bytes) }
+        ensures place { option_map (λ target. target.place) result ≡ place n (store_of self.now arena.now.bytes) }
+        ensures below { IfSome result
+            (λ target. target.below ≡ place_below target.place.at (gaps_among (chunks_of self.now arena.now.bytes))) }
     {
         let room = least_room(self.header, n);
         let need = self.header as u64 + room;
-        match self.best_gap(arena, need) {
-            Some(gap) => Some(Place {
-                at: gap.at,
-                room: room_taken(room as u32, gap.len - self.header),
+        let fit = self.best_gap(arena, need);
+        match fit.gap {
+            Some(gap) => Some(Target {
+                place: Place {
+                    at: gap.at,
+                    room: room_taken(room as u32, gap.len - self.header),
+                },
+                below: fit.below,
             }),
-            None if need <= (self.span.len - self.footprint) as u64 => Some(Place {
-                at: self.footprint,
-                room: room as u32,
+            None if need <= (self.span.len - self.footprint) as u64 => Some(Target {
+                place: Place {
+                    at: self.footprint,
+                    room: room as u32,
+                },
+                below: fit.below,
             }),
             None => None,
         }

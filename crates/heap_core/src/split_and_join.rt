@@ -10,14 +10,14 @@ ghost use Rattle.heap_core.specs.Code.FreeList.{Stands, LiveIn, LinkedTo, gaps_a
 ghost use Rattle.heap_core.specs.Code.Owners.{Owned};
 ghost use Rattle.heap_core.specs.Code.PlacedBlocks.{bytes_given, without_place, place_in_chunk, at_place, bytes_in_chunk};
 
-use crate::chunk::{Chunk, FREED, FreeEnd, Place, gap_count};
+use crate::chunk::{Chunk, FREED, FreeEnd, Place, Target, gap_count};
 use crate::region::Region;
 use arena_core::Arena;
 
 impl Region {
     ghost use Rattle.heap_core.specs.declared.chunk.Chunk.{Chunk as OfChunks};
     ghost use Rattle.heap_core.specs.Code.Layout.{chunks_of, store_of, HasChunks};
-    ghost use Rattle.heap_core.specs.Code.Links.{gap_count, gap_below, gap_from, LinkChanged, HasGapList, IsDivided, IsLink, KeepsFreed};
+    ghost use Rattle.heap_core.specs.Code.Links.{gap_count, gap_below, gap_from, place_below, LinkChanged, HasGapList, IsDivided, IsLink, KeepsFreed};
     ghost use Rattle.heap_core.specs.Code.Holes.{Cut, EndsHole, Fits, Laid, Leaves, Left, Room, ReachesWithGaps, Cleared};
     ghost use Rattle.heap_core.specs.Code.HeapBytes.{heap_of, IsWithin, KeepsToSpan};
     ghost use Rattle.heap_core.specs.Code.Joins.{Changed, Aside, Joins};
@@ -128,38 +128,40 @@ impl Region {
     pub(crate) fn put_block(
         &mut self,
         arena: &mut Arena,
-        target: Place,
+        target: Target,
         name: u32,
         n: u32,
         source: Option<Chunk>,
     )
         requires divided { IsDivided self.old arena.old.bytes }
-        requires place { place n (store_of self.old arena.old.bytes) ≡ Some target }
+        requires place { place n (store_of self.old arena.old.bytes) ≡ Some target.place }
+        requires below { target.below ≡ place_below target.place.at (gaps_among (chunks_of self.old arena.old.bytes)) }
         requires name { name < 272 }
         requires some { 1 ≤ n }
         requires source { IfSome source (λ other. LiveIn other (chunks_of self.old arena.old.bytes)) }
         ensures divided { IsDivided self.new arena.new.bytes }
         ensures block { store_of self.new arena.new.bytes
-            ≡ with_block (block_at target name (resized n (bytes_given self.old.header arena.old.bytes self.old.span.at source)))
+            ≡ with_block (block_at target.place name (resized n (bytes_given self.old.header arena.old.bytes self.old.span.at source)))
             (store_of self.old arena.old.bytes) }
         ensures stands { (other : OfChunks) → LiveIn other (chunks_of self.old arena.old.bytes)
             → LiveIn other (chunks_of self.new arena.new.bytes) }
         ensures kept { KeepsFreed self.old self.new }
         ensures rest { KeepsToSpan self.old self.new arena.old arena.new }
     {
-        let end = self.free_end(arena, target, n);
-        let beside = self.gaps_beside(arena, target.at);
+        let Target { place, below } = target;
+        let end = self.free_end(arena, place, n);
+        let before = self.gap_told(arena, place.at, below);
         let live = Chunk {
-            at: target.at,
-            len: self.header + target.room,
+            at: place.at,
+            len: self.header + place.room,
             owner: Some(name),
             size: n,
             link: None,
         };
         self.give_bytes(arena, live, source);
         let first = self.lay(arena, live, end.at, end.link);
-        self.link_below(arena, beside.below, first);
-        self.gaps -= gap_count(end.at - target.at);
+        self.link_below(arena, before, first);
+        self.gaps -= gap_count(end.at - place.at);
     }
 
     /// Makes a chunk and the gaps beside it one gap, which is linked to the next one, or a part of the top gap. Returns the position
@@ -189,6 +191,7 @@ impl Region {
 
     /// Makes a chunk and the gaps beside it one gap, or a part of the top gap, and has the list of the gaps lead there. `below` is
     /// the highest gap below the chunk.
+    #[inline(always)]
     fn merge(
         &mut self,
         arena: &mut Arena,
@@ -225,6 +228,7 @@ impl Region {
     }
 
     /// Makes a chunk a gap, and joins it with the gaps beside it.
+    #[inline(always)]
     fn release(&mut self, arena: &mut Arena, chunk: Chunk)
         requires divided { IsDivided self.old arena.old.bytes }
         requires live { LiveIn chunk (chunks_of self.old arena.old.bytes) }
@@ -248,7 +252,7 @@ impl Region {
         ensures none { self.new.freed ≡ 0 }
     {
         while let Some(at) = self.newest {
-            let chunk = self.chunk_at(arena, at);
+            let chunk = self.freed_chunk(arena, at);
             self.newest = chunk.link;
             self.freed -= 1;
             self.release(arena, chunk);
@@ -365,6 +369,6 @@ impl Region {
         let target = self.place(arena, n)?;
         self.put_block(arena, target, name, n, Some(chunk));
         self.set_aside(arena, chunk);
-        Some(target.at)
+        Some(target.place.at)
     }
 }

@@ -1,5 +1,6 @@
 -- The walk along the links to the gaps beside a position.
-use Rattle.heap_core.proofs.Lemmas.Words.{word_at, slice_range, range-range, ◌≡◌, ◌≢◌, ℕ, ◌+◌, ◌≤◌, ◌<◌, List, [], ◌∷◌, refl, sym, ap, ◌∙◌, arith, Option, Some, None, IfSome, fold, option_map, Chunk, Region, chunk_at, chunks_of, HasChunks, gaps_among, LinkedTo, Follow, below_from, gap_below, gap_from, ◌^◌, place_in_link, option_map_or, cases_Bool, ltb-false, Gap, shorter, best_gap, gaps, store_of}
+use Rattle.heap_core.proofs.Lemmas.Words.{word_at, slice_range, range-range, ◌≡◌, ◌≢◌, ℕ, ◌+◌, ◌≤◌, ◌<◌, List, [], ◌∷◌, refl, sym, ap, ◌∙◌, arith, Option, Some, None, IfSome, fold, option_map, Chunk, Region, chunk_at, chunks_of, HasChunks, gaps_among, LinkedTo, Follow, below_from, gap_below, gap_from, ◌^◌, place_in_link, option_map_or, cases_Bool, ltb-false, Gap, best_gap, gaps, store_of, if◌then◌else◌, Candidate, Fit, gap_found, place_below}
+use Rattle.std.specs.Prelude.{nat_lt, ◌==◌}
 use Rattle.heap_core.proofs.Lemmas.Lists.{next_gap, no_gap, followed, NextGap}
 use Rattle.heap_core.proofs.Lemmas.ChunkHeaders.{place_told}
 use Rattle.heap_core.proofs.Lemmas.Gaps.{better_chunk, better_same, gaps_are}
@@ -95,51 +96,85 @@ module _ (heap : Region) where
         → IfSome (gap_below p (gaps_among (chunks_of heap B))) (HasHeader B heap.span.at heap.footprint)
     below_told p has linked = grind (arith, lower_told, followed)
 
-    -- the state of the search: the best gap so far, and the gaps not passed yet
-    pub record Searched (need : ℕ) (best : Option Gap) (next : Option ℕ) : Type 0 where
+    -- the gap found has its highest gap below, and its words are small
+    pub record IsMarked (best : Candidate) : Type 0 where
+      pub is : IfSome (gap_found best) (λ gap. place_in_link best.below ≡ place_below gap.at (gaps_among (chunks_of heap B)))
+      pub at : best.at < 4294967296
+      pub len : best.len ≤ 4294967296
+      pub below : best.below < 4294967296
+
+    -- the state of the search: the best gap so far, the last one passed, and the gaps not passed yet
+    pub record Searched (need : ℕ) (best : Candidate) (last next : Option ℕ) : Type 0 where
       pub left : List Chunk
       pub from : ℕ
       pub follow : Follow B heap.span.at from heap.footprint next left
-      pub is : fold (better_chunk need) best left ≡ best_gap need (gaps (store_of heap B))
+      pub is : fold (better_chunk need) (gap_found best) left ≡ best_gap need (gaps (store_of heap B))
+      pub passed : Option Chunk
+      pub place : option_map (λ (gap : Chunk). gap.at) passed ≡ last
+      pub lowered : (p : ℕ) → from ≤ p → below_from p passed left ≡ gap_below p (gaps_among (chunks_of heap B))
+      pub high : from ≤ heap.footprint
+      pub marked : IsMarked best
+
+    -- what the search returns
+    pub record IsFit (need : ℕ) (fit : Fit) : Type 0 where
+      pub gap : fit.gap ≡ best_gap need (gaps (store_of heap B))
+      pub below : fit.below ≡ place_below (option_map_or (λ (gap : Gap). gap.at) fit.gap heap.footprint) (gaps_among (chunks_of heap B))
 
 module _ {heap : Region} {B : List ℕ} {need : ℕ} where
-  pub search_begun : HasChunks heap B → LinkedTo heap.lowest (chunks_of heap B) None → Searched heap B need None heap.lowest
+  pub search_begun : HasChunks heap B → LinkedTo heap.lowest (chunks_of heap B) None
+      → Searched heap B need (record { at = 4294967295; len = 4294967296; below = 4294967295 }) None heap.lowest
   search_begun has linked = grind (arith, followed, better_same, gaps_are)
 
-  pub search_ended : {best : Option Gap} {next : Option ℕ} → next ≡ None → Searched heap B need best next
-      → best ≡ best_gap need (gaps (store_of heap B))
-  search_ended {best} {next} none s = grind (arith, no_gap)
+  pub search_ended : {best : Candidate} (last : ℕ) {next : Option ℕ} {fit : Fit} → next ≡ None
+      → Searched heap B need best (place_in_link last) next → fit.gap ≡ gap_found best
+      → fit.below ≡ place_in_link (if best.len == 4294967296 then last else best.below) → IsFit heap B need fit
+  search_ended {best} last {next} {fit} none s gap_is below =
+      grind (arith, no_gap B heap.span.at s.from heap.footprint s.left none s.follow, s.lowered heap.footprint s.high)
 
-  module _ {best : Option Gap} {word len : ℕ} (s : Searched heap B need best (place_in_link word)) (some : word ≢ 4294967295)
-      (len_is : len ≡ (chunk_at B heap.span.at word).len) where
+  module _ {best : Candidate} {last : Option ℕ} {word len : ℕ} (s : Searched heap B need best last (place_in_link word))
+      (some : word ≢ 4294967295) (len_is : len ≡ (chunk_at B heap.span.at word).len) where
     abbrev chunk : Chunk
     chunk = chunk_at B heap.span.at word
-
-    abbrev this : Gap
-    this = record { at = word; len = len }
 
     pub next_met : NextGap B heap.span.at heap.footprint word s.left
     next_met = next_gap B heap.span.at s.from heap.footprint s.left (word_told word some) s.follow
 
-    -- the chunk that the words describe
-    this_is : this ≡ (let found : Gap = record { at = chunk.at; len = chunk.len } in found)
-    this_is = grind (arith, place_told)
+    -- the last gap passed is the highest one below this one
+    last_is : last ≡ place_below word (gaps_among (chunks_of heap B))
+    last_is = grind (arith, next_met, place_told, s.lowered word)
 
-    more : {new : Option Gap} {link : Option ℕ} → new ≡ better_chunk need best chunk → link ≡ chunk.link → Searched heap B need new link
-    more {new} {link} e link_is = grind (arith, next_met)
+    more : {new : Candidate} {link : Option ℕ} → gap_found new ≡ better_chunk need (gap_found best) chunk → IsMarked heap B new
+        → link ≡ chunk.link → Searched heap B need new (place_in_link word) link
+    more {new} {link} e marked link_is = record {
+      left = next_met.later;
+      from = word + 1;
+      follow = grind (arith, next_met);
+      is = grind (arith, next_met);
+      passed = Some chunk;
+      place = grind (arith, place_told);
+      lowered = λ p low. grind (arith, next_met, place_told, s.lowered p);
+      high = omega (arith, next_met.fits);
+      marked = marked;
+    }
 
-    pub search_past_short : len < need → {link : Option ℕ} → link ≡ chunk.link → Searched heap B need best link
-    search_past_short less {link} = more (short_leaves_best need best chunk (omega arith))
+    pub search_past_short : len < need → {link : Option ℕ} → link ≡ chunk.link → Searched heap B need best (place_in_link word) link
+    search_past_short less {link} = more (short_leaves_best need (gap_found best) chunk (omega arith)) s.marked
 
-    module _ {found : Gap} (compared : found ≡ option_map_or (λ other. shorter other this) best this) (enough : need ≤ len) where
-      found_is : Some found ≡ better_chunk need best chunk
-      found_is = grind (arith, this_is)
+    module _ {found : Candidate} {below : ℕ}
+        (compared : found ≡ (let this : Candidate = record { at = word; len = len; below = below } in if nat_lt len best.len then this else best))
+        (last_told : last ≡ place_in_link below) (enough : need ≤ len) (small : (word < 4294967296) × (len < 4294967296) × (below < 4294967296)) where
+      found_is : gap_found found ≡ better_chunk need (gap_found best) chunk
+      found_is = grind (arith, place_told, s.marked, cases_Bool)
 
-      pub search_past_long : {link : Option ℕ} → link ≡ chunk.link → Searched heap B need (Some found) link
-      search_past_long {link} = more found_is
+      found_marked : IsMarked heap B found
+      found_marked = grind (arith, last_is, s.marked, cases_Bool)
 
-      pub search_exact : len ≡ need → Some found ≡ best_gap need (gaps (store_of heap B))
-      search_exact exact = grind (arith, next_met, exact_is_best)
+      pub search_past_long : {link : Option ℕ} → link ≡ chunk.link → Searched heap B need found (place_in_link word) link
+      search_past_long {link} = more found_is found_marked
+
+      pub search_exact : len ≡ need → {fit : Fit} → fit.gap ≡ gap_found found
+          → fit.below ≡ place_in_link (if found.len == 4294967296 then below else found.below) → IsFit heap B need fit
+      search_exact exact {fit} gap_is is = grind (arith, next_met, exact_is_best, found_is, found_marked)
 
 module _ (B : List ℕ) where
   -- the gap that begins at the stored position

@@ -23,7 +23,7 @@ pub use Rattle.heap_core.specs.Code.Chunks.{AreJoined, BeginsLive, FREED, IsWhol
 unfoldable pub use Rattle.heap_core.specs.Code.Chunks.{chunk_at, shortest}
 pub use Rattle.heap_core.specs.Code.Holes.{Cleared, Cut, EndsHole, Fits, Laid, Leaves, Left, OnlyAt, ReachesWithGaps, Room, Spliced}
 pub use Rattle.heap_core.specs.Code.Joins.{Aside, Changed, Joins}
-pub use Rattle.heap_core.specs.Code.Links.{Follow, IsLink, KeepsFreed, LinkChanged, Relinked, below_from, gap_below, gap_count, gap_from, last_of}
+pub use Rattle.heap_core.specs.Code.Links.{Follow, IsLink, KeepsFreed, LinkChanged, Relinked, below_from, gap_below, gap_count, gap_found, gap_from, last_of, place_below}
 pub use Rattle.heap_core.specs.Code.FreeBytes.{GapAt, IsWholeRoom, LeavesGap, free_from, front_gap}
 pub use Rattle.heap_core.specs.Code.Owners.{Owned, is_owner, owned_by}
 pub use Rattle.heap_core.specs.Code.PlacedBlocks.{at_place, block_in_chunk, bytes_in_chunk, place_in_chunk, without_place}
@@ -38,7 +38,9 @@ pub use Rattle.heap_core.specs.Code.Layout.{HasChunks, store_of}
 unfoldable pub use Rattle.heap_core.specs.Code.Layout.{chunks_of}
 pub use Rattle.heap_core.specs.Code.Places.{ArePlaced, place_found}
 pub use Rattle.heap_core.specs.Code.Separation.{BlocksLieApart, bytes_behind_header, extent_of, live_block}
+pub use Rattle.heap_core.specs.declared.chunk.Candidate.{Candidate}
 pub use Rattle.heap_core.specs.declared.chunk.Chunk.{Chunk}
+pub use Rattle.heap_core.specs.declared.chunk.Fit.{Fit}
 pub use Rattle.heap_core.specs.declared.chunk.Gap.{Gap}
 pub use Rattle.heap_core.specs.declared.chunk.Place.{Place}
 pub use Rattle.heap_core.specs.declared.region.Region.{Region}

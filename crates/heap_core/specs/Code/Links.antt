@@ -1,6 +1,9 @@
 -- Where the free list leads, and what a change of it preserves.
 use Rattle.std.specs.Prelude.{◌≡◌, ℕ, ◌+◌, ◌≤◌, ◌<◌, List, [], ◌∷◌, ◌++◌, length, fold, Option, Some, None, IfSome, if◌then◌else◌, ◌==◌, nat_lt}
+use Rattle.std.specs.Option.{option_map}
+use Rattle.heap_core.specs.declared.chunk.Candidate.{Candidate}
 use Rattle.heap_core.specs.declared.chunk.Chunk.{Chunk}
+use Rattle.heap_core.specs.declared.chunk.Gap.{Gap}
 use Rattle.heap_core.specs.declared.region.Region.{Region}
 use Rattle.heap_core.specs.Code.Chunks.{chunk_at}
 use Rattle.heap_core.specs.Code.FreeList.{GapsLinked, gaps_among, LinkedTo, LiveIn}
@@ -24,6 +27,13 @@ below_from at found (gap ∷ gaps) = if nat_lt gap.at at then below_from at (Som
 
 abbrev pub gap_below : ℕ → List Chunk → Option Chunk
 gap_below at gaps = below_from at None gaps
+
+abbrev pub place_below : ℕ → List Chunk → Option ℕ
+place_below at gaps = option_map (λ (gap : Chunk). gap.at) (gap_below at gaps)
+
+-- the gap that a search has found so far
+abbrev pub gap_found : Candidate → Option Gap
+gap_found best = if best.len == 4294967296 then None else Some (record { at = best.at; len = best.len })
 
 -- the position of the lowest gap from a position on
 abbrev pub gap_from : ℕ → List Chunk → Option ℕ

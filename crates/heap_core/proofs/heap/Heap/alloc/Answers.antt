@@ -8,29 +8,29 @@ chosen c o is =
     subst (λ (r : Region). place c.args.n (heap_of r c.args.arena.now.bytes) ≡ o) c.self.view_is
     (ap (place c.args.n) (sym (joined_is c.join.ensures.joins c.join.ensures.none)) ∙ is)
 
-pub returns-in_err-place-clause-refused : goal.returns-in_err-place-clause-refused
-returns-in_err-place-clause-refused c =
+pub returns-in_err-target-clause-refused : goal.returns-in_err-target-clause-refused
+returns-in_err-target-clause-refused c =
     grind (
       arith,
-      chosen (goal.at.returns-in_err-place-clause-refused c).After-join None
-          (sym c.in_err-place.ensures),
+      chosen (goal.at.returns-in_err-target-clause-refused c).After-join None
+          (sym c.in_err-target.ensures.place),
     )
 
-pub returns-in_err-place-clause-linked : goal.returns-in_err-place-clause-linked
-returns-in_err-place-clause-linked c = let j = c.join.ensures in
+pub returns-in_err-target-clause-linked : goal.returns-in_err-target-clause-linked
+returns-in_err-target-clause-linked c = let j = c.join.ensures in
     linked_is c.join.new.self c.join.new.arena.bytes j.joins.chunks j.joins.gaps j.joins.freed j.none
 
 pub put-requires-clause-at : goal.put-requires-clause-at
-put-requires-clause-at c = low_placed c.join.ensures.joins.chunks c.requires.some_bytes (sym c.in_ok-place.ensures)
+put-requires-clause-at c = low_placed c.join.ensures.joins.chunks c.requires.some_bytes (sym c.in_ok-target.ensures.place)
 
 pub returns : goal.returns
 unfolding chunks_of
-returns c = let some = chosen (goal.at.returns c).After-join (Some c.in_ok-place.place) (sym c.in_ok-place.ensures) in
+returns c = let some = chosen (goal.at.returns c).After-join (Some c.in_ok-target.target.place) (sym c.in_ok-target.ensures.place) in
     let was = c.self.inside.region in let A = c.args.arena.now.bytes in
     let old = heap_of was A in let name = c.number_of-name.result in let j = c.join.ensures in
     let laid : IsLaidOut was A = grind arith in
     let absent : find (has_name name) old.blocks ≡ None = grind (arith, map_none) in
-    let target = c.in_ok-place.place in let bytes = resized c.args.n [] in let mid =
+    let target = c.in_ok-target.target.place in let bytes = resized c.args.n [] in let mid =
     heap_of c.put_block.new.self c.put_block.new.arena.bytes in
     let block : Block = block_at target name bytes in
     let put = put_named j.joins.chunks j.joins.freed j.none c.put_block.ensures.kept block

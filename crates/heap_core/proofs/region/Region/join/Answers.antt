@@ -1,11 +1,15 @@
 use Rattle.heap_core.proofs.Lemmas.{length, refl, ap, ◌∙◌, arith, HeapStore, chunks_of, unnamed, newest_is, none_newest, freed_moved, named_without, unnamed_without, around, place_told}
 use Rattle.heap_core.proofs.region.Region.join.Goals as goal
 
-pub chunk_at-chunk-requires-clause-inside : goal.chunk_at-chunk-requires-clause-inside
-chunk_at-chunk-requires-clause-inside c =
+pub freed_chunk-chunk-requires-clause-inside : goal.freed_chunk-chunk-requires-clause-inside
+freed_chunk-chunk-requires-clause-inside c =
     let heap = c.loop-self.self in let i = c.loop-self.invariant in
     let a = around i.chunks (newest_is i.chunks i.freed c.in-Some.is refl).live.stands in
     omega (arith, a.enough, heap.inside, place_told c.loop-self.arena.bytes heap.span.at c.in-Some.at _ refl)
+
+pub freed_chunk-chunk-requires-clause-freed : goal.freed_chunk-chunk-requires-clause-freed
+freed_chunk-chunk-requires-clause-freed c =
+    let i = c.loop-self.invariant in (newest_is i.chunks i.freed c.in-Some.is refl).owner
 
 pub release-requires : goal.release-requires
 unfolding chunks_of
@@ -13,15 +17,15 @@ release-requires c =
     let i = c.loop-self.invariant in
     record {
       divided = grind arith;
-      live = (newest_is i.chunks i.freed c.in-Some.is c.chunk_at-chunk.ensures).live;
+      live = (newest_is i.chunks i.freed c.in-Some.is c.freed_chunk-chunk.ensures).live;
     }
 
 pub loop-self-preserved : goal.loop-self-preserved
 unfolding chunks_of
 loop-self-preserved c = let i = c.loop-self.invariant in let chunk =
-    c.chunk_at-chunk.result in
+    c.freed_chunk-chunk.result in
     let new = c.release.new.self in
-    let n = newest_is i.chunks i.freed c.in-Some.is c.chunk_at-chunk.ensures in
+    let n = newest_is i.chunks i.freed c.in-Some.is c.freed_chunk-chunk.ensures in
     record {
       chunks = c.release.ensures.chunks;
       gaps = c.release.ensures.gaps;

@@ -11,7 +11,7 @@ give_bytes-requires-clause-source c =
 
 pub give_bytes-requires-clause-apart : goal.give_bytes-requires-clause-apart
 give_bytes-requires-clause-apart c =
-    let heap = c.args.self.now in let target = c.args.target in let r = c.free_end-end.ensures.free in
+    let heap = c.args.self.now in let target = c.args.target.place in let r = c.free_end-end.ensures.free in
     if_some (λ other. LiveIn other (chunks_of heap c.args.arena.now.bytes)) (λ other. (other.at + heap.header + other.size ≤ target.at)
     ⊎ (target.at + heap.header + c.args.n ≤ other.at)) c.args.source c.requires.source
     (λ other h. elim (cut_apart r.cut other h (elsewhere_placed c.requires.divided.chunks c.requires.some h c.requires.place)) [
@@ -20,15 +20,15 @@ give_bytes-requires-clause-apart c =
     ])
 
 laid : (c : After-lay-first)
-    → Put c.args.self.now c.lay-first.new.self c.args.arena.now.bytes c.give_bytes.new.arena.bytes c.lay-first.new.arena.bytes c.args.target
-    c.args.name c.args.n (gap_count (c.free_end-end.result.at - c.args.target.at))
+    → Put c.args.self.now c.lay-first.new.self c.args.arena.now.bytes c.give_bytes.new.arena.bytes c.lay-first.new.arena.bytes c.args.target.place
+    c.args.name c.args.n (gap_count (c.free_end-end.result.at - c.args.target.place.at))
     (store_of c.args.self.now c.args.arena.now.bytes).blocks
-    c.gaps_beside-beside.result.below c.lay-first.result
+    c.gap_told-before.result c.lay-first.result
 laid c =
     let r = c.free_end-end.ensures.free in
     put r c.args.name c.requires.divided.gaps
     (c.lay-first.ensures.laid c.args.arena.now.bytes r.cut r.ends (changes_inside r c.args.name c.give_bytes.ensures.others))
-    c.gaps_beside-beside.ensures.below c.free_end-end.ensures.link
+    c.gap_told-before.ensures c.free_end-end.ensures.link
 
 pub lay-first-requires-clause-fits : goal.lay-first-requires-clause-fits
 lay-first-requires-clause-fits c = fits c.free_end-end.ensures.free c.args.name c.requires.name

@@ -10,7 +10,7 @@ set_aside-requires c = record {
   stands = (c.put_block.ensures.stands c.args.chunk (owned_live c.requires.divided.chunks c.requires.owned)).stands;
   live = ap is_a_name c.requires.owned.owner ∙ lt-ltb c.args.name 272 c.requires.name;
   freed = (put_named c.requires.divided.chunks c.requires.freed c.requires.joined c.put_block.ensures.kept
-      (block_at c.in_ok-target.target c.args.name
+      (block_at c.in_ok-target.target.place c.args.name
       (resized c.args.n (bytes_in_chunk c.args.self.now.header c.args.arena.now.bytes c.args.self.now.span.at c.args.chunk)))
       (store_of c.args.self.now c.args.arena.now.bytes) c.put_block.ensures.block
       (c.requires.freed.all ∙ c.requires.joined) c.requires.name).freed;
@@ -18,11 +18,11 @@ set_aside-requires c = record {
 
 pub returns-clause-block : goal.returns-clause-block
 returns-clause-block c = let heap = c.args.self.now in let B = c.args.arena.now.bytes in let chunk = c.args.chunk in
-    let target = c.in_ok-target.target in let block = block_at target c.args.name
+    let target = c.in_ok-target.target.place in let block = block_at target c.args.name
     (resized c.args.n (bytes_in_chunk heap.header B heap.span.at chunk)) in
     let stays = ap not (ne_eqb target.at chunk.at (λ e. (elsewhere_placed c.requires.divided.chunks c.requires.some
     (owned_live c.requires.divided.chunks c.requires.owned)
-    (sym c.in_ok-target.ensures)) (sym e))) in
+    (sym c.in_ok-target.ensures.place)) (sym e))) in
     grind (
       arith,
       (put_named c.requires.divided.chunks c.requires.freed c.requires.joined c.put_block.ensures.kept block
