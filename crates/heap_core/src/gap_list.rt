@@ -2,7 +2,7 @@
 
 ghost use Rattle.std.specs.Prelude.{◌≡◌};
 ghost use Rattle.heap_core.specs.Code.FreeList.{gaps_among};
-ghost use Rattle.heap_core.specs.Code.Links.{HasGapList, gap_below, gap_from, place_below};
+ghost use Rattle.heap_core.specs.Code.Links.{HasGapList, gap_below, gap_from, place_below, Starts};
 
 use crate::chunk::{Chunk, NOWHERE, link_told, link_word};
 use crate::region::Region;
@@ -27,7 +27,17 @@ impl Region {
         ensures below { result.below ≡ gap_below at (gaps_among (chunks_of self.now arena.now.bytes)) }
         ensures next { result.next ≡ gap_from at (gaps_among (chunks_of self.now arena.now.bytes)) }
     {
-        let (below, next) = self.places_beside(arena, at);
+        self.gaps_from(arena, at, self.lowest)
+    }
+
+    /// The same, by a walk that begins at `start`.
+    pub(crate) fn gaps_from(&self, arena: &Arena, at: u32, start: Option<u32>) -> Beside
+        requires gaps { HasGapList self.now arena.now.bytes }
+        requires start { Starts self.now arena.now.bytes at start }
+        ensures below { result.below ≡ gap_below at (gaps_among (chunks_of self.now arena.now.bytes)) }
+        ensures next { result.next ≡ gap_from at (gaps_among (chunks_of self.now arena.now.bytes)) }
+    {
+        let (below, next) = self.places_beside(arena, at, start);
         let below = self.gap_told(arena, at, below);
         Beside { below, next }
     }
@@ -64,15 +74,21 @@ impl Region {
     }
 
     /// Where the highest gap below a position begins, and the lowest one from there on. No gap above that one is looked at.
-    fn places_beside(&self, arena: &Arena, at: u32) -> (Option<u32>, Option<u32>)
+    fn places_beside(
+        &self,
+        arena: &Arena,
+        at: u32,
+        start: Option<u32>,
+    ) -> (Option<u32>, Option<u32>)
         requires gaps { HasGapList self.now arena.now.bytes }
+        requires start { Starts self.now arena.now.bytes at start }
         ensures below { result.0 ≡ place_below at (gaps_among (chunks_of self.now arena.now.bytes)) }
         ensures next { result.1 ≡ gap_from at (gaps_among (chunks_of self.now arena.now.bytes)) }
     {
         let bytes = self.bytes(arena);
         let end = at as usize;
         let mut below = NOWHERE as usize;
-        let mut next = link_word(self.lowest) as usize;
+        let mut next = link_word(start) as usize;
         // Two gaps a turn, so that the last two positions swap roles without a copy.
         while next < end {
             below = self.next_word(arena, bytes, next);

@@ -7,6 +7,7 @@ ghost use Rattle.heap_core.specs.Code.Conditions.{IsHeapSize, IsHeaderLength, le
 ghost use Rattle.heap_core.specs.Code.BlockOrder.{LieApart};
 
 use crate::chunk::Place;
+use crate::hints::Hints;
 use crate::place_table::PlaceTable;
 use crate::region::Region;
 use arena_core::{Arena, Span};
@@ -20,6 +21,8 @@ use std::marker::Model;
 #[derive(Drop)]
 pub struct Heap {
     region: Region,
+    /// Where walks along the gaps may begin. No call depends on it but in time.
+    hints: Hints,
 }
 
 impl Model for Heap {
@@ -56,6 +59,7 @@ impl Heap {
                 lowest: None,
                 gaps: 0,
             },
+            hints: Hints::new(),
         }
     }
 
@@ -74,7 +78,7 @@ impl Heap {
         ensures linked { linked_of self.new ≡ length (gaps (heap_of self.new arena.new.bytes)) }
         ensures rest { KeepsToSpan self.old self.new arena.old arena.new }
     {
-        self.region.join(arena);
+        self.region.join(arena, &self.hints);
         let target = self.region.place(arena, n)?;
         let name = number_of(key);
         self.region.put_block(arena, target, name as u32, n, None);
@@ -85,6 +89,8 @@ impl Heap {
     /// Resizes a name's block to `n` bytes (`heapmem_realloc`): the first bytes stay, as many as both lengths have, and
     /// further ones are 0. `None` exactly where it fits nowhere; then every block stays as it is. Joins what was freed
     /// first.
+    // Inlined, it would take registers from the calls beside it.
+    #[inline(never)]
     pub fn realloc(&mut self, arena: &mut Arena, key: Key, n: u32) -> Option<()>
         requires named { IsName key.0.0 key.1 }
         requires laid_out { IsLaidOut self.old arena.old.bytes }
@@ -98,14 +104,19 @@ impl Heap {
         ensures rest { KeepsToSpan self.old self.new arena.old arena.new }
     {
         let name = number_of(key);
-        self.region.join(arena);
+        self.region.join(arena, &self.hints);
         let chunk = self.region.live_chunk(arena, name as u32);
         let Some(room) = self.region.room_in_place(arena, chunk, n) else {
             let at = self.region.relocate(arena, chunk, name as u32, n)?;
             self.region.places.put(name, at);
             return Some(());
         };
-        self.region.resize(arena, chunk, name as u32, room, n);
+        let start = self
+            .region
+            .start_below(arena, chunk.at, self.hints.below(chunk.at));
+        self.region
+            .resize(arena, chunk, name as u32, room, n, start);
+        self.hints.put(chunk.at, name);
         Some(())
     }
 

@@ -11,6 +11,7 @@ mod chunk;
 mod gap_list;
 mod headers;
 mod heap;
+mod hints;
 mod place_table;
 mod region;
 mod search;

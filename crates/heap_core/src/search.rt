@@ -20,7 +20,7 @@ use mote_types::reply::HeapStats;
 impl Region {
     ghost use Rattle.heap_core.specs.declared.chunk.Gap.{Gap as OfGaps};
     ghost use Rattle.heap_core.specs.Code.Layout.{chunks_of, store_of, HasChunks};
-    ghost use Rattle.heap_core.specs.Code.Links.{HasGapList, gap_below, gap_from, place_below};
+    ghost use Rattle.heap_core.specs.Code.Links.{HasGapList, gap_below, gap_from, place_below, Starts};
     ghost use Rattle.heap_core.specs.Code.HeapBytes.{heap_of, IsLaidOut};
 
     /// The chunk of a name's block.
@@ -31,6 +31,22 @@ impl Region {
     {
         let at = self.places.get(name as usize)?;
         Some(self.chunk_at(arena, at))
+    }
+
+    /// Where a walk to a position begins: at the gap after a name's block, if there is one below the position, else at the lowest.
+    pub(crate) fn start_below(&self, arena: &Arena, at: u32, name: u32) -> Option<u32>
+        requires laid_out { IsLaidOut self.now arena.now.bytes }
+        requires name { name < 272 }
+        ensures { Starts self.now arena.now.bytes at result }
+    {
+        let Some(other) = self.find(arena, name) else {
+            return self.lowest;
+        };
+        let end = other.at + other.len;
+        if end >= at || self.gap_after(arena, other) == 0 {
+            return self.lowest;
+        }
+        Some(end)
     }
 
     /// The chunk of a live block.

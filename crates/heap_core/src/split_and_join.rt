@@ -11,15 +11,16 @@ ghost use Rattle.heap_core.specs.Code.Owners.{Owned};
 ghost use Rattle.heap_core.specs.Code.PlacedBlocks.{bytes_given, without_place, place_in_chunk, at_place, bytes_in_chunk};
 
 use crate::chunk::{Chunk, FREED, FreeEnd, Place, Target, gap_count};
+use crate::hints::Hints;
 use crate::region::Region;
 use arena_core::Arena;
 
 impl Region {
     ghost use Rattle.heap_core.specs.declared.chunk.Chunk.{Chunk as OfChunks};
     ghost use Rattle.heap_core.specs.Code.Layout.{chunks_of, store_of, HasChunks};
-    ghost use Rattle.heap_core.specs.Code.Links.{gap_count, gap_below, gap_from, place_below, LinkChanged, HasGapList, IsDivided, IsLink, KeepsFreed};
+    ghost use Rattle.heap_core.specs.Code.Links.{gap_count, gap_below, gap_from, place_below, Starts, LinkChanged, HasGapList, IsDivided, IsLink, KeepsFreed};
     ghost use Rattle.heap_core.specs.Code.Holes.{Cut, EndsHole, Fits, Laid, Leaves, Left, Room, ReachesWithGaps, Cleared};
-    ghost use Rattle.heap_core.specs.Code.HeapBytes.{heap_of, IsWithin, KeepsToSpan};
+    ghost use Rattle.heap_core.specs.Code.HeapBytes.{heap_of, IsWithin, IsLaidOut, KeepsToSpan};
     ghost use Rattle.heap_core.specs.Code.Joins.{Changed, Aside, Joins};
 
     /// Leaves free bytes: a gap up to a live chunk, which is linked to the next one, or a part of the top gap. Returns the position
@@ -229,12 +230,13 @@ impl Region {
 
     /// Makes a chunk a gap, and joins it with the gaps beside it.
     #[inline(always)]
-    fn release(&mut self, arena: &mut Arena, chunk: Chunk)
+    fn release(&mut self, arena: &mut Arena, chunk: Chunk, start: Option<u32>)
         requires divided { IsDivided self.old arena.old.bytes }
         requires live { LiveIn chunk (chunks_of self.old arena.old.bytes) }
+        requires start { Starts self.old arena.old.bytes chunk.at start }
         ensures { Changed self.old self.new arena.old arena.new chunk.at (without_place chunk.at (store_of self.old arena.old.bytes)) }
     {
-        let beside = self.gaps_beside(arena, chunk.at);
+        let beside = self.gaps_from(arena, chunk.at, start);
         let from = self.free_before(arena, chunk, beside.below);
         let gap = self.gap_after(arena, chunk);
         let end = chunk.at + chunk.len + gap;
@@ -245,17 +247,17 @@ impl Region {
 
     /// Joins the chunks that were freed with the gaps beside them, the newest first.
     #[inline(always)]
-    pub(crate) fn join(&mut self, arena: &mut Arena)
-        requires divided { IsDivided self.old arena.old.bytes }
-        requires freed { FreedLinked self.old arena.old.bytes }
+    pub(crate) fn join(&mut self, arena: &mut Arena, hints: &Hints)
+        requires laid_out { IsLaidOut self.old arena.old.bytes }
         ensures joins { Joins self.old self.new arena.old arena.new }
         ensures none { self.new.freed ≡ 0 }
     {
         while let Some(at) = self.newest {
             let chunk = self.freed_chunk(arena, at);
+            let start = self.start_below(arena, chunk.at, hints.below(chunk.at));
             self.newest = chunk.link;
             self.freed -= 1;
-            self.release(arena, chunk);
+            self.release(arena, chunk, start);
         }
     }
 
@@ -306,12 +308,21 @@ impl Region {
 
     /// Resizes a name's chunk to another room where it is, and `n` bytes: the first ones stay, and zeros follow. What is left
     /// of its bytes and of the gap after it becomes a gap.
-    pub(crate) fn resize(&mut self, arena: &mut Arena, chunk: Chunk, name: u32, room: u32, n: u32)
+    pub(crate) fn resize(
+        &mut self,
+        arena: &mut Arena,
+        chunk: Chunk,
+        name: u32,
+        room: u32,
+        n: u32,
+        start: Option<u32>,
+    )
         requires divided { IsDivided self.old arena.old.bytes }
         requires owned { Owned name chunk (chunks_of self.old arena.old.bytes) }
         requires name { name < 272 }
         requires some { 1 ≤ n }
         requires room { room_in_place (place_in_chunk self.old.header chunk) n (store_of self.old arena.old.bytes) ≡ Some room }
+        requires start { Starts self.old arena.old.bytes chunk.at start }
         ensures { Changed self.old self.new arena.old arena.new chunk.at
             (with_block (block_at (at_place chunk.at room) name
             (resized n (bytes_in_chunk self.old.header arena.old.bytes self.old.span.at chunk)))
@@ -321,7 +332,7 @@ impl Region {
             self.refill(arena, chunk, name, n);
             return;
         }
-        let beside = self.gaps_beside(arena, chunk.at);
+        let beside = self.gaps_from(arena, chunk.at, start);
         let gap = self.gap_after(arena, chunk);
         let end = chunk.at + chunk.len + gap;
         let link = self.link_after(arena, chunk, end, beside.next);

@@ -1,7 +1,7 @@
 -- The walk along the links to the gaps beside a position.
-use Rattle.heap_core.proofs.Lemmas.Words.{word_at, slice_range, range-range, ◌≡◌, ◌≢◌, ℕ, ◌+◌, ◌≤◌, ◌<◌, List, [], ◌∷◌, refl, sym, ap, ◌∙◌, arith, Option, Some, None, IfSome, fold, option_map, Chunk, Region, chunk_at, chunks_of, HasChunks, gaps_among, LinkedTo, Follow, below_from, gap_below, gap_from, ◌^◌, place_in_link, option_map_or, cases_Bool, ltb-false, Gap, best_gap, gaps, store_of, if◌then◌else◌, Candidate, Fit, gap_found, place_below}
+use Rattle.heap_core.proofs.Lemmas.Words.{word_at, slice_range, range-range, ◌≡◌, ◌≢◌, ℕ, ◌+◌, ◌≤◌, ◌<◌, List, [], ◌∷◌, refl, sym, ap, ◌∙◌, arith, Option, Some, None, IfSome, fold, option_map, Chunk, Region, chunk_at, chunks_of, HasChunks, gaps_among, LinkedTo, Follow, below_from, gap_below, gap_from, ◌^◌, place_in_link, option_map_or, cases_Bool, ltb-false, Gap, best_gap, gaps, store_of, if◌then◌else◌, Candidate, Fit, gap_found, place_below, Starts, IsLink, IsSomeAnd, inl, inr, subst, cases_lt}
 use Rattle.std.specs.Prelude.{nat_lt, ◌==◌}
-use Rattle.heap_core.proofs.Lemmas.Lists.{next_gap, no_gap, followed, NextGap}
+use Rattle.heap_core.proofs.Lemmas.Lists.{link_small, lowest_small, next_gap, no_gap, followed, NextGap}
 use Rattle.heap_core.proofs.Lemmas.ChunkHeaders.{place_told}
 use Rattle.heap_core.proofs.Lemmas.Gaps.{better_chunk, better_same, gaps_are}
 
@@ -29,9 +29,49 @@ pub record Walked (heap : Region) (B : List ℕ) (p : ℕ) (below next : Option 
   pub lowered : below_from p found left ≡ gap_below p (gaps_among (chunks_of heap B))
   pub highered : gap_from p left ≡ gap_from p (gaps_among (chunks_of heap B))
 
+-- the gaps from one that is below a position, which a walk may begin at
+record Later (B : List ℕ) (b end p : ℕ) (place : ℕ) (found : Option Chunk) (all : List Chunk) : Type 0 where
+  left : List Chunk
+  from : ℕ
+  follow : Follow B b from end (Some place) left
+  lowered : below_from p None left ≡ below_from p found all
+  highered : gap_from p left ≡ gap_from p all
+
+later : (B : List ℕ) (b from end p place : ℕ) (head : Option ℕ) (found : Option Chunk) (all : List Chunk) → Follow B b from end head all
+    → place < p → gap_from place all ≡ Some place → Later B b end p place found all
+later B b from end p place head found [] follow less is = absurd (cc)
+later B b from end p place head found (gap ∷ all) follow less is = elim (cases_lt gap.at place) [
+  | inl low ↦ let l = later B b (gap.at + 1) end p place gap.link (Some gap) all follow.5 less (grind arith) in
+      record { left = l.left; from = l.from; follow = l.follow; lowered = grind arith; highered = grind arith }
+  | inr high ↦ record { left = gap ∷ all; from = from; follow = grind arith; lowered = grind arith; highered = refl }
+]
+
 module _ {heap : Region} {B : List ℕ} {p : ℕ} where
-  pub walk_begun : HasChunks heap B → LinkedTo heap.lowest (chunks_of heap B) None → Walked heap B p None heap.lowest
+  walk_begun : HasChunks heap B → LinkedTo heap.lowest (chunks_of heap B) None → Walked heap B p None heap.lowest
   walk_begun has linked = grind (arith, followed)
+
+  walk_later : HasChunks heap B → LinkedTo heap.lowest (chunks_of heap B) None → (start : Option ℕ)
+      → IsSomeAnd start (λ place. (place < p) × (gap_from place (gaps_among (chunks_of heap B)) ≡ Some place)) → Walked heap B p None start
+  walk_later has linked None some = absurd some
+  walk_later has linked (Some place) some =
+      let l = later B heap.span.at 0 heap.footprint p place heap.lowest None (gaps_among (chunks_of heap B))
+      (followed heap.header B heap.span.at 0 heap.footprint heap.lowest (chunks_of heap B) has.told linked).0 some.0 some.1 in
+      record {
+        left = l.left;
+        from = l.from;
+        follow = l.follow;
+        found = None;
+        place = refl;
+        lowered = l.lowered;
+        highered = l.highered;
+      }
+
+  pub walk_from : HasChunks heap B → LinkedTo heap.lowest (chunks_of heap B) None → {start : Option ℕ} → Starts heap B p start
+      → Walked heap B p None start
+  walk_from has linked {start} starts = elim starts [
+    | inl lowest ↦ subst (Walked heap B p None) (sym lowest) (walk_begun has linked)
+    | inr some ↦ walk_later has linked start some
+  ]
 
   module _ {below : Option ℕ} {word : ℕ} (w : Walked heap B p below (place_in_link word)) (less : word < p) (small : p < 2 ^ 32) where
     abbrev gap : Chunk
@@ -50,6 +90,19 @@ module _ {heap : Region} {B : List ℕ} {p : ℕ} where
   stop word w far =
       let s = stops word B heap.span.at w.from heap.footprint p w.found w.left w.follow far in
       (sym w.place ∙ ap (option_map (λ (gap : Chunk). gap.at)) (sym s.0 ∙ w.lowered), sym s.1 ∙ w.highered)
+
+module _ {heap : Region} {B : List ℕ} where
+  pub start_small : (p : ℕ) → HasChunks heap B → LinkedTo heap.lowest (chunks_of heap B) None → {start : Option ℕ} → Starts heap B p start
+      → IsLink start
+  start_small p has linked {start} starts = elim starts [
+    | inl lowest ↦ subst IsLink (sym lowest) (lowest_small has linked)
+    | inr some ↦ later_small has start some
+  ]
+    where
+      later_small : HasChunks heap B → (start : Option ℕ)
+          → IsSomeAnd start (λ place. (place < p) × (gap_from place (gaps_among (chunks_of heap B)) ≡ Some place)) → IsLink start
+      later_small has None some = absurd some
+      later_small has (Some place) some = link_small has place (sym some.1)
 
 module _ (B : List ℕ) where
   -- the gap found has its header at its position

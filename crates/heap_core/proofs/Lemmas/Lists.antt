@@ -285,6 +285,10 @@ pub over_gap : {heap : Region} {B : List ℕ} {chunk : Chunk} (a : Around heap B
 over_gap a linked live some =
     grind (arith, gap_place, gap_around, gap_told, behind_gap, first a linked live some)
 
+pub starts_after : {heap : Region} {B : List ℕ} {chunk : Chunk} (a : Around heap B chunk) → LinkedTo heap.lowest (chunks_of heap B) None
+    → chunk.owner ≢ None → front_gap a.behind ≢ 0 → from_place heap B (chunk.at + chunk.len) ≡ Some (chunk.at + chunk.len)
+starts_after a linked live some = grind (arith, gap_place, gap_around, gap_told, leads_to_gap, first a linked live some)
+
 -- Chunks that go, and chunks that replace them.
 only_at : (at : ℕ) (c : Chunk) (l : List Chunk) → OnlyAt at l → c.owner ≢ None → In c l → c.at ≡ at
 only_at at c [] only live k = absurd k

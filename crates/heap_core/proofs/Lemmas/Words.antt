@@ -23,7 +23,7 @@ pub use Rattle.heap_core.specs.Code.Chunks.{AreJoined, BeginsLive, FREED, IsWhol
 unfoldable pub use Rattle.heap_core.specs.Code.Chunks.{chunk_at, shortest}
 pub use Rattle.heap_core.specs.Code.Holes.{Cleared, Cut, EndsHole, Fits, Laid, Leaves, Left, OnlyAt, ReachesWithGaps, Room, Spliced}
 pub use Rattle.heap_core.specs.Code.Joins.{Aside, Changed, Joins}
-pub use Rattle.heap_core.specs.Code.Links.{Follow, IsLink, KeepsFreed, LinkChanged, Relinked, below_from, gap_below, gap_count, gap_found, gap_from, last_of, place_below}
+pub use Rattle.heap_core.specs.Code.Links.{Follow, IsLink, KeepsFreed, LinkChanged, Relinked, Starts, below_from, gap_below, gap_count, gap_found, gap_from, last_of, place_below}
 pub use Rattle.heap_core.specs.Code.FreeBytes.{GapAt, IsWholeRoom, LeavesGap, free_from, front_gap}
 pub use Rattle.heap_core.specs.Code.Owners.{Owned, is_owner, owned_by}
 pub use Rattle.heap_core.specs.Code.PlacedBlocks.{at_place, block_in_chunk, bytes_in_chunk, place_in_chunk, without_place}

@@ -1,5 +1,5 @@
 -- Where the free list leads, and what a change of it preserves.
-use Rattle.std.specs.Prelude.{◌≡◌, ℕ, ◌+◌, ◌≤◌, ◌<◌, List, [], ◌∷◌, ◌++◌, length, fold, Option, Some, None, IfSome, if◌then◌else◌, ◌==◌, nat_lt}
+use Rattle.std.specs.Prelude.{◌≡◌, ℕ, ◌+◌, ◌≤◌, ◌<◌, List, [], ◌∷◌, ◌++◌, length, fold, ◌⊎◌, Option, Some, None, IfSome, IsSomeAnd, if◌then◌else◌, ◌==◌, nat_lt}
 use Rattle.std.specs.Option.{option_map}
 use Rattle.heap_core.specs.declared.chunk.Candidate.{Candidate}
 use Rattle.heap_core.specs.declared.chunk.Chunk.{Chunk}
@@ -31,14 +31,19 @@ gap_below at gaps = below_from at None gaps
 abbrev pub place_below : ℕ → List Chunk → Option ℕ
 place_below at gaps = option_map (λ (gap : Chunk). gap.at) (gap_below at gaps)
 
--- the gap that a search has found so far
-abbrev pub gap_found : Candidate → Option Gap
-gap_found best = if best.len == 4294967296 then None else Some (record { at = best.at; len = best.len })
-
 -- the position of the lowest gap from a position on
 abbrev pub gap_from : ℕ → List Chunk → Option ℕ
 gap_from at [] = None
 gap_from at (gap ∷ gaps) = if nat_lt gap.at at then gap_from at gaps else Some gap.at
+
+-- A walk to the gaps beside a position may begin there: at the lowest gap, or at one below the position
+abbrev pub Starts : Region → List ℕ → ℕ → Option ℕ → Type 0
+Starts heap bytes at start =
+    (start ≡ heap.lowest) ⊎ IsSomeAnd start (λ place. (place < at) × (gap_from place (gaps_among (chunks_of heap bytes)) ≡ Some place))
+
+-- the gap that a search has found so far
+abbrev pub gap_found : Candidate → Option Gap
+gap_found best = if best.len == 4294967296 then None else Some (record { at = best.at; len = best.len })
 
 -- the highest of these gaps
 abbrev pub last_of : List Chunk → Option Chunk

@@ -18,6 +18,7 @@ release-requires c =
     record {
       divided = grind arith;
       live = (newest_is i.chunks i.freed c.in-Some.is c.freed_chunk-chunk.ensures).live;
+      start = c.start_below-start.ensures;
     }
 
 pub loop-self-preserved : goal.loop-self-preserved

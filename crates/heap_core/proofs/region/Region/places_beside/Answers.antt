@@ -1,12 +1,12 @@
-use Rattle.heap_core.proofs.Lemmas.{ap, arith, place_in_link, is_a_name, Walked, walk_begun, walk_step, walk_more, stop, lowest_small, rises}
+use Rattle.heap_core.proofs.Lemmas.{ap, arith, place_in_link, is_a_name, Walked, walk_from, walk_step, walk_more, stop, start_small, rises}
 use Rattle.heap_core.proofs.region.Region.places_beside.Goals as goal
 use Rattle.heap_core.proofs.region.Region.places_beside.Goals.{After-next_word-below}
 
 pub link_word-next-requires : goal.link_word-next-requires
-link_word-next-requires c = lowest_small c.requires.gaps.chunks c.requires.gaps.linked
+link_word-next-requires c = start_small c.args.at c.requires.gaps.chunks c.requires.gaps.linked c.requires.start
 
 pub loop-next-init : goal.loop-next-init
-loop-next-init c = grind (arith, walk_begun)
+loop-next-init c = grind (arith, walk_from)
 
 pub next_word-below-requires-clause-inside : goal.next_word-below-requires-clause-inside
 next_word-below-requires-clause-inside c =

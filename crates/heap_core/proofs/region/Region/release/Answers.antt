@@ -5,7 +5,7 @@ use Rattle.heap_core.proofs.region.Region.release.Goals.{After-link_after-link}
 reaches : (c : After-link_after-link) → ReachesWithGaps c.args.self.now c.args.arena.now.bytes c.args.chunk c.free_before-from.result
     (c.args.chunk.at + c.args.chunk.len + c.gap_after-gap.result)
 reaches c = reach (around c.requires.divided.chunks c.requires.live.stands) c.requires.live.live c.requires.divided.gaps.linked
-    c.gaps_beside-beside.ensures.below c.free_before-from.ensures
+    c.gaps_from-beside.ensures.below c.free_before-from.ensures
     (ap (λ k. c.args.chunk.at + c.args.chunk.len + k) c.gap_after-gap.ensures)
 
 pub overflow_add-end : goal.overflow_add-end

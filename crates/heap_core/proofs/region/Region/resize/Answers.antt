@@ -13,12 +13,12 @@ laid : (c : After-lay-first)
     → Put c.args.self.now c.lay-first.new.self c.args.arena.now.bytes c.clear.new.arena.bytes c.lay-first.new.arena.bytes
     (at_place c.args.chunk.at c.args.room) c.args.name c.args.n (gap_count c.gap_after-gap.result)
     (filter (elsewhere c.args.chunk.at) (store_of c.args.self.now c.args.arena.now.bytes).blocks)
-    c.gaps_beside-beside.result.below c.lay-first.result
+    c.gaps_from-beside.result.below c.lay-first.result
 laid c =
     let r = own_room c.requires.divided.chunks c.requires.owned c.gap_after-gap.ensures c.requires.some c.requires.room in
     put r c.args.name c.requires.divided.gaps
     (c.lay-first.ensures.laid c.args.arena.now.bytes r.cut r.ends (changes_inside r c.args.name c.clear.ensures.others))
-    c.gaps_beside-beside.ensures.below c.link_after-link.ensures
+    c.gaps_from-beside.ensures.below c.link_after-link.ensures
 
 pub overflow_add-self : goal.overflow_add-self
 overflow_add-self c =
