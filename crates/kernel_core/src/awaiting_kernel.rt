@@ -101,7 +101,7 @@ impl AwaitingKernel {
     /// The first half of a step, as `Kernel::step_to` makes it: works until an application must take a turn, which is
     /// written into `turn` without its call, until another entry is made, which is written into `other`, or until there is
     /// rest.
-    #[inline]
+    #[inline(always)]
     pub fn next(&mut self, turn: &mut Turn, other: &mut Entry) -> StepOutcome
         requires closed { self.old.turn ≡ None }
         ensures opens { result ≡ StepOutcome.Turn → self.new.turn ≡ Some turn.new.pid }

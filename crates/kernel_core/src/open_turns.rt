@@ -1,31 +1,72 @@
 //! Open turns: the kernel works until an application must take one; then its call is executed, whoever made it.
 
-ghost use Rattle.std.specs.Prelude.{◌≡◌, ◌≤◌, ◌+◌, false};
+ghost use Rattle.std.specs.Prelude.{◌≡◌, ◌≤◌, ◌+◌, false, true};
+ghost use Rattle.mote_types.specs.declared.event.Stimulus.{Stimulus as Received};
+ghost use Rattle.mote_types.specs.declared.reply.Reply.{Reply as Answered};
 ghost use Rattle.kernel_core.specs.Calls.{after_call};
 ghost use Rattle.kernel_core.specs.Code.OpenTurns.{IsMidTurn, WorksUpTo, told_turn};
-ghost use Rattle.kernel_core.specs.Code.View.{entries_left_in, machine_of, IsInOrder};
+ghost use Rattle.kernel_core.specs.Code.View.{entries_left_in, machine_of, IsAtWork, IsInOrder};
 
 use crate::kernel_fields::KernelFields;
 use crate::step::StepOutcome;
 use crate::turn::Turn;
 use mote_types::call::Call;
 use mote_types::entry::Entry;
-use mote_types::event::Pid;
+use mote_types::event::{Pid, Stimulus};
+use mote_types::reply::Reply;
+
+/// Whether it is the reply Done.
+#[inline(always)]
+fn is_done(stimulus: &Stimulus) -> bool
+    ensures { result ≡ true → stimulus.now ≡ Received.Answer Answered.Done }
+{
+    matches!(stimulus, Stimulus::Answer(Reply::Done))
+}
 
 impl KernelFields {
     /// Works until a turn begins, which is written into `turn` without its call, until another entry is made, which is
     /// written into `other`, or until there is rest.
-    #[inline]
+    // What is inlined saves no registers for an entry that waits.
+    #[inline(always)]
     pub fn next(&mut self, turn: &mut Turn, other: &mut Entry) -> StepOutcome
         requires order { IsInOrder self.old }
         ensures { WorksUpTo result turn.new other.old other.new self.old self.new }
     {
-        let outcome = self.next_turn(turn, other);
+        if self.halted {
+            return StepOutcome::Halted;
+        }
+        if !self.pending.is_empty() {
+            self.pending.take_first(other);
+            return StepOutcome::Other;
+        }
+        self.work_to_turn(turn, other)
+    }
+
+    /// As `next`, where no entry waits.
+    #[inline(never)]
+    fn work_to_turn(&mut self, turn: &mut Turn, other: &mut Entry) -> StepOutcome
+        requires at_work { IsAtWork self.old }
+        ensures { WorksUpTo result turn.new other.old other.new self.old self.new }
+    {
+        let outcome = self.work_on(turn, other);
         if let StepOutcome::Turn = outcome {
-            self.scheduler
-                .write_stimulus(turn.origin, &mut turn.stimulus);
+            self.write_told(turn);
         }
         outcome
+    }
+
+    /// Writes the stimulus of a turn where the scheduler has it. Mostly both are Done, and nothing is written.
+    #[inline(always)]
+    fn write_told(&self, turn: &mut Turn)
+        ensures { turn.new ≡ told_turn self.now.scheduler.kept turn.old }
+    {
+        if is_done(self.scheduler.stimulus(turn.origin, &turn.stimulus))
+            && is_done(&turn.stimulus)
+        {
+            return;
+        }
+        self.scheduler
+            .write_stimulus(turn.origin, &mut turn.stimulus);
     }
 
     /// As `next`, but the stimulus of a turn isn't written where the scheduler has it.
@@ -41,6 +82,15 @@ impl KernelFields {
             self.pending.take_first(other);
             return StepOutcome::Other;
         }
+        self.work_on(turn, other)
+    }
+
+    /// As `next_turn`, where no entry waits.
+    #[inline(always)]
+    fn work_on(&mut self, turn: &mut Turn, other: &mut Entry) -> StepOutcome
+        requires at_work { IsAtWork self.old }
+        ensures { WorksUpTo result (told_turn self.new.scheduler.kept turn.new) other.old other.new self.old self.new }
+    {
         self.pass_idle_poll();
         self.work_to_entry(turn, other)
     }

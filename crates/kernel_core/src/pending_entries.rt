@@ -215,8 +215,13 @@ impl PendingEntries {
         requires frame { input ≡ Waits.WaitingInput.Frame → length bytes.now ≤ 127 }
         ensures { self.new ≡ record self.old { input = Some (waiting_input input bytes.now) } }
     {
-        self.bytes.clear();
-        let _ = self.bytes.try_extend_from_slice(bytes);
+        // Bytes are cleared only where as many aren't put in their place.
+        if self.bytes.len() == bytes.len() {
+            self.bytes.as_mut_slice().copy_from_slice(bytes);
+        } else {
+            self.bytes.clear();
+            let _ = self.bytes.try_extend_from_slice(bytes);
+        }
         self.input = Some(input);
         self.is_any = true;
     }

@@ -1,8 +1,5 @@
-use Rattle.std.proofs.Common.{◌∙◌, ap, rules}
-use Rattle.kernel_core.proofs.Common.{KernelFields, machine_of}
-use Rattle.kernel_core.specs.Code.OpenTurns.{told_turn}
-use Rattle.kernel_core.specs.Code.Steps.{stepped}
-use Rattle.kernel_core.proofs.Reaching.{entry_is_shown, goes_after, makes_after, worked_after}
+use Rattle.std.proofs.Common.{rules}
+use Rattle.kernel_core.proofs.Reaching.{entry_is_shown}
 use Rattle.kernel_core.proofs.kernel_fields.KernelFields.next_turn.Goals as goal
 
 pub returns-then-not-is_empty : goal.returns-then-not-is_empty
@@ -12,17 +9,3 @@ returns-then-not-is_empty c = record {
   goes = λ is choices. entry_is_shown c.args.self.now c.take_first.new.self c.if-self.false c.take_first.ensures.first;
   worked = search rules;
 }
-
-pub returns : goal.returns
-returns c =
-    record {
-      awaits = λ is choices. makes_after (c.pass_idle_poll.ensures.steps.passed choices) (c.work_to_entry.ensures.awaits is choices);
-      opens = c.work_to_entry.ensures.opens;
-      goes = λ is choices. goes_after _ _ (machine_of c.work_to_entry.new.self)
-          (stepped c.work_to_entry.result (told_turn c.work_to_entry.new.self.scheduler.kept c.work_to_entry.new.turn) c.work_to_entry.new.other)
-          (ap (λ (k : KernelFields). k.halted) c.pass_idle_poll.ensures.kept ∙ c.if-self.false)
-          (c.pass_idle_poll.ensures.steps.passed choices) (c.work_to_entry.ensures.goes is choices);
-      worked =
-          worked_after c.args.self.now c.pass_idle_poll.new.self c.work_to_entry.new.self c.pass_idle_poll.ensures.kept
-          c.pass_idle_poll.ensures.steps.applications c.pass_idle_poll.ensures.work c.work_to_entry.ensures.worked;
-    }
