@@ -101,6 +101,7 @@ fn ticks(input: &Input) -> u64
 
 /// Works until there is something to report, where no turn awaits its call. Writes a turn into one buffer, and another entry
 /// into the other.
+#[inline(always)]
 fn work_in(
     kernel: &mut AwaitingKernel,
     turn: &mut Turn,
@@ -336,6 +337,7 @@ impl Session {
     }
 
     /// Works as `next`, where no turn awaits its call.
+    #[inline(always)]
     fn advance(&mut self) -> Next
         requires { self.old.turn ≡ None }
         ensures advances { Advances result self.old self.new }
@@ -760,6 +762,7 @@ impl Session {
     /// # Errors
     ///
     /// `NoLine` exactly where no entry was made, or the last turn awaits its call.
+    #[inline(always)]
     pub fn push_line<const CAPACITY: usize>(
         &self,
         line: &mut TextBuffer<CAPACITY>,
