@@ -129,7 +129,7 @@ impl AwaitingKernel {
     }
 
     /// The second half: executes the call of the application whose turn it is.
-    #[inline]
+    #[inline(always)]
     pub fn submit(&mut self, pid: Pid, call: &Call)
         requires open { self.old.turn ≡ Some pid }
         ensures machine { self.new.mote.machine ≡ after_call call.now pid.0 self.old.mote.machine }
@@ -140,7 +140,7 @@ impl AwaitingKernel {
         ensures inputs { self.new.mote.inputs ≡ self.old.mote.inputs }
         ensures left { self.new.mote.entries_left ≤ self.old.mote.entries_left + 1 }
     {
-        self.fields.execute_call(pid, call);
+        self.fields.execute_or_wait(pid, call);
         self.turn = None;
     }
 

@@ -5,7 +5,7 @@ ghost use Rattle.mote_types.specs.declared.event.Stimulus.{Stimulus as Received}
 ghost use Rattle.mote_types.specs.declared.reply.Reply.{Reply as Answered};
 ghost use Rattle.kernel_core.specs.Calls.{after_call};
 ghost use Rattle.kernel_core.specs.Code.OpenTurns.{IsMidTurn, WorksUpTo, told_turn};
-ghost use Rattle.kernel_core.specs.Code.View.{entries_left_in, machine_of, IsAtWork, IsInOrder};
+ghost use Rattle.kernel_core.specs.Code.View.{entries_left_in, machine_of, IsAtTurn, IsAtWork, IsCarriedOut, IsInOrder};
 
 use crate::kernel_fields::KernelFields;
 use crate::step::StepOutcome;
@@ -106,6 +106,45 @@ impl KernelFields {
         ensures applications { self.new.scheduler.state.applications ≡ self.old.scheduler.state.applications }
         ensures inputs { self.new.inputs ≡ self.old.inputs }
         ensures left { entries_left_in self.new ≤ entries_left_in self.old + 1 }
+    {
+        self.dispatch(pid, call);
+    }
+
+    /// As `execute_call`. A wait, which ends most activations, saves no registers.
+    #[inline(always)]
+    pub fn execute_or_wait(&mut self, pid: Pid, call: &Call)
+        requires open { IsMidTurn pid self.old }
+        ensures machine { machine_of self.new ≡ after_call call.now pid.0 (machine_of self.old) }
+        ensures order { IsInOrder self.new }
+        ensures running { self.new.halted ≡ false }
+        ensures clock { self.new.clock ≡ self.old.clock }
+        ensures applications { self.new.scheduler.state.applications ≡ self.old.scheduler.state.applications }
+        ensures inputs { self.new.inputs ≡ self.old.inputs }
+        ensures left { entries_left_in self.new ≤ entries_left_in self.old + 1 }
+    {
+        self.carry_out(pid, call);
+    }
+
+    /// As `dispatch`, which is called for anything but a wait.
+    #[inline(always)]
+    fn carry_out(&mut self, pid: Pid, call: &Call)
+        requires at_turn { IsAtTurn pid self.old }
+        ensures machine { machine_of self.new ≡ after_call call.now pid.0 (machine_of self.old) }
+        ensures kept { IsCarriedOut self.old self.new }
+    {
+        if let Call::Wait = call {
+            self.scheduler.waited(pid);
+        } else {
+            self.carry_out_call(pid, call);
+        }
+    }
+
+    /// As `dispatch`.
+    #[inline(never)]
+    fn carry_out_call(&mut self, pid: Pid, call: &Call)
+        requires at_turn { IsAtTurn pid self.old }
+        ensures machine { machine_of self.new ≡ after_call call.now pid.0 (machine_of self.old) }
+        ensures kept { IsCarriedOut self.old self.new }
     {
         self.dispatch(pid, call);
     }
