@@ -378,6 +378,8 @@ impl Network {
     }
 
     /// Tells a mote the time.
+    // What it returns isn't read back from memory where it is inlined.
+    #[inline(always)]
     fn tell_time(&mut self, m: usize) -> Result<Outcome, NetworkFault>
         requires closed { self.old.active ≡ None }
         requires within { m < length self.old.motes }
