@@ -1,9 +1,14 @@
--- Examples: lines of a dump, and the times that it spans.
-use Rattle.std.proofs.Common.{◌≡◌, ◌*◌, ℕ, List, [], ◌∷◌, codes, refl, arith}
+-- Examples: lines of a dump, the times that it spans, and lines that are told.
+use Rattle.std.proofs.Common.{◌≡◌, ◌*◌, ℕ, Some, None, List, [], ◌∷◌, codes, refl, subst, arith}
 use Rattle.std.specs.Fmt.{digits}
+use Rattle.pictures.specs.Clocks.{clock_at}
+use Rattle.pictures.specs.Rows.{text_at}
 use Rattle.pictures.specs.declared.dump.values.Value.{Value}
-use Rattle.pictures.specs.Dump.{AreChanges, Spans, time_line, value_line}
+use Rattle.pictures.specs.declared.transcript.line.Input.{Input}
+use Rattle.pictures.specs.declared.transcript.line.Line.{Line}
+use Rattle.pictures.specs.Dump.{AreChanges, IsTold, Spans, moment, time_line, value_line}
 use Rattle.pictures.specs.Dump.AreChanges.{begun, later, set}
+use Rattle.pictures.specs.Dump.HasAt.{given, later as after}
 use Rattle.pictures.specs.declared.rows.Shown.{Shown}
 
 time : time_line 120 ≡ codes "#120\n"
@@ -33,14 +38,40 @@ changes : AreChanges 50 60 (codes "#50\nbz !\n#60\n")
 unfolding digits
 changes = later (set (begun 50) Value.Nothing 0 (omega arith)) 60 (omega arith)
 
-spans : Spans lines shown 50 60
-spans = record { units = 10; some = omega arith; begins = refl; ends = omega arith }
+-- no process takes its turn there
+told : IsTold 50 60 (codes "> tick 5") (codes "#50\nbz !\n#60\n")
+unfolding digits
+told = record {
+  reading = Some (Line.Input (Input.Tick 5));
+  reads = (refl, refl);
+  before = None;
+  told = after (given (begun 50) (omega arith)) 60 (omega arith);
+}
+
+spans : Spans lines shown 50 60 (codes "#50\nbz !\n#60\n")
+spans = record {
+  units = 10;
+  some = omega arith;
+  begins = refl;
+  ends = omega arith;
+  told = λ few line begins inside early.
+      let first : 0 ≡ line = omega arith in
+      subst (λ line. IsTold (moment (clock_at lines) 10 line) 60 (text_at lines line) (codes "#50\nbz !\n#60\n")) first told;
+}
 
 -- nothing after the line, and a dump of no lines, which begins at 0
-too_short : Spans lines shown 50 50 → ⊥
-too_short spans =
+too_short : (values : List ℕ) → Spans lines shown 50 50 values → ⊥
+too_short values spans =
     let begins : 50 ≡ spans.units * 5 = omega (arith, spans.begins) in
     absurd (omega (arith, begins, spans.ends))
 
-too_early : Spans lines shown 0 60 → ⊥
-too_early spans = absurd (omega (arith, spans.begins, spans.some))
+too_early : (values : List ℕ) → Spans lines shown 0 60 values → ⊥
+too_early values spans = absurd (omega (arith, spans.begins, spans.some))
+
+-- lines at one clock stand one behind the other
+second : moment (λ line. 5) 10 2 ≡ 52
+second = refl
+
+-- a later clock begins anew
+apart : moment (λ line. line) 10 2 ≡ 20
+apart = refl

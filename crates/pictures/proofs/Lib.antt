@@ -28,8 +28,10 @@ pub mod RowTitles
 pub mod Says
 pub mod Spanned
 mod TitleExamples
+pub mod Told
 pub mod TurnParts
 pub mod Waits
 pub mod Walked
 mod WordExamples
 pub mod WordForms
+pub mod Written

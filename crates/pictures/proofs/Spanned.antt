@@ -1,10 +1,33 @@
--- The values of a dump span the lines that are shown.
-use Rattle.std.proofs.Common.{◌≡◌, ◌∙◌, ℕ, ◌+◌, ◌-◌, ◌<◌, ◌≤◌, List, get_or, map, ap, subst, arith}
+-- The values of a dump span the lines that are shown, and each of these is told at its time.
+use Rattle.std.proofs.Common.{◌≡◌, ◌∙◌, ℕ, zero, suc, false, ◌+◌, ◌-◌, ◌*◌, ◌^◌, ◌<◌, ◌≤◌, ◌==◌, min, List, get_or, map, length, refl, sym, ap, ap₂, subst, arith}
 use Rattle.std.specs.List.{range_with_len}
+use Rattle.std.proofs.lemmas.Bool.Decides.{nat_tests}
 use Rattle.std.proofs.lemmas.List.FromFn.{get_or-map-range_with_len}
-use Rattle.pictures.specs.Clocks.{clock_at}
-use Rattle.pictures.specs.Dump.{Spans, time_at}
+use Rattle.pictures.specs.Clocks.{LieBetween, clock_at}
+use Rattle.pictures.specs.Code.Dump.{HasRoom}
+use Rattle.pictures.specs.Dump.{IsTold, Spans, lines_before, moment, time_at}
+use Rattle.pictures.specs.Rows.{text_at}
 use Rattle.pictures.specs.declared.rows.Shown.{Shown}
+use Rattle.pictures.proofs.Clocks.{clock_grows}
+
+-- no line before the first one is at its clock
+starts : (all : ℕ → ℕ) (first : ℕ) → ((line : ℕ) → line < first → all line < all first) → lines_before all first ≡ 0
+starts all zero less = refl
+starts all (suc line) less =
+    let order = less line (omega arith) in
+    let other : (all line == all (suc line)) ≡ false = grind (arith, nat_tests, order) in
+    rw other refl
+
+module _ (all some : ℕ → ℕ) (first count : ℕ) (begins : lines_before all first ≡ 0)
+    (same : (index : ℕ) → index < count → some index ≡ all (first + index)) where
+  shifted : (index : ℕ) → index < count → lines_before some index ≡ lines_before all (first + index)
+  shifted zero inside = let one : first ≡ first + 0 = omega arith in subst (λ n. 0 ≡ lines_before all n) one (sym begins)
+  shifted (suc index) inside =
+      let next : suc (first + index) ≡ first + suc index = omega arith in
+      let here = same index (omega (arith, inside)) in
+      let there = same (suc index) inside ∙ ap all (sym next) in
+      subst (λ n. lines_before some (suc index) ≡ lines_before all n) next
+      (rw (here, there, shifted index (omega (arith, inside))) refl)
 
 module _ (lines : List (List ℕ)) (shown : Shown) (count : ℕ) (all clocks : List ℕ)
     (are_clocks : all ≡ map (clock_at lines) (range_with_len 0 count)) (there : shown.end ≤ count)
@@ -14,9 +37,53 @@ module _ (lines : List (List ℕ)) (shown : Shown) (count : ℕ) (all clocks : L
       those index inside ∙ ap (λ all. get_or all (shown.first + index) 0) are_clocks
       ∙ get_or-map-range_with_len (clock_at lines) 0 count (shown.first + index) (shown.first + index) 0 (omega arith) (omega arith)
 
-  pub spanned : (units first last : ℕ) → 0 < units → first ≡ time_at units (get_or clocks 0 0)
-      → time_at units (get_or clocks (shown.end - shown.first - 1) 0 + 1) ≤ last → shown.first < shown.end → Spans lines shown first last
-  spanned units first last some begins ends order =
+  module _ (from to units most last : ℕ) (between : LieBetween lines from to shown) (values : List ℕ) (texts : ℕ → List ℕ)
+      (order : shown.first < shown.end) (few : most ≤ shown.end - shown.first) (whole : count ≡ length lines)
+      (counted : (line : ℕ) → line < shown.end - shown.first
+      → min (lines_before (λ line. get_or clocks line 0) line + 1) (2 ^ 64 - 1) ≤ most)
+      (fits : most < 10 ^ 15 → most < units)
+      (those_texts : (index : ℕ) → index < shown.end - shown.first → texts index ≡ text_at lines (shown.first + index))
+      (told : HasRoom (λ line. get_or clocks line 0) units (shown.end - shown.first) → (line : ℕ) → line < shown.end - shown.first
+      → moment (λ line. get_or clocks line 0) units line < 2 ^ 64 - 1
+      → IsTold (moment (λ line. get_or clocks line 0) units line) last (texts line) values) where
+    begins_at : lines_before (clock_at lines) shown.first ≡ 0
+    begins_at =
+        starts (clock_at lines) shown.first
+        (λ line before. omega (arith, between.before line before, between.within shown.first (omega arith) order))
+
+    room : length lines < 10 ^ 15 → HasRoom (λ line. get_or clocks line 0) units (shown.end - shown.first)
+    room small = record {
+      grow = λ line inside.
+          rw (clock_is line (omega (arith, inside)), clock_is (suc line) inside)
+          (clock_grows lines (shown.first + line) (shown.first + suc line) (omega arith));
+      fits = λ line inside. omega (arith, counted line inside, fits (omega (arith, few, whole, there, small)), few, whole, there, small);
+    }
+
+    moment_is : (index : ℕ) → index < shown.end - shown.first
+        → moment (λ line. get_or clocks line 0) units index ≡ moment (clock_at lines) units (shown.first + index)
+    moment_is index inside =
+        ap₂ (λ clock before. clock * units + before) (clock_is index inside)
+        (shifted (clock_at lines) (λ line. get_or clocks line 0) shown.first (shown.end - shown.first) begins_at clock_is index inside)
+
+    pub told_at : length lines < 10 ^ 15 → (line : ℕ) → shown.first ≤ line → line < shown.end
+        → moment (clock_at lines) units line < 2 ^ 64 - 1
+        → IsTold (moment (clock_at lines) units line) last (text_at lines line) values
+    told_at small line begins inside early =
+        let index = line - shown.first in
+        let is : shown.first + index ≡ line = omega (arith, begins) in
+        let within : index < shown.end - shown.first = omega (arith, begins, inside) in
+        let at = moment_is index within ∙ ap (moment (clock_at lines) units) is in
+        let text = those_texts index within ∙ ap (text_at lines) is in
+        subst (λ text. IsTold (moment (clock_at lines) units line) last text values) text
+        (subst (λ time. IsTold time last (texts index) values) at (told (room small) index within (omega (arith, at, early))))
+
+  pub spanned : (units first last : ℕ) (values : List ℕ) → 0 < units → first ≡ time_at units (get_or clocks 0 0)
+      → time_at units (get_or clocks (shown.end - shown.first - 1) 0 + 1) ≤ last
+      → (shown.first < shown.end → length lines < 10 ^ 15 → (line : ℕ) → shown.first ≤ line → line < shown.end
+      → moment (clock_at lines) units line < 2 ^ 64 - 1
+      → IsTold (moment (clock_at lines) units line) last (text_at lines line) values)
+      → shown.first < shown.end → Spans lines shown first last values
+  spanned units first last values some begins ends told order =
       let at_last = shown.end - shown.first - 1 in
       let one : shown.first + 0 ≡ shown.first = omega arith in
       let other : shown.first + at_last ≡ shown.end - 1 = omega arith in
@@ -26,4 +93,5 @@ module _ (lines : List (List ℕ)) (shown : Shown) (count : ℕ) (all clocks : L
         begins = begins ∙ ap (time_at units) (clock_is 0 (omega arith) ∙ ap (clock_at lines) one);
         ends = subst (λ clock. time_at units (clock + 1) ≤ last)
             (clock_is at_last (omega arith) ∙ ap (clock_at lines) other) ends;
+        told = told order;
       }

@@ -1,10 +1,11 @@
 //! All that holds at the lines of a run as a value change dump (IEEE 1364, clause 18), for the viewers of logic analysers.
 
-ghost use Rattle.std.specs.Prelude.{◌≡◌, ℕ, ◌+◌, ◌-◌, ◌<◌, ◌≤◌, ◌++◌, codes, get_or, length, map, string_bytes, IfOk};
+ghost use Rattle.std.specs.Prelude.{◌≡◌, ℕ, ◌+◌, ◌-◌, ◌^◌, ◌<◌, ◌≤◌, ◌==◌, min, if◌then◌else◌, Some, ◌++◌, codes, get_or, length, map, string_bytes, IfOk};
 ghost use Rattle.std.specs.List.{range_with_len};
 ghost use Rattle.pictures.specs.Clocks.{clock_at};
-ghost use Rattle.pictures.specs.Dump.{IsDump, time_at};
-ghost use Rattle.pictures.specs.Rows.{bytes_of};
+ghost use Rattle.pictures.specs.Code.Dump.{AreTold, IsCurrent, Keeps, TakesLine, Writes, first_written, lines_at, next_time};
+ghost use Rattle.pictures.specs.Dump.{IsDump, lines_before, running_value, time_at};
+ghost use Rattle.pictures.specs.Rows.{bytes_of, text_at};
 
 mod changes;
 mod declarations;
@@ -46,8 +47,23 @@ fn clocks_of(facts: &Facts, shown: Shown) -> &[u64]
     &facts.marks.clocks.as_slice()[shown.first..shown.end]
 }
 
+/// The lines in the dump.
+fn lines_of<'a, 'b>(lines: &'a [&'b str], shown: Shown) -> &'a [&'b str]
+    requires order { shown.first ≤ shown.end }
+    requires there { shown.end ≤ length lines.now }
+    ensures all { length result.now ≡ shown.end - shown.first }
+    ensures lines { (index : ℕ) → index < shown.end - shown.first
+        → text_at (bytes_of result.now) index ≡ text_at (bytes_of lines.now) (shown.first + index) }
+{
+    &lines[shown.first..shown.end]
+}
+
 /// The largest number of lines at one clock.
-fn most_at_once(clocks: &[u64]) -> u64 {
+fn most_at_once(clocks: &[u64]) -> u64
+    ensures few { result ≤ length clocks.now }
+    ensures all { (line : ℕ) → line < length clocks.now
+        → min (lines_before (λ line. get_or clocks.now line 0) line + 1) (2 ^ 64 - 1) ≤ result }
+{
     let mut most: u64 = 0;
     let mut count: u64 = 0;
     let mut before = None;
@@ -79,19 +95,26 @@ struct Walk {
 
 impl Walk {
     /// Writes the value of the signal at a position among all, where it has changed.
+    #[tactic(auto, using(crate::proofs::Written::writes_none))]
     fn write(&mut self, index: usize) -> Result<(), AllocError>
+        requires { IsCurrent self.old }
+        ensures levels { self.new.levels ≡ self.old.levels }
         ensures clock { self.new.clock ≡ self.old.clock }
         ensures scale { self.new.scale ≡ self.old.scale }
+        ensures lines { self.new.lines_at_clock ≡ self.old.lines_at_clock }
         ensures first { self.new.dump.first ≡ self.old.dump.first }
+        ensures writes { IfOk result (λ _. Writes self.old self.new) }
+        ensures value { IfOk result (λ _. first_written self.new
+            ≡ (if index == 0 then Some (running_value self.old.levels.running) else first_written self.old)) }
     {
-        let value = self.levels.value(Signal::at(index));
-        let Some(written) = self.written.get_mut(index) else {
-            return Ok(());
-        };
-        if *written == Some(value) {
+        if index >= SIGNALS {
             return Ok(());
         }
-        *written = Some(value);
+        let value = self.levels.value(Signal::at(index));
+        if self.written[index] == Some(value) {
+            return Ok(());
+        }
+        self.written[index] = Some(value);
         let time = self.clock.saturating_mul(self.scale.units);
         self.dump.go_to(time.saturating_add(self.lines_at_clock))?;
         self.dump.set(index as u8, value)
@@ -99,9 +122,14 @@ impl Walk {
 
     /// Writes the values that have changed at the present time.
     fn write_all(&mut self) -> Result<(), AllocError>
+        requires { IsCurrent self.old }
+        ensures levels { self.new.levels ≡ self.old.levels }
         ensures clock { self.new.clock ≡ self.old.clock }
         ensures scale { self.new.scale ≡ self.old.scale }
+        ensures lines { self.new.lines_at_clock ≡ self.old.lines_at_clock }
         ensures first { self.new.dump.first ≡ self.old.dump.first }
+        ensures writes { IfOk result (λ _. Writes self.old self.new) }
+        ensures value { IfOk result (λ _. first_written self.new ≡ Some (running_value self.old.levels.running)) }
     {
         for index in 0..self.applications.saturating_add(COMMON) {
             self.write(index)?;
@@ -111,25 +139,45 @@ impl Walk {
 
     /// No line is left at this clock.
     fn rest(&mut self) -> Result<(), AllocError>
+        requires { IsCurrent self.old }
         ensures clock { self.new.clock ≡ self.old.clock }
         ensures scale { self.new.scale ≡ self.old.scale }
         ensures first { self.new.dump.first ≡ self.old.dump.first }
+        ensures lines { self.new.lines_at_clock ≡ self.old.lines_at_clock }
+        ensures writes { IfOk result (λ _. Writes self.old self.new) }
     {
         self.levels.rest();
         self.write_all()
     }
 
-    /// A line at a clock, after these changes.
-    fn take_line(&mut self, line: &str, clock: u64) -> Result<(), AllocError>
+    /// Goes on to a clock.
+    #[tactic(auto, using(crate::proofs::Written::writes_none))]
+    fn go_on(&mut self, clock: u64) -> Result<(), AllocError>
+        requires { IsCurrent self.old }
         ensures clock { IfOk result (λ _. self.new.clock ≡ clock) }
         ensures scale { self.new.scale ≡ self.old.scale }
         ensures first { self.new.dump.first ≡ self.old.dump.first }
+        ensures lines { IfOk result (λ _. self.new.lines_at_clock ≡ lines_at self.old clock) }
+        ensures writes { IfOk result (λ _. Writes self.old self.new) }
     {
-        if clock != self.clock {
-            self.rest()?;
-            self.clock = clock;
-            self.lines_at_clock = 0;
+        if clock == self.clock {
+            return Ok(());
         }
+        self.rest()?;
+        self.clock = clock;
+        self.lines_at_clock = 0;
+        Ok(())
+    }
+
+    /// A line at a clock, after these changes.
+    fn take_line(&mut self, line: &str, clock: u64) -> Result<(), AllocError>
+        requires { IsCurrent self.old }
+        ensures clock { IfOk result (λ _. self.new.clock ≡ clock) }
+        ensures scale { self.new.scale ≡ self.old.scale }
+        ensures first { self.new.dump.first ≡ self.old.dump.first }
+        ensures takes { IfOk result (λ _. TakesLine line.now clock self.old self.new) }
+    {
+        self.go_on(clock)?;
         self.levels.take_line(line);
         self.write_all()?;
         self.lines_at_clock = self.lines_at_clock.saturating_add(1);
@@ -138,9 +186,11 @@ impl Walk {
 
     /// The last clock passes.
     fn finish(&mut self) -> Result<(), AllocError>
-        requires { 0 < self.old.scale.units }
+        requires scale { 0 < self.old.scale.units }
+        requires current { IsCurrent self.old }
         ensures first { self.new.dump.first ≡ self.old.dump.first }
         ensures last { IfOk result (λ _. time_at self.old.scale.units (self.old.clock + 1) ≤ self.new.dump.last) }
+        ensures keeps { IfOk result (λ _. Keeps (next_time self.old) self.old.dump self.new.dump) }
     {
         self.rest()?;
         let end = self.clock.saturating_add(1);
@@ -171,9 +221,13 @@ fn walk_over(
     requires begun { walk.old.clock ≡ get_or clocks.now 0 0 }
     requires lines { length lines.now ≡ length clocks.now }
     requires scale { 0 < walk.old.scale.units }
+    requires current { IsCurrent walk.old }
+    requires starts { (walk.old.lines_at_clock ≡ 0) × (walk.old.dump.last ≡ time_at walk.old.scale.units walk.old.clock) }
     ensures first { walk.new.dump.first ≡ walk.old.dump.first }
     ensures last { IfOk result
         (λ _. time_at walk.old.scale.units (get_or clocks.now (length clocks.now - 1) 0 + 1) ≤ walk.new.dump.last) }
+    ensures told { IfOk result (λ _. AreTold (λ line. get_or clocks.now line 0) walk.old.scale.units (length clocks.now)
+        (text_at (bytes_of lines.now)) walk.new.dump) }
 {
     let mut left = changes;
     for index in 0..lines.len() {
@@ -221,7 +275,7 @@ fn dump_of(
         clock,
         lines_at_clock: 0,
     };
-    let lines = &lines[shown.first..shown.end];
+    let lines = lines_of(lines, shown);
     walk_over(&mut walk, lines, shown, clocks, changes.as_slice())?;
     let _span = walk.dump.span();
     let head = declarations(alloc, scale, settings.names, applications)?;
@@ -229,7 +283,7 @@ fn dump_of(
 }
 
 /// The dump of a run, from the lines of its transcript: declarations, and values at times that never go back, from the clock of the
-/// first line that is shown to a tick after the last one's.
+/// first line that is shown to a tick after the last one's. At each of these lines' times it says which process takes its turn.
 ///
 /// # Errors
 ///

@@ -1,6 +1,6 @@
 //! The declarations of a dump.
 
-ghost use Rattle.std.specs.Prelude.{◌<◌};
+ghost use Rattle.std.specs.Prelude.{◌<◌, ◌^◌};
 
 use crate::dump::signal::{COMMON, SIGNALS, Signal};
 use std::alloc::{AllocError, Global};
@@ -35,7 +35,8 @@ pub(crate) struct Scale {
 impl Scale {
     /// The scale, by the largest number of lines at one clock.
     pub(crate) fn of(most: u64) -> Scale
-        ensures { 0 < result.units }
+        ensures some { 0 < result.units }
+        ensures room { most < 10 ^ 15 → most < result.units }
     {
         let mut scale = Scale { unit: 1, units: 10 };
         for _unit in 2..UNITS.len() {

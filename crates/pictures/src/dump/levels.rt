@@ -1,7 +1,10 @@
 //! What holds at a line, as the values of the signals.
 
-ghost use Rattle.std.specs.Prelude.{◌≡◌};
+ghost use Rattle.std.specs.Prelude.{◌≡◌, Option};
+ghost use Rattle.pictures.specs.Dump.{IsReading, running_after, running_value};
 ghost use Rattle.pictures.specs.Levels as spec;
+ghost use Rattle.pictures.specs.declared.dump.signal.Signal.{Signal};
+ghost use Rattle.pictures.specs.declared.transcript.line.Line.{Line};
 
 use crate::dump::changes::{Change, LEVELS, Level};
 use crate::dump::signal::Signal;
@@ -58,7 +61,9 @@ impl Levels {
     }
 
     /// Advances to a line.
-    pub(crate) fn take_line(&mut self, line: &str) {
+    pub(crate) fn take_line(&mut self, line: &str)
+        ensures { (reading : Option Line) × IsReading line.now reading × (self.new.running ≡ running_after reading self.old.running) }
+    {
         self.rests = false;
         match read_line(line) {
             Some(Line::Turn(turn)) => self.running = Some(turn.pid),
@@ -83,7 +88,9 @@ impl Levels {
         }
     }
 
-    pub(crate) fn value(&self, signal: Signal) -> Value {
+    pub(crate) fn value(&self, signal: Signal) -> Value
+        ensures { signal ≡ Signal.Running → result ≡ running_value self.now.running }
+    {
         match signal {
             Signal::Running => match self.running {
                 Some(pid) => Value::Number(pid as u64),

@@ -1,5 +1,8 @@
 //! The signals of a dump.
 
+ghost use Rattle.std.specs.Prelude.{◌≡◌};
+ghost use Rattle.pictures.specs.declared.dump.signal.Signal.{Signal};
+
 /// The first process that is an application.
 pub(crate) const FIRST: usize = 4;
 
@@ -31,7 +34,9 @@ pub(crate) const COMMON: usize = 5;
 
 impl Signal {
     /// The signal at a position among all.
-    pub(crate) fn at(index: usize) -> Signal {
+    pub(crate) fn at(index: usize) -> Signal
+        ensures { index ≡ 0 → result ≡ Signal.Running }
+    {
         match index {
             0 => Signal::Running,
             1 => Signal::Queue,

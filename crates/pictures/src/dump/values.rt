@@ -1,7 +1,7 @@
 //! The values of a dump: ascending times, and after each of them the values that change there.
 
-ghost use Rattle.std.specs.Prelude.{◌≡◌, ◌⊎◌, ◌++◌, ◌<◌, ◌≤◌, IfOk};
-ghost use Rattle.pictures.specs.Dump.{AreChanges, Values, time_line, value_digits, value_line};
+ghost use Rattle.std.specs.Prelude.{◌≡◌, ◌++◌, ◌<◌, IfOk};
+ghost use Rattle.pictures.specs.Dump.{AreChanges, Values, gone_to, time_line, value_digits, value_line};
 
 use itoa::Buffer;
 use std::alloc::{AllocError, Global};
@@ -74,6 +74,7 @@ impl Dump {
     /// A dump that begins at a time.
     pub(crate) fn new(alloc: Global, time: u64) -> Result<Self, AllocError>
         ensures first { IfOk result (λ dump. dump.first ≡ time) }
+        ensures last { IfOk result (λ dump. dump.last ≡ time) }
         ensures text { IfOk result (λ dump. dump.text ≡ time_line time) }
     {
         let mut bytes = Vec::new(alloc);
@@ -89,8 +90,7 @@ impl Dump {
     /// What follows is at that time, or at the time before where that is later.
     pub(crate) fn go_to(&mut self, time: u64) -> Result<(), AllocError>
         ensures first { self.new.first ≡ self.old.first }
-        ensures last { IfOk result (λ _. time ≤ self.new.last) }
-        ensures text { IfOk result (λ _. (self.new.text ≡ self.old.text) ⊎ (self.new.text ≡ self.old.text ++ time_line time)) }
+        ensures values { IfOk result (λ _. self.new ≡ gone_to self.old time) }
     {
         if time <= self.last {
             return Ok(());
@@ -106,7 +106,8 @@ impl Dump {
     pub(crate) fn set(&mut self, signal: u8, value: Value) -> Result<(), AllocError>
         requires { signal < 94 }
         ensures first { self.new.first ≡ self.old.first }
-        ensures text { IfOk result (λ _. self.new.text ≡ self.old.text ++ value_line value signal) }
+        ensures values { IfOk result (λ _. self.new ≡ record self.old { text = self.old.text ++ value_line value signal }) }
+        ensures before { AreChanges self.old.first self.old.last self.old.text }
     {
         let mut line = Vec::new(self.alloc);
         push_value(self.alloc, &mut line, value, signal)?;

@@ -1,5 +1,8 @@
-use Rattle.std.proofs.Common.{◌<◌}
+use Rattle.std.proofs.Common.{◌≡◌, ◌⊎◌, ◌*◌, ◌^◌, ◌<◌}
 use Rattle.pictures.proofs.dump.declarations.Scale.of.Given as goal
 
 abbrev pub invariant-loop-unit : goal.invariant-loop-unit
-invariant-loop-unit l = 0 < l.scale.units
+invariant-loop-unit l = record {
+  some : 0 < l.scale.units;
+  room : (l.most < l.scale.units) ⊎ (l.scale.units * 10 ≡ 10 ^ l._unit);
+}
