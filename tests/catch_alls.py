@@ -9,7 +9,7 @@ ANY = re.compile(r"_|[a-z]\w*")
 # What says no for all but these calls.
 ONLY = re.compile(r"\bmatches!\([^;]*?, *Call::|\blet (?:\w+\()?Call::")
 # What does one call at once and passes each other one on whole, to where it is asked again.
-PASSED_ON = re.compile(r"\bif let Call::\w+ = (\w+) \{[^{}]*\}\s*\w+\((?:[^()]*, )?\1\)\s*\}")
+PASSED_ON = re.compile(r"\bif let Call::\w+ = (\w+) \{[^{}]*\}(?: else \{)?\s*(?:self\.)?\w+\((?:[^()]*, )?\1\);?\s*\}")
 # What puts one call where another one is.
 PUT_ANEW = re.compile(r"\bif !matches!\((\w+), (Call::\w+)\) \{\s*\*\1 = \2;\s*\}")
 COMMENT_OR_LITERAL = re.compile(r"//.*|\"(?:\\.|[^\"\\])*\"|'(?:\\.|[^'\\])'")
