@@ -120,6 +120,12 @@ def test_streams_that_fail(contiki: Contiki, words: list[str | Path]) -> None:
         assert (ran.returncode, ran.stderr) == (status, f"contiki: {what} failed\n".encode()), output_of(ran)
 
 
+def test_streams_of_a_built_program(blinker: Path) -> None:
+    for redirection, status, what in (("<&-", 5, "read"), ("</", 5, "read"), (">&-", 6, "write"), (">/dev/full", 6, "write")):
+        ran = with_stream(redirection, blinker)
+        assert (ran.returncode, ran.stderr) == (status, f"contiki: {what} failed\n".encode()), output_of(ran)
+
+
 @pytest.mark.parametrize("word", ["--help", "--version"])
 def test_help_that_can_not_be_written(word: str) -> None:
     for redirection in (">&-", ">/dev/full"):

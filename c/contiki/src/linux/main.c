@@ -4,6 +4,7 @@
 
 #include "../record.h"
 
+#include <fcntl.h>
 #include <stdlib.h>
 #include <unistd.h>
 
@@ -229,17 +230,18 @@ test_status(void)
   return runs == 0 || failures > 0 ? STATUS_STOPPED : STATUS_FINISHED;
 }
 
-/* Opens the script that is named. */
+/* Opens the script that is named. Standard input that is closed can't be read: otherwise the next file that is opened would be taken for
+ * it. Unit tests need none. */
 static int
-open_script(const char *name)
+open_script(const struct words *words)
 {
   FILE *file;
-  if(name == NULL) {
-    return STDIN_FILENO;
+  if(words->script == NULL) {
+    return fcntl(STDIN_FILENO, F_GETFD) < 0 && !words->is_test ? -1 : STDIN_FILENO;
   }
-  file = fopen(name, "r");
+  file = fopen(words->script, "r");
   if(file == NULL) {
-    give_up(STATUS_READ_FAILED, "%s: no such file", name);
+    give_up(STATUS_READ_FAILED, "%s: no such file", words->script);
   }
   return fileno(file);
 }
@@ -298,7 +300,7 @@ main(int count, char **word)
   if(words.asks_for_names) {
     return print_names();
   }
-  script = open_script(words.script);
+  script = open_script(&words);
   open_run(&words, script);
   begin_transcript(words.configuration.quiet != 0, words.is_text);
   watch_for_faults();
