@@ -1,6 +1,6 @@
 //! The fields of a kernel, and how they change.
 
-ghost use Rattle.std.specs.Prelude.{◌≡◌, ◌<◌, ◌≤◌, ◌+◌, ℕ, true, false, Some};
+ghost use Rattle.std.specs.Prelude.{◌≡◌, ◌<◌, ◌≤◌, ◌+◌, ℕ, true, false, Some, IfNone, IfSome};
 ghost use Rattle.mote_types.specs.declared.call.Call.{Call as AnyCall};
 ghost use Rattle.mote_types.specs.declared.event.Origin.{Origin as Source};
 ghost use Rattle.mote_types.specs.declared.event.Pid.{Pid as Process};
@@ -18,7 +18,7 @@ use crate::pending_entries::PendingEntries;
 use device_core::packet_queue::PacketQueue;
 use device_core::serial_line::SerialLine;
 use mote_types::entry::Entry;
-use mote_types::event::Stimulus;
+use mote_types::event::{Pid, Stimulus};
 use node_memory::NodeMemory;
 use process_core::next_job::NextJob;
 use process_core::scheduler::Scheduler;
@@ -108,5 +108,20 @@ impl KernelFields {
         ensures fit { IsFitJob (job_in result self.new.scheduler.kept apart.new) self.old self.new }
     {
         self.scheduler.next_in_place(apart)
+    }
+
+    /// As `next_job`, where a process takes a turn with the reply that it gets. Otherwise nothing changes: then `None`.
+    #[inline(always)]
+    pub fn next_answer(&mut self) -> Option<Pid>
+        requires at_work { IsAtWork self.old }
+        ensures reached { IfSome result (λ pid. (choices : Choices) (other : Received) → ComesToJob self.old.timers.value.armings choices
+            (machine_of self.old) (job_in (ready.NextJob.TakeTurn pid Source.Answer) self.new.scheduler.kept other) (machine_of self.new)) }
+        ensures taken { IfSome result (λ pid. HasTakenJob (ready.NextJob.TakeTurn pid Source.Answer) self.old self.new) }
+        ensures fit { IfSome result (λ pid. (other : Received) →
+            IsFitJob (job_in (ready.NextJob.TakeTurn pid Source.Answer) self.new.scheduler.kept other) self.old self.new) }
+        ensures none { IfNone result (self.new ≡ self.old) }
+    {
+        let pid = self.scheduler.take_answer()?;
+        Some(pid)
     }
 }

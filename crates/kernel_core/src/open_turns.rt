@@ -26,7 +26,7 @@ fn is_done(stimulus: &Stimulus) -> bool
 impl KernelFields {
     /// Works until a turn begins, which is written into `turn` without its call, until another entry is made, which is
     /// written into `other`, or until there is rest.
-    // What is inlined saves no registers for an entry that waits.
+    // What is inlined saves no registers for an entry that waits, or for a reply, which most turns begin with.
     #[inline(always)]
     pub fn next(&mut self, turn: &mut Turn, other: &mut Entry) -> StepOutcome
         requires order { IsInOrder self.old }
@@ -39,7 +39,13 @@ impl KernelFields {
             self.pending.take_first(other);
             return StepOutcome::Other;
         }
-        self.work_to_turn(turn, other)
+        let Some(outcome) = self.work_to_answer(turn, other) else {
+            return self.work_to_turn(turn, other);
+        };
+        if let StepOutcome::Turn = outcome {
+            self.write_told(turn);
+        }
+        outcome
     }
 
     /// As `next`, where no entry waits.

@@ -1,5 +1,6 @@
 //! Work until an application must take a turn, another entry is made, or nothing is left to do.
 
+ghost use Rattle.std.specs.Prelude.{◌≡◌, IfNone, IfSome};
 ghost use Rattle.kernel_core.specs.Code.OpenTurns.{WorksUpTo, told_turn};
 ghost use Rattle.kernel_core.specs.Code.View.{IsAtWork};
 
@@ -11,6 +12,23 @@ use mote_types::event::Origin;
 use process_core::next_job::NextJob;
 
 impl KernelFields {
+    /// As `work_to_entry`, where a process takes the next turn with the reply that it gets. Otherwise nothing changes: then `None`.
+    #[inline(always)]
+    pub fn work_to_answer(&mut self, turn: &mut Turn, other: &mut Entry) -> Option<StepOutcome>
+        requires at_work { IsAtWork self.old }
+        ensures works { IfSome result (λ outcome.
+            WorksUpTo outcome (told_turn self.new.scheduler.kept turn.new) other.old other.new self.old self.new) }
+        ensures none { IfNone result ((self.new ≡ self.old) × (turn.new ≡ turn.old) × (other.new ≡ other.old)) }
+    {
+        let pid = self.next_answer()?;
+        turn.pid = pid;
+        turn.origin = Origin::Answer;
+        if self.begin_turn(other) {
+            return Some(StepOutcome::Turn);
+        }
+        Some(StepOutcome::Other)
+    }
+
     /// Does one job after the other, until a turn begins, which is written into `turn` without its call, and without its stimulus where
     /// the scheduler has that, until another entry is made, which is written into `other`, or until there is rest.
     pub fn work_to_entry(&mut self, turn: &mut Turn, other: &mut Entry) -> StepOutcome

@@ -1,7 +1,8 @@
 //! The scheduler of a mote: its processes, its event queue, and the agenda of pending work.
 
-ghost use Rattle.std.specs.Prelude.{◌≡◌, ◌≤◌, ◌<◌, ◌+◌, ◌*◌, None, IfOk, IfSome, [], true, false, length};
+ghost use Rattle.std.specs.Prelude.{◌≡◌, ◌≤◌, ◌<◌, ◌+◌, ◌*◌, None, Some, IfNone, IfOk, IfSome, [], true, false, length};
 ghost use Rattle.mote_types.specs.declared.event.Event.{Event};
+ghost use Rattle.mote_types.specs.declared.event.Origin.{Origin as Source};
 ghost use Rattle.mote_types.specs.declared.event.Pid.{Pid};
 ghost use Rattle.mote_types.specs.declared.event.Stimulus.{Stimulus as Received};
 ghost use Rattle.process_core.specs.Code.OpenWork.{agenda_of};
@@ -23,7 +24,7 @@ use crate::scheduler_fields::SchedulerFields;
 use crate::walk::Walk;
 use arrayvec::ArrayVec;
 use circular_buffer::HeapCircularBuffer;
-use mote_types::event::{FIRST_APPLICATION, FIRST_FREE, Origin, Stimulus};
+use mote_types::event::{FIRST_APPLICATION, FIRST_FREE, Origin, Pid, Stimulus};
 use mote_types::reply::Reply;
 use std::alloc::{AllocError, Global};
 use std::marker::Model;
@@ -125,6 +126,26 @@ impl Scheduler {
         // Does nothing: the call gives the proof the invariant of a process list, for the clause `standing`.
         self.fields.processes.each_is_once();
         ready
+    }
+
+    /// As `next_in_place`, where a process takes a turn with the reply that it gets. Otherwise nothing changes: then `None`.
+    #[inline(always)]
+    pub fn take_answer(&mut self) -> Option<Pid>
+        requires { self.old.turn ≡ None }
+        ensures job { IfSome result (λ pid. (other : Received) →
+            ComesTo self.old.state (job_in (Answer.TakeTurn pid Source.Answer) self.new.kept other) self.new.state) }
+        ensures turn { IfSome result (λ pid. self.new.turn ≡ Some pid) }
+        ensures callback { IfSome result (λ pid. self.new.callback ≡ None) }
+        ensures active { IfSome result (λ p. IsApplication self.new.state.applications p.0
+            × (is_in_activation (state_in self.new.state p.0) ≡ true)) }
+        ensures applications { self.new.state.applications ≡ self.old.state.applications }
+        ensures standing { IfSome result (λ pid. IsWellFormed self.new.state) }
+        ensures none { IfNone result (self.new ≡ self.old) }
+    {
+        let pid = self.fields.take_answer()?;
+        // As in `next_in_place`.
+        self.fields.processes.each_is_once();
+        Some(pid)
     }
 
     /// What a process receives in a turn of this origin, where this is in the buffer that `next_in_place` was passed.

@@ -1,12 +1,14 @@
 //! How open work is done.
 
-ghost use Rattle.std.specs.Prelude.{◌≡◌, ◌<◌, [], ◌∷◌, Some, IfNone, length, reverse};
+ghost use Rattle.std.specs.Prelude.{◌≡◌, ◌<◌, [], ◌∷◌, Some, IfNone, IfSome, length, reverse};
+ghost use Rattle.mote_types.specs.declared.event.Origin.{Origin as Source};
 ghost use Rattle.mote_types.specs.declared.event.Pid.{Pid as At};
 ghost use Rattle.mote_types.specs.declared.event.Stimulus.{Stimulus as Received};
 ghost use Rattle.process_core.specs.Code.Weights.{weight, weight_over};
 ghost use Rattle.process_core.specs.Code.SchedulerFields.{scheduler_of, scheduler_behind, scheduler_over, found, IsBare, IsInOrder, IsOrdered};
 ghost use Rattle.process_core.specs.Code.FindsJob.{FindsJob};
 ghost use Rattle.process_core.specs.declared.front.Front.{Front};
+ghost use Rattle.process_core.specs.declared.next_job.NextJob.{NextJob as Ready};
 ghost use Rattle.process_core.specs.declared.open_work.Base.{Base};
 ghost use Rattle.process_core.specs.declared.open_work.Continuation.{Continuation};
 
@@ -21,6 +23,23 @@ use mote_types::event::{self, Event, Origin, Payload, Pid, Stimulus};
 use mote_types::reply::Reply;
 
 impl SchedulerFields {
+    /// A process takes its turn with the reply that is stored, if that is next. Otherwise nothing changes.
+    #[inline(always)]
+    pub fn take_answer(&mut self) -> Option<Pid>
+        requires order { IsInOrder self.old }
+        ensures finds { IfSome result (λ pid. (other : Received) →
+            FindsJob (scheduler_of self.old) (Some (Ready.TakeTurn pid Source.Answer)) other self.new) }
+        ensures none { IfNone result (self.new ≡ self.old) }
+    {
+        match self.front {
+            Front::Answer(pid) => {
+                self.front = Front::Call(pid);
+                Some(pid)
+            }
+            _ => None,
+        }
+    }
+
     /// First what was reported since the last job.
     #[inline(always)]
     pub fn take_front(&mut self, stimulus: &mut Stimulus) -> Option<NextJob>
