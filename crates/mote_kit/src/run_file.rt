@@ -1,6 +1,6 @@
 //! Files with runs (`docs/scenarios.md` has the format): the runs of a file, what it says of each, whether a run came out so, and the
 //! file's lines with the results of its runs. Which applications, networks and transcripts there are, only the program that executes
-//! the runs knows: it gets the lines that say these. Its contracts promise that it is safe and that it ends.
+//! the runs knows: it gets the lines that say these.
 
 mod comparison;
 mod fault;
