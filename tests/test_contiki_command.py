@@ -273,6 +273,29 @@ def test_unproved_library_of_a_tree(tree: Path, toarmuts_library: Path) -> None:
     assert ran.stderr == b"contiki: this run is unproved; ./prove toarmuts proves and builds the library\n"
 
 
+# A script that waits until it is interrupted, and then ends with a status, as those in Python and those that start Python do.
+WAITS = """#!/bin/bash
+trap 'exit {}' INT
+touch "$(dirname "$(readlink -f "$0")")/waits"
+while :; do sleep 0.1; done
+"""
+
+
+@pytest.mark.parametrize("status", [1, 130])
+@pytest.mark.parametrize("waits", ["prove", "scripts/unproved.py"])
+def test_interrupt_before_the_run(tree: Path, waits: str, status: int) -> None:
+    """Ctrl-C ends the command, also where the library is looked for or built: nothing is run, and no library is said to be missing."""
+    write_program(tree / "prove", "#!/bin/bash\nexit 1\n")
+    write_program(tree / waits, WAITS.format(status))
+    # Where this was started in the background, interrupts are passed over.
+    command = ["env", "--default-signal=INT", str(tree / "contiki"), str(HELLO)]
+    ran = subprocess.Popen(command, stdin=subprocess.DEVNULL, stdout=subprocess.PIPE, stderr=subprocess.PIPE, start_new_session=True)
+    while not (tree / waits).with_name("waits").exists():
+        time.sleep(0.05)
+    os.killpg(ran.pid, signal.SIGINT)
+    assert (*ran.communicate(timeout=60), ran.returncode) == (b"", b"", 128 + signal.SIGINT)
+
+
 def test_driver_that_a_release_keeps(tree: Path, toarmuts_library: Path, tmp_path: Path) -> None:
     """A release stores its compiled driver in the user's cache folder, if there is one. A driver that wasn't used for long is removed."""
     (tree / "library").symlink_to(toarmuts_library)

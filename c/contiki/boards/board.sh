@@ -44,7 +44,8 @@ choose_board_library() {
     fi
     [[ ! -d $root/library ]] || give_up "a release has no kernel for boards: use the repository" 69
     archive=$root/crates/toarmuts/out/$core/libtoarmuts.a
-    if ! "$root/prove" --is-current toarmuts </dev/null >/dev/null 2>&1 || ! "$root/scripts/for-cortex-m" toarmuts "$core" >/dev/null; then
+    if ! run_script "$root/prove" --is-current toarmuts >/dev/null 2>&1 ||
+        ! run_script "$root/scripts/for-cortex-m" toarmuts "$core" >/dev/null; then
         give_up "the kernel for $core is missing or older than its sources. Build it:
     ./prove toarmuts && scripts/for-cortex-m toarmuts $core" 69
     fi
