@@ -323,6 +323,17 @@ def test_picture(tree: Path, source: Path, name: str, status: int) -> None:
     assert (ran.returncode, ran.stdout.decode()) == (status, f"--heap=64 --mmem 128 -- {name}\n{2 - status}\n"), output_of(ran)
 
 
+@pytest.mark.parametrize(("removed", "size", "why"), [
+    ("", "5", "bad sizes"),
+    ("AUTOSTART_PROCESSES(&only);", "4", "no AUTOSTART_PROCESSES, so no process is started"),
+])
+def test_picture_of_nothing(tree: Path, tmp_path: Path, removed: str, size: str, why: str) -> None:
+    """Where nothing was run, nothing is drawn, and the reason is given once."""
+    write_program(tree / "mote-picture", "#!/bin/bash\necho drawn\n")
+    source = write_source(tmp_path, program_of("PROCESS_WAIT_EVENT();").replace(removed, ""))
+    assert outcome(run(tree / "contiki", "--picture", "--mmem", size, source)) == (64, "", f"contiki: {why}\n")
+
+
 # Makefiles of Contiki-NG's kind, one of them with CONTIKI elsewhere, one that asks for folders and target first, one with modules
 # that are started with the program, and one of the old Contiki's that names a program as a target alone.
 @needs("make")
