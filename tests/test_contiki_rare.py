@@ -107,10 +107,13 @@ def test_record_by_hand(contiki: Contiki, tmp_path: Path, lines: str, status: in
     assert (ran.returncode, messages(ran.stderr)) == (status, [other_sources, *wanted]), output_of(ran)
 
 
-@pytest.mark.parametrize("word", ["second", "heap", "node", "pointer"])
-def test_head_of_a_record(contiki: Contiki, tmp_path: Path, word: str) -> None:
-    """Each number of the first line must be one."""
-    (tmp_path / "record").write_text(RECORD.replace(f" {word} ", f" {word} x"), encoding="ascii")
+@pytest.mark.parametrize("old,new", [
+    ("second 128", "second x128"), ("heap 4096", "heap x4096"), ("node 0", "node x0"), ("pointer 8", "pointer x8"),
+    ("second 128", f"second {2**32 + 128}"), ("heap 4096", f"heap {2**32 + 4096}"), ("mmem 4096", f"mmem {2**64 + 4096}"),
+    ("node 0", "node 65536"), ("node 0", "node 65537")])
+def test_head_of_a_record(contiki: Contiki, tmp_path: Path, old: str, new: str) -> None:
+    """Each number of the first line must be one in its range: another one isn't taken for it."""
+    (tmp_path / "record").write_text(RECORD.replace(old, new), encoding="ascii")
     ran = contiki("--replay", tmp_path / "record", write_source(tmp_path, program_of("PROCESS_WAIT_EVENT();")))
     wanted = "this is no record: it doesn't begin with `# record 1 sources ..`"
     assert (ran.returncode, messages(ran.stderr)) == (2, [wanted]), output_of(ran)

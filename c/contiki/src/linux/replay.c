@@ -66,26 +66,36 @@ next_line(char *line)
   return true;
 }
 
+/* Reads a number below 2^32. Returns where it ends, or NULL if there is none. */
+static const char *
+read_number(const char *text, uint32_t *number)
+{
+  char *end;
+  unsigned long long read = strtoull(text, &end, 10);
+  *number = (uint32_t)read;
+  return *text >= '0' && *text <= '9' && read <= UINT32_MAX ? end : NULL;
+}
+
 static bool
 read_head(const char *line)
 {
   uint32_t *const numbers[] = {&head.facts.ticks_a_second, &head.sizes.mmem, &head.sizes.heap, &head.sizes.header,
                                &head.sizes.quota,          &head.node,       &head.long_bytes, &head.pointer_bytes};
   static const char *const names[] = {" second ", " mmem ", " heap ", " header ", " quota ", " node ", " long ", " pointer "};
-  const char *rest;
-  char *end;
+  const char *rest, *end;
+  char *end_of_sources;
   if(!begins(line, "# record 1 sources ", &rest)) {
     return false;
   }
-  head.facts.sources = strtoull(rest, &end, 16);
+  head.facts.sources = strtoull(rest, &end_of_sources, 16);
+  end = end_of_sources;
   for(unsigned i = 0; i < sizeof names / sizeof names[0]; i++) {
-    if(!begins(end, names[i], &rest) || *rest < '0' || *rest > '9') {
+    if(!begins(end, names[i], &rest) || (end = read_number(rest, numbers[i])) == NULL) {
       return false;
     }
-    *numbers[i] = (uint32_t)strtoul(rest, &end, 10);
   }
   head.sizes.has_quota = head.sizes.quota != 0;
-  return *end == '\0';
+  return *end == '\0' && head.node <= UINT16_MAX;
 }
 
 /* Begins a replay: the record has the sizes and the number of the mote. Refuses a record that can't be this program's. */
@@ -176,12 +186,12 @@ run_replay(void)
 static uint32_t
 read_value(const char *text)
 {
-  char *end;
-  unsigned long long number = strtoull(text, &end, 10);
-  if(*text < '0' || *text > '9' || *end != '\0' || number > UINT32_MAX) {
+  uint32_t number;
+  const char *end = read_number(text, &number);
+  if(end == NULL || *end != '\0') {
     stop_at_bad_line();
   }
-  return (uint32_t)number;
+  return number;
 }
 
 /* The next value of the record. Notes of a board may be before it. */
