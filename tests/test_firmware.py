@@ -332,8 +332,9 @@ def test_node(contiki: Contiki) -> None:
     alone, third = contiki(HERE / "node.c"), contiki("--node", "3", HERE / "node.c")
     for ran, text, frame in (alone, "1 0001\n", "07"), (third, "3 0003\n", "41d801cdabffff" + "0300030003000300" + "07"):
         assert f"print {text.encode().hex()}\n" in ran.stdout.decode() and f"note sent {frame}\n" in ran.stdout.decode()
-    ran = contiki("--node", "65536", HERE / "node.c")
-    assert (ran.returncode, messages(ran.stderr)) == (64, ["a mote's number is at most 65535"])
+    for number, told_as in ("65536", "a mote's number is at most 65535"), ("0", "a mote's number is at least 1"):
+        ran = contiki("--node", number, HERE / "node.c")
+        assert (ran.returncode, messages(ran.stderr)) == (64, [told_as])
 
 
 def test_value_outside_of_a_process(contiki: Contiki, tmp_path: Path) -> None:

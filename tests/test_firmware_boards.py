@@ -588,6 +588,9 @@ def test_run_at_a_terminal(contiki: Contiki, build: Builder, tmp_path: Path) -> 
     (["--board", LARGE, "-o", "image", "--header", "12"], "--header needs 16 or 8"),
     (["--board", LARGE, "-o", "image", "--quiet"], "a board writes its whole transcript: leave out --quiet"),
     (["--board", LARGE, "-o", "image", "--node", "70000"], "a mote's number is at most 65535"),
+    (["--board", LARGE, "-o", "image", "--node", f"{2**64 + 1}"], "a mote's number is at most 65535"),
+    (["--board", LARGE, "-o", "image", "--node", "00"], "a mote's number is at least 1"),
+    (["--board", LARGE, "-o", "image", "--node", "x"], "--node needs a number"),
 ])
 def test_refused(contiki: Contiki, tmp_path: Path, words: list[str], told_as: str) -> None:
     (tmp_path / "cortex-m3").mkdir()

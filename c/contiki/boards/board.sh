@@ -98,6 +98,14 @@ check_sizes() {
     ((header == 16 || header == 8)) || give_up "--header needs 16 or 8" 64
 }
 
+# Refuses a number that no mote has.
+check_node() {
+    [[ $node =~ ^0*([0-9]+)$ ]] || give_up "--node needs a number" 64
+    node=${BASH_REMATCH[1]}
+    [[ $node != 0 ]] || give_up "a mote's number is at least 1" 64
+    ((${#node} <= 5 && node <= 65535)) || give_up "a mote's number is at most 65535" 64
+}
+
 # Writes the program's settings, in C.
 write_settings() {
     local heap=4096 mmem=4096 header=16 quota='' has_quota=0 quiet=1 has_record=true runs=NULL shows=NULL i name value
@@ -112,14 +120,12 @@ write_settings() {
     done
     check_sizes
     [[ -z $quota ]] || has_quota=1
-    node=${node:-0}
-    [[ $node =~ ^[0-9]{1,5}$ ]] || node=65536
-    ((10#$node <= 65535)) || give_up "a mote's number is at most 65535" 64
+    [[ -z $node ]] || check_node
     {
         echo '#include "firmware.h"'
         echo "const struct board_settings board_settings = {"
         echo "  .sizes = {.mmem = $mmem, .heap = $heap, .header = $header, .has_quota = $has_quota, .quota = ${quota:-0}, .quiet = $quiet},"
-        echo "  .node = $((10#$node)), .has_record = $has_record, .stops_at_fault = ${stops:-false},"
+        echo "  .node = ${node:-0}, .has_record = $has_record, .stops_at_fault = ${stops:-false},"
         echo "  .run_script = $runs, .show_script_line = $shows};"
     } >"$room/settings.c"
     [[ -n $script ]] || return 0

@@ -72,6 +72,9 @@ read_valued(struct words *words, const char *option, const char *value)
 {
   if(strcmp(option, "--node") == 0) {
     words->node = read_number(option, value);
+    if(words->node == 0) {
+      give_up(STATUS_BAD_WORDS, "a mote's number is at least 1");
+    }
     if(words->node > UINT16_MAX) {
       give_up(STATUS_BAD_WORDS, "a mote's number is at most 65535");
     }
