@@ -87,6 +87,21 @@ def test_restarted_timer(contiki: Contiki, tmp_path: Path) -> None:
     assert outcome(run(built, "--text", stdin=script)) == (0, "13 1\n138 at 10: 0\n136 at 13: 1\n", "")
 
 
+def test_reset_of_a_stopped_callback(contiki: Contiki, tmp_path: Path) -> None:
+    """A callback timer that is stopped and then reset before its end calls back at that end, as in Contiki-NG; a second reset leaves it."""
+    source = write_source(tmp_path, program_of("""static struct ctimer c;
+  ctimer_set(&c, 10, called, NULL);
+  PROCESS_WAIT_EVENT();
+  ctimer_stop(&c);
+  ctimer_reset(&c);
+  printf("%d\\n", ctimer_expired(&c));
+  ctimer_reset(&c);
+  PROCESS_WAIT_EVENT();""", 'static void called(void *ptr) { printf("%lu\\n", (unsigned long)clock_time()); }'))
+    ran = contiki(source, stdin=b"tick 3\nserial 610a\ntick 6\ntick 1\n")
+    assert re.findall(r"-> (callback-.*)", ran.stdout.decode()) == ["callback-set 0 10", "callback-stop 0", "callback-set 0 7"]
+    assert b"-> print 300a\n" in ran.stdout and ran.stdout.endswith(b"-> print 31300a\n4 answer done -> wait\n"), output_of(ran)
+
+
 RESTARTED = """#include "contiki.h"
 PROCESS(first, "First");
 PROCESS(second, "Second");
@@ -263,6 +278,23 @@ def test_gap_of_the_shared_block(contiki: Contiki, tmp_path: Path) -> None:
     assert calls == ["heap-alloc 15 16", "heap-realloc 15 48", "heap-realloc 15 80", "heap-realloc 15 116"]
 
 
+def test_exit_by_a_callback_of_the_process_that_stays(contiki: Contiki, tmp_path: Path) -> None:
+    """A process whose thread has ended isn't running, so process_exit does nothing: its later callback timers still call back."""
+    source = write_source(tmp_path, program_of(
+        "static struct ctimer a, b; ctimer_set(&a, 5, called, NULL); ctimer_set(&b, 10, called, NULL);",
+        'static void called(void *ptr) { printf("%lu\\n", (unsigned long)clock_time()); process_exit(&only); }'))
+    assert outcome(contiki("--text", source, stdin=b"tick 5\ntick 5\n")) == (0, "5\n10\n", "")
+
+
+def test_zones_beside_blocks(contiki: Contiki, tmp_path: Path) -> None:
+    """A zone is reserved of what the general zone has left. Of 4,096 bytes a block of 1,000 takes 1,016, so 3,080 are left."""
+    source = write_source(tmp_path, '#include "lib/heapmem.h"\n' + program_of("""heapmem_alloc(1000);
+  printf("%d ", heapmem_zone_register("larger", 3081) == HEAPMEM_ZONE_INVALID);
+  printf("%d ", heapmem_zone_register("all", 3080));
+  printf("%d\\n", heapmem_alloc(4) == NULL);"""))
+    assert outcome(contiki("--text", source)) == (0, "1 1 1\n", "")
+
+
 ADDRESSES = {
     "::": "::", "::1": "::1", "1::": "1::", "0:0:0:0:0:0:0:0": "::", "fe80::00Ab": "fe80::ab", "1:2:3:4:5:6:7:8": "1:2:3:4:5:6:7:8",
     # One zero alone is written, and of two runs the first one is left out.
@@ -383,6 +415,29 @@ def test_counters(contiki: Contiki, tmp_path: Path) -> None:
 #include "sys/pt-sem.h"
 static void called(CC_UNUSED void *ptr, CC_UNUSED uint8_t suppressed) { }"""))
     assert outcome(contiki("--text", source)) == (0, "254 255 255 255 5 4 3 2 1 0 ", "")
+
+
+def test_intervals_of_trickle_timers(contiki: Contiki, tmp_path: Path) -> None:
+    """The first interval of a trickle timer is a random one. Each further one is twice as long, and at most the greatest (RFC 6206)."""
+    source = write_source(tmp_path, program_of("""static struct etimer t; static int i;
+  for(i = 0; i < 8; i++) {
+    trickle_timer_config(&tt[i], 16, 3, 1);
+    trickle_timer_set(&tt[i], called, (void *)(intptr_t)i);
+  }
+  etimer_set(&t, 600);
+  PROCESS_WAIT_EVENT_UNTIL(etimer_expired(&t));
+  for(i = 0; i < 8; i++) {
+    trickle_timer_stop(&tt[i]);
+  }""", """#include "lib/trickle-timer.h"
+static struct trickle_timer tt[8];
+static void called(void *ptr, CC_UNUSED uint8_t suppressed) { printf("%d %lu\\n", (int)(intptr_t)ptr, tt[(intptr_t)ptr].i_cur); }"""))
+    status, text, error = outcome(contiki("--text", source, stdin=b"tick 1\n" * 600))
+    lengths: dict[str, list[int]] = {}
+    for line in text.splitlines():
+        lengths.setdefault(line.split()[0], []).append(int(line.split()[1]))
+    assert (status, error, len(lengths)) == (0, "", 8) and any(128 % first for first, *_ in lengths.values())
+    for timer in lengths.values():
+        assert len(timer) > 3 and 16 <= timer[0] <= 128 and timer[1:] == [min(2 * length, 128) for length in timer[:-1]]
 
 
 # ---- Numbers in the files of a network ----
