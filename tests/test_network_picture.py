@@ -619,7 +619,7 @@ def test_the_command(command: Path, tmp_path: Path) -> None:
 def test_the_command_without_a_transcript(network_picture: Path) -> None:
     """Standard input that can't be read is reported, and no chart of the script alone is drawn."""
     assert network_picture.exists()
-    for redirection in ("<&-", "</"):
+    for redirection in ("<&-", "</", "0>/dev/null"):
         ran = with_stream(redirection, ROOT / "network-picture", THREE)
         assert (ran.returncode, ran.stdout, ran.stderr.splitlines()[-1:]) == (5, b"", [b"network_picture: read failed"])
 
