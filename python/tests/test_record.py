@@ -70,6 +70,25 @@ def test_a_board_that_begins_anew():
     assert record.script == Script(["tick 5"]) and record.next_run == 3
 
 
+def test_a_board_that_begins_anew_within_a_line():
+    """A board that loses its power leaves a part of a line, on which the next record begins; of the first line that one is read."""
+    whole, lines = Record.of(HEAD + BODY), (HEAD + BODY).splitlines()
+    for end in range(1, len(HEAD + BODY)):
+        number = (HEAD + BODY)[:end].count("\n") + 1
+        record = Record.of((HEAD + BODY)[:end] + HEAD + "tick 7\n")
+        inputs = [line for line in lines[1:number - 1] if not line.startswith("#")]
+        assert (list(record.script), record.next_run) == ((inputs, number) if number > 1 else (["tick 7"], None))
+        assert record.values == whole.values[:len(record.values)] and record.checks == whole.checks[:len(record.checks)]
+
+
+def test_a_record_that_ends_within_a_line():
+    """A board whose port is too slow ends its record with a line that says so, even within another one."""
+    for end in range(len(HEAD), len(HEAD + BODY)):
+        record, cut = Record.of((HEAD + BODY)[:end] + "# the record ends here: the port is too slow\n"), Record.of((HEAD + BODY)[:end])
+        assert (record.script, record.values, record.checks) == (cut.script, cut.values, cut.checks)
+        assert record.notes == (*cut.notes, "the record ends here: the port is too slow")
+
+
 @pytest.mark.parametrize("line", ["tick 010", "tick 4294967296", "tick", "serial 0", "serial", "frame " + "00" * 128, " tick 1", "hello",
                                   "# check 1", "# check 1 00c20a2", "# check 01 00c20a2b", "# check 1 00C20A2B", "# value ", "# value -1",
                                   "# value 01", "# value x", "", "tick 1\r"])

@@ -18,6 +18,8 @@ _HEAD = re.compile("# record 1 sources ([0-9a-f]{16})" + "".join(f" {name} {_NUM
 _CHECK = re.compile("# check (0|[1-9][0-9]{0,19}) ([0-9a-f]{8})")
 _VALUE = re.compile(f"# value {_NUMBER}")
 _MOST = 2**32 - 1
+# Where a board lost its power within a line, or its port was too slow, these follow in that line.
+_BEGINNINGS = ("# the record ends here", "# record ")
 
 
 class BadRecord(ToarmutsError, ValueError):
@@ -88,8 +90,15 @@ class Record:
         return run_applications(applications, self.script, options=self.options, check=check)
 
 
+def _without_part(line: str) -> str:
+    """A line without the part of another one that a board left before it."""
+    for words in _BEGINNINGS:
+        line = line[max(line.rfind(words), 0):]
+    return line
+
+
 def _read(lines: list[str]) -> Record:
-    head = _HEAD.fullmatch(lines[0]) if lines else None
+    head = _HEAD.fullmatch(_without_part(lines[0])) if lines and lines[0].startswith("#") else None
     if head is None:
         raise BadRecord(1, "this is no record: it doesn't begin with `# record 1 sources ..` and a whole line")
     sizes = {name: _number(1, digits) for name, digits in zip(_SIZES, head.groups()[1:])}
@@ -98,7 +107,7 @@ def _read(lines: list[str]) -> Record:
     checks: list[RecordCheck] = []
     notes: list[str] = []
     next_run = None
-    for number, line in enumerate(lines[1:], 2):
+    for number, line in enumerate(map(_without_part, lines[1:]), 2):
         if line.startswith("# record "):
             next_run = number
             break
