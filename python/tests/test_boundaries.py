@@ -51,6 +51,14 @@ def test_lines_before_a_difference() -> None:
     assert difference is not None and (difference.line, difference.found, difference.clock) == (3, None, 9)
 
 
+@pytest.mark.parametrize("line", ["> tick \u00b2", "> tick \u0663", "= \u00b2", "= " + "1" * 5000],
+                         ids=["superscript", "Arabic digit", "superscript of a network", "5,000 digits"])
+def test_difference_after_numbers_of_other_text(line: str) -> None:
+    """What no transcript has is compared, too, and isn't taken for a clock."""
+    difference = first_difference(f"> tick 4\n{line}\na\n", f"> tick 4\n{line}\nb\n")
+    assert difference is not None and (difference.line, difference.clock) == (3, 4)
+
+
 def test_last_applications_are_left_out() -> None:
     small, _ = shrink(make_case(["hello", "blink", "echo"], ["tick 1", "tick 2"]), lambda case: "tick 2" in case.script)
     assert (small.applications, small.script) == (("hello",), ("tick 2",))

@@ -1,12 +1,16 @@
 """The first line in which two transcripts differ."""
 from __future__ import annotations
 
+import re
 from dataclasses import dataclass
 from typing import Protocol, Union
 
 from .errors import ToarmutsError, WrongType
 from .network_transcript import NetworkTranscript
 from .transcript import Transcript
+
+
+_CLOCK = re.compile("(> tick|=) ([0-9]{1,20})")
 
 
 @dataclass(frozen=True)
@@ -84,11 +88,10 @@ def first_difference(wanted: TranscriptLike, found: TranscriptLike) -> Differenc
 
 
 def _clock_after(lines: list[str]) -> int:
-    """The clock after lines of a mote, which have the ticks that go by, or of a network, which have the clock."""
+    """The clock after lines of a mote, which have the ticks that go by, or of a network, which have the clock. Other text has none."""
     clock = 0
     for line in lines:
-        if line.startswith("> tick ") and line[7:].isdigit():
-            clock += int(line[7:])
-        elif line.startswith("= ") and line[2:].isdigit():
-            clock = int(line[2:])
+        found = _CLOCK.fullmatch(line)
+        if found is not None:
+            clock = int(found[2]) + (clock if found[1] == "> tick" else 0)
     return clock
