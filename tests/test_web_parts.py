@@ -152,15 +152,14 @@ VALUES: list[tuple[str, Any]] = [
     ("refusalOf({ status: 9, errors: utf8.encode('') })", {"message": "The program scenario ended with 9.", "line": 0}),
     ("networkClocks(['1 > tick 1', '= 5', '2 halt', '= 70', 'lost 1 2'])", [0, 5, 5, 70, 70]),
     # A malformed line of an input's form starts the motes before it ends the run; one of the first lines doesn't.
-    ("['3 serial 61', 'walk'].map((line) => runNetwork({"
+    ("['3 serial 61', '3 frame 61', 'walk'].map((line) => runNetwork({"
      " network: { run: () => ({ status: 2, output: utf8.encode('bad line 2\\n') }) },"
      " scenario: { run: (options, input, file) => (textOf(file.bytes).split('\\n').length > 3"
      " ? { status: 2, errors: utf8.encode('scenario: experiment: line 3: no such thing\\n') }"
      " : { status: 0, output: utf8.encode(JSON.stringify({ script: 'mote 1 hello\\n' })) }) } },"
      " { network: `mote 1 hello\\n${line}`, only: null, quiet: false })).map(({ transcript, end, fault }) =>"
      " [transcript !== null, end, fault.editor, fault.line, fault.message])",
-     [[True, {"name": "BAD_LINE", "line": 2}, "network", 2, "no such thing"],
-      [False, {"name": "BAD_LINE", "line": 2}, "network", 2, "no such thing"]]),
+     [[is_started, {"name": "BAD_LINE", "line": 2}, "network", 2, "no such thing"] for is_started in (True, True, False)]),
     ("[...linesOfMotes(['12 a b', '= 3', '1 c', '12 d', 'lost 1 2'])]",
      [[12, {"places": [0, 3], "texts": ["a b", "d"]}], [1, {"places": [2], "texts": ["c"]}]]),
     ("['= 1234', 'lost 1 2', 'full 3 4', 'missed - 2', 'missed 1 2', 'halt', 'bad line 3'].map(networkWords)",
@@ -183,6 +182,10 @@ VALUES: list[tuple[str, Any]] = [
     ("lineInWords('6 synch 140 x6869 -> wait', []).split('. ')[0]", "Process 6 receives event 140 with “hi” at once"),
     ("lineInWords('4 event 134 - -> wait', []).split('. ')[0]", "Process 4 receives event MSG (134) from the event queue"),
     ("lineInWords('4 event 139 2 -> wait', []).split('. ')[0]", "Process 4 receives PACKET: a frame of 2 bytes is held"),
+    ("lineInWords('4 synch 129 - -> wait', []).split('. ')[0]", "Process 4 starts: it receives INIT"),
+    ("lineInWords('4 synch 131 - -> wait', []).split('. ')[0]", "Process 4 ends: it receives EXIT"),
+    ("lineInWords('4 synch 135 7 -> wait', []).split('. ')[0]", "Process 4 receives EXITED: process 7 has ended"),
+    ("lineInWords('4 event 138 x6f6e -> wait', []).split('. ')[0]", "Process 4 receives a line from the serial line: “on”"),
     ("lineInWords('4 poll 130 - -> wait', []).split('. ')[0]", "Process 4 is polled: it receives POLL"),
     ("lineInWords('4 callback 3 -> wait', []).split('. ')[0]", "Process 4 is called: its callback timer 3 has run out"),
     ("lineInWords('4 answer bytes - -> wait', []).split('. ')[0]", "Process 4 goes on: the reply to its call is no bytes"),

@@ -5,7 +5,7 @@ from collections.abc import Iterator
 from typing import Any
 
 import pytest
-from toarmuts import BadInput, Options, Script, Transcript
+from toarmuts import BadCall, BadInput, BadScenario, BadTranscript, Call, Options, Script, Transcript, read_scenarios
 from toarmuts.coverage import Cell, Coverage
 from toarmuts.difference import first_difference
 from toarmuts.errors import NotReached, cut
@@ -49,6 +49,24 @@ def test_lines_before_a_difference() -> None:
     assert difference is not None and (difference.line, difference.before, difference.clock) == (5, ("> tick 2", "a", "b"), 3)
     difference = first_difference("= 5\n= 9\na\n", "= 5\n= 9\n")
     assert difference is not None and (difference.line, difference.found, difference.clock) == (3, None, 9)
+
+
+@pytest.mark.parametrize("word", ["61\t62", "\t6162", "61\v", "61\f62"])
+def test_blanks_within_hex(word: str) -> None:
+    """Digits of bytes stand side by side, as in a transcript."""
+    with pytest.raises(BadCall):
+        Call.parse(f"print {word}")
+    with pytest.raises(BadTranscript):
+        assert Transcript(f"4 answer done -> print {word}\n")[0].call
+
+
+@pytest.mark.parametrize("letter, most", [("a", 255), ("\u00e9", 127)])
+def test_longest_text(letter: str, most: int) -> None:
+    """A line `text` of a scenario has at most 255 bytes, which the serial line receives with a line end."""
+    scenario, = read_scenarios(f"text {most * letter}\n")
+    assert scenario.script == f"serial {(most * letter).encode().hex()}0a\n"
+    with pytest.raises(BadScenario, match="line 1: a text has at most 255 bytes"):
+        read_scenarios(f"text {(most + 1) * letter}\n")
 
 
 @pytest.mark.parametrize("line", ["> tick \u00b2", "> tick \u0663", "= \u00b2", "= " + "1" * 5000],
