@@ -15,7 +15,7 @@ from tools import AS_NOBODY, can_be_nobody, run
 from unproved_build import export
 
 SCRIPT = random.Random(1).randbytes(100_000)
-WINDOWS = b"# one\r\n\ntick 1\r\n"
+WINDOWS = b"# one\r\n\ntick 1\r\ntick 2\r\n"
 REMARK = b"# one\r\ntick 1\n"
 IS_FILE = "a.script is a file; the script is read from standard input: < a.script"
 
@@ -217,14 +217,14 @@ def test_proved_run(proved_tree: Tree) -> None:
 
 
 def test_lines_of_windows_proved(proved_tree: Tree) -> None:
-    """Lines as on Windows are reported if standard input is a file, from its beginning."""
+    """The first line as on Windows is reported if standard input is a file, from its beginning."""
     files = {"windows": WINDOWS, "remark": REMARK}
     for name, text in files.items():
         (proved_tree.root / name).write_bytes(text)
     hint = "mote: line 3 ends with byte 13, as lines of Windows do; here a line ends with byte 10 only\n"
     rest = "{ read -r _; read -r _; ./mote; } <"
     for command, stdout, stderr in (("./mote <windows", WINDOWS, hint), ("./mote <remark", REMARK, ""), (f"{rest}remark", b"", ""),
-                                    (f"{rest}windows", b"tick 1\r\n", "")):
+                                    (f"{rest}windows", b"tick 1\r\ntick 2\r\n", "")):
         ran = proved_tree.shell(command)
         assert (ran.returncode, ran.stdout, proved_tree.stderr) == (3, b"proved \n" + stdout, stderr), command
 
