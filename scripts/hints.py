@@ -47,7 +47,8 @@ def split(words: Sequence[str], options: Sequence[str]) -> tuple[dict[str, str],
 
 
 def is_number(word: str) -> bool:
-    return word.isascii() and word.isdigit()
+    """Whether it is a number of at most twenty digits: Python refuses to read one of some thousands."""
+    return word.isascii() and word.isdigit() and len(word) <= 20
 
 
 def is_allowed(row: dict[str, Any], number: int) -> bool:

@@ -189,7 +189,7 @@ def test_no_rt(tree: Tree, script: str) -> None:
     (["--mmem=65540"], ["--mmem 65540: a multiple of 4 from 4 to 65536 is allowed"]),
     (["--mmem", "4", "--heap=20", "--header", "8"], []), (["--heap", "16"], ["--heap 16: a multiple of 4 from 20 to 65536 is allowed"]),
     (["--header=12"], ["--header 12: 16 or 8 is allowed"]), (["--mmem", "many", "--quota"], []),
-    (["--quota", "1024", "hello", "hello", "hello"], []),
+    (["--quota", "1024", "hello", "hello", "hello"], []), (["--mmem", "9" * 5000, "--quota=" + "9" * 5000], []),
     (["--quota", "1028", "hello", "hello", "hello"], ["--quota 1028 for each application and the frames is 4112 bytes; --mmem has 4096"]),
     (["--quota=8", "--mmem=12", "hello"], ["--quota 8 for each application and the frames is 16 bytes; --mmem has 12"]),
 ])
