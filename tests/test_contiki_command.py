@@ -386,6 +386,11 @@ def test_debugger_without_a_terminal(contiki: Contiki) -> None:
     assert (ran.returncode, ran.stderr) == (69, b"contiki: --gdb needs a terminal\n"), output_of(ran)
 
 
+def test_debugger_that_is_missing(contiki: Contiki) -> None:
+    ran = contiki("--gdb", HELLO, settings={"GDB": "none -q"})
+    assert (ran.returncode, ran.stderr) == (69, b"contiki: there is no debugger none\n"), output_of(ran)
+
+
 def test_debugger_from_a_terminal(contiki: Contiki, tmp_path: Path) -> None:
     """From a terminal gdb is started for the program and its arguments. Here a stand-in prints these."""
     write_program(tmp_path / "gdb", '#!/bin/bash\necho "$1 $2 ${@:4:3} ${@: -1}" >"${0%/*}/told"\n')
