@@ -118,6 +118,17 @@ def test_some_tests(gate: Gate, words: list[str], last: str, begun: list[str]) -
     assert (status, lines[-1], gate.begun(), gate.notes()) == (0, last, begun, ""), lines
 
 
+def test_no_git(gate: Gate, tmp_path: Path) -> None:
+    """Without git the tests run, and nothing is noted."""
+    tools = tmp_path / "bin"
+    tools.mkdir()
+    for it in (it for folder in ("/usr/bin", "/bin") for it in Path(folder).iterdir()):
+        if it.name != "git" and not (tools / it.name).exists():
+            (tools / it.name).symlink_to(it)
+    status, lines = gate("first", PATH=str(tools))
+    assert (status, lines[-1], gate.notes()) == (0, "3 passed, 0 failed", ""), lines
+
+
 def test_test_that_cannot_begin(gate: Gate) -> None:
     """One whose fixture fails counts as failed alone."""
     gate.add({"tests/test_third.py": "import pytest\n@pytest.fixture\ndef broken(): raise OSError\ndef test_five(broken): pass\n"
