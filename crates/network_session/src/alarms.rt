@@ -54,6 +54,10 @@ impl Alarms {
         ensures { self.new ≡ slice_set self.old owner moment }
     {
         let at = self.count + owner;
+        // A mote that works twice in a moment often sets the same.
+        if self.nodes[at].moment == moment {
+            return;
+        }
         self.nodes[at] = Alarm { moment, owner };
         climb(&mut self.nodes, self.count, at / 2);
     }
