@@ -1,9 +1,9 @@
 -- What is reported that is no entry.
 use Rattle.std.proofs.Common.{◌≡◌, false, refl, None}
 use Rattle.network_session.specs.Network.{NetworkView}
+use Rattle.network_steps.specs.Code.Turns.{is_of_mote}
 use Rattle.network_steps.specs.Works.{sending_of}
 use Rattle.network_steps.specs.declared.came.Came.{Came}
-use Rattle.network_run.specs.Code.Reports.{is_of_mote}
 
 -- nothing is sent in it
 pub other_unsent : (came : Came) (net : NetworkView) → is_of_mote came ≡ false → sending_of came net ≡ None

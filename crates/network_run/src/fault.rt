@@ -12,6 +12,17 @@ pub enum NetworkRunFault {
     Refused(NetworkFault),
 }
 
+impl From<NetworkFault> for NetworkRunFault {
+    ghost use Rattle.std.specs.Prelude.{◌≡◌};
+    ghost use Rattle.network_run.specs.declared.fault.NetworkRunFault.TheVariants.{Refused};
+
+    ghost from_gives = { λ cause fault. fault ≡ Refused cause };
+
+    fn from(cause: NetworkFault) -> Self {
+        NetworkRunFault::Refused(cause)
+    }
+}
+
 impl From<DeviceFault> for NetworkRunFault {
     ghost use Rattle.std.specs.Prelude.{◌≡◌};
     ghost use Rattle.network_run.specs.declared.fault.NetworkRunFault.TheVariants.{Write};

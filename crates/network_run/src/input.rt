@@ -18,7 +18,6 @@ use mote_text::output_buffer::OutputBuffer;
 use mote_types::device::ByteSink;
 use mote_types::entry::Input;
 use network_session::fault::NetworkFault;
-use network_steps::came::Came;
 use network_steps::fault::StepsFault;
 use network_steps::input::NetworkInput;
 use network_steps::steps::NetworkSteps;
@@ -42,17 +41,14 @@ pub(crate) fn run_to_rest<K: ByteSink, H: Caller>(
     ensures failures { CountsFaults result (K.failure_count sink.old) (K.failure_count sink.new) }
 {
     loop {
-        let came = match steps.step_by(caller) {
-            Ok(came) => came,
-            Err(fault) => return Err(NetworkRunFault::Refused(fault)),
-        };
-        match came {
-            None => {}
-            Some(Came::Entry(mote)) => put_entry(sink, text, steps, mote, quiet)?,
-            Some(came) => {
-                if let Some(rests) = put_other(sink, text, steps.network(), came, quiet)? {
-                    return Ok(rests);
-                }
+        if let Some(mote) = steps.network().active() {
+            if steps.work_by(mote, caller)? {
+                put_entry(sink, text, steps, mote, quiet)?;
+            }
+        } else if steps.step_on()? {
+            let came = steps.came();
+            if let Some(rests) = put_other(sink, text, steps.network(), came, quiet)? {
+                return Ok(rests);
             }
         }
     }

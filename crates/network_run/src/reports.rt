@@ -2,9 +2,10 @@
 
 ghost use Rattle.std.specs.Prelude.{◌≡◌, ◌<◌, ◌-◌, ◌^◌, not, false, None, IfErr, IfOk, OnOk};
 ghost use Rattle.mote_session.specs.Code.Shown.{is_last_shown};
-ghost use Rattle.network_run.specs.Code.Reports.{is_of_mote, rests_after};
+ghost use Rattle.network_run.specs.Code.Reports.{rests_after};
 ghost use Rattle.mote_text.specs.Code.Writing.{CountsFailure, WritesIf};
 ghost use Rattle.network_steps.specs.Code.StepLines.{last_entry_line};
+ghost use Rattle.network_steps.specs.Code.Turns.{is_of_mote};
 ghost use Rattle.network_steps.specs.Lines.{came_line, shown_line, shown_losses};
 ghost use Rattle.network_steps.specs.NetworkText.{if_shown, last_line};
 ghost use Rattle.network_steps.specs.Works.{came_lines, sending_of};

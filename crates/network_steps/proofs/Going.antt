@@ -21,7 +21,7 @@ use Rattle.network_session.specs.declared.outcome.Outcome.{Outcome}
 use Rattle.network_session.proofs.Working.{there_after}
 use Rattle.network_steps.specs.Code.Calls.{IsActiveCall}
 use Rattle.network_steps.specs.Code.Going.{GoesBy, PassesBy, StepsBy, StopsBy, came_if, came_in, left_to_do}
-use Rattle.network_steps.specs.Code.Turns.{is_end_if, is_open_if, is_turn_step, times_of}
+use Rattle.network_steps.specs.Code.Turns.{is_end_if, is_of_mote_if, is_open_if, is_turn_step, times_of}
 use Rattle.network_steps.specs.NetworkRuns.{DoesStep, IsResting, Leads, Move, is_halted_in, moves_text}
 use Rattle.network_steps.specs.NetworkText.{log_text}
 use Rattle.network_steps.specs.declared.input.NetworkInput.{NetworkInput}
@@ -214,15 +214,29 @@ goes_rest s waiting voices rested none taken after =
     goes_step Outcome.Rest Came.Rest s (record s { waiting = waiting; phase = Phase.Resting }) s.net voices none
     (record { steps = refl; due = λ idle. sym rested.due; work = sym (ap is_some rested.idle) }) refl (λ e. taken) (rw (none, taken, after) refl)
 
-turns_at_work : (x : Outcome) → is_work x ≡ false → is_turn_step x ≡ false
-turns_at_work (Outcome.Worked m next) e = absurd (cc)
-turns_at_work (Outcome.Started m) e = refl
-turns_at_work (Outcome.Woken m) e = refl
-turns_at_work (Outcome.Heard m) e = refl
-turns_at_work (Outcome.Missed from to) e = refl
-turns_at_work Outcome.Clock e = refl
-turns_at_work Outcome.Rest e = refl
-turns_at_work Outcome.Exhausted e = refl
+-- of a step that is no mote's own, nothing of a mote is reported
+none_of_mote : (x : Outcome) → is_work x ≡ false → is_of_mote_if (came_of x) ≡ false
+none_of_mote (Outcome.Worked m next) e = absurd (cc)
+none_of_mote (Outcome.Started m) e = refl
+none_of_mote (Outcome.Woken m) e = refl
+none_of_mote (Outcome.Heard m) e = refl
+none_of_mote (Outcome.Missed from to) e = refl
+none_of_mote Outcome.Clock e = refl
+none_of_mote Outcome.Rest e = refl
+none_of_mote Outcome.Exhausted e = refl
+
+-- what isn't of a mote awaits no call
+pub closed_apart : (came : Option Came) → is_of_mote_if came ≡ false → is_open_if came ≡ false
+closed_apart None e = refl
+closed_apart (Some (Came.Turn m)) e = absurd (cc)
+closed_apart (Some (Came.Entry m)) e = refl
+closed_apart (Some Came.Clock) e = refl
+closed_apart (Some (Came.Lost from to)) e = refl
+closed_apart (Some (Came.Full from to)) e = refl
+closed_apart (Some (Came.Missed from to)) e = refl
+closed_apart (Some (Came.Unheard m)) e = refl
+closed_apart (Some Came.Rest) e = refl
+closed_apart (Some Came.Exhausted) e = refl
 
 -- what was reported is what is noted
 noted_is : (came : Came) (s : StepsView) → came_in (noted came s) ≡ came
@@ -257,9 +271,9 @@ module _ (x : Outcome) (reported : Bool) (s new : StepsView) (net : NetworkView)
       by_came None is same = passes_step x s new net voices none works does is same
       by_came (Some came) is noted_so = goes_step x came s new net voices none does is waits noted_so
 
-  -- a network at whose motes nothing is at work takes no turn
-  pub called_if : s.net.active ≡ None → is_open_if (came_if reported new) ≡ false
-  called_if idle = ap is_open_if came_is ∙ (opens_turn x ∙ turns_at_work x (does.work ∙ ap is_some idle))
+  -- where no mote is at work, nothing of a mote is reported
+  pub apart_if : s.net.active ≡ None → is_of_mote_if (came_if reported new) ≡ false
+  apart_if idle = ap is_of_mote_if came_is ∙ none_of_mote x (does.work ∙ ap is_some idle)
 
   pub nearer_if : left_at_work net ≤ most_left_at_work → is_open_if (came_if reported new) ≡ false → is_end_if (came_if reported new) ≡ false →
       left_to_do new < left_to_do s

@@ -10,8 +10,8 @@ ghost use Rattle.network_steps.specs.Lines.{came_line, is_loss, loss_line, losse
 ghost use Rattle.network_steps.specs.Refusals.{awaited_turn, due_refusal, feed_refusal, is_from_outside, link_refusal, submit_refusal, tick_refusal, told_refusal, unrest};
 ghost use Rattle.network_steps.specs.StepsView.{opened_steps, steps_over, unlinked};
 ghost use Rattle.network_steps.specs.NetworkRuns.{IsResting};
-ghost use Rattle.network_steps.specs.Code.Going.{GoesBy, StepsBy, StopsBy, came_if, came_in, left_to_do, links_left};
-ghost use Rattle.network_steps.specs.Code.Turns.{is_end_if, is_open_if};
+ghost use Rattle.network_steps.specs.Code.Going.{GoesBy, StepsBy, StopsBy, came_if, came_in, entry_if, left_to_do, links_left};
+ghost use Rattle.network_steps.specs.Code.Turns.{is_end_if, is_of_mote_if, is_open_if};
 ghost use Rattle.network_steps.specs.Works.{GoesNext, IsRefused, TakesFeed, TakesLink, TakesTicks, ToldIfBehind, came_of, noted, sending_of};
 ghost use Rattle.network_steps.specs.declared.came.Came.TheVariants.{Entry};
 ghost use Rattle.network_steps.specs.declared.came.Phase.TheVariants.{Resting as Rests, Working as Works};
@@ -220,8 +220,8 @@ impl NetworkSteps {
     /// # Errors
     ///
     /// What the network refuses: its next step, or at rest the input that waits.
-    // Part of the loop of a network's run: see docs/performance.md.
     #[inline(always)]
+    #[tactic(auto, using(crate::proofs::Going::closed_apart))]
     pub fn step_by<H: Caller>(&mut self, caller: &mut H) -> Result<Option<Came>, NetworkFault>
         requires works { self.old.phase ≡ Works }
         requires reported { self.old.sending ≡ None }
@@ -231,7 +231,13 @@ impl NetworkSteps {
         ensures failed { IfErr result (λ cause. StopsBy cause self.old self.new.net (H.voices caller.old) (H.voices caller.old)) }
     {
         match self.network.active() {
-            Some(mote) => self.work_by(mote, caller),
+            Some(mote) => {
+                if self.work_by(mote, caller)? {
+                    Ok(Some(Came::Entry(mote)))
+                } else {
+                    Ok(None)
+                }
+            }
             None => {
                 if self.step_on()? {
                     Ok(Some(self.came()))
@@ -242,45 +248,51 @@ impl NetworkSteps {
         }
     }
 
-    /// Lets the mote that is at work make an entry, with the call of a turn, or come to rest.
+    /// Lets the mote that is at work make an entry, with the call of a turn, or come to rest: `step_by` with a mote at work. Returns
+    /// whether it made an entry.
+    ///
+    /// # Errors
+    ///
+    /// What the network refuses: its next step.
+    // Part of the loop of a network's run: see docs/performance.md.
     #[inline(always)]
-    fn work_by<H: Caller>(
-        &mut self,
-        mote: usize,
-        caller: &mut H,
-    ) -> Result<Option<Came>, NetworkFault>
+    pub fn work_by<H: Caller>(&mut self, mote: usize, caller: &mut H) -> Result<bool, NetworkFault>
         requires active { self.old.net.active ≡ Some mote }
         requires works { self.old.phase ≡ Works }
         requires reported { self.old.sending ≡ None }
-        ensures steps { IfOk result (λ came. StepsBy came self.old self.new (H.voices caller.old) (H.voices caller.new)) }
-        ensures called { IfOk result (λ came. is_open_if came ≡ false) }
-        ensures nearer { IfOk result (λ came. left_to_do self.new < left_to_do self.old) }
+        ensures steps { IfOk result (λ made. StepsBy (entry_if made mote) self.old self.new (H.voices caller.old) (H.voices caller.new)) }
+        ensures nearer { IfOk result (λ _. left_to_do self.new < left_to_do self.old) }
         ensures failed { IfErr result (λ cause. StopsBy cause self.old self.new.net (H.voices caller.old) (H.voices caller.old)) }
     {
         match self.network.work_by(mote, caller)? {
             Next::Turn => {
                 // No turn sends a frame: that is a note of its own.
                 self.last = Came::Entry(mote);
-                Ok(Some(Came::Entry(mote)))
+                Ok(true)
             }
             Next::Entry => {
                 self.last = Came::Entry(mote);
                 self.note_sent(mote);
-                Ok(Some(Came::Entry(mote)))
+                Ok(true)
             }
-            Next::Rest => Ok(None),
-            Next::Halted => Ok(None),
+            Next::Rest => Ok(false),
+            Next::Halted => Ok(false),
         }
     }
 
-    /// Does the next step. Returns whether it is reported.
+    /// Does the next step, and leaves the call of a turn to be made. Returns whether the step is reported (`came`). Nothing may be left to
+    /// be reported, as of `step_by`.
+    ///
+    /// # Errors
+    ///
+    /// What the network refuses: its next step, or at rest the input that waits.
     // Out of the way of entries.
     #[inline(never)]
-    fn step_on(&mut self) -> Result<bool, NetworkFault>
+    pub fn step_on(&mut self) -> Result<bool, NetworkFault>
         requires works { self.old.phase ≡ Works }
         requires reported { self.old.sending ≡ None }
         ensures steps { IfOk result (λ reported. (voices : Voices) → StepsBy (came_if reported self.new) self.old self.new voices voices) }
-        ensures called { self.old.net.active ≡ None → IfOk result (λ reported. is_open_if (came_if reported self.new) ≡ false) }
+        ensures apart { self.old.net.active ≡ None → IfOk result (λ reported. is_of_mote_if (came_if reported self.new) ≡ false) }
         ensures nearer { IfOk result (λ reported. is_open_if (came_if reported self.new) ≡ false → is_end_if (came_if reported self.new) ≡ false →
             left_to_do self.new < left_to_do self.old) }
         ensures failed { IfErr result (λ cause. (voices : Voices) → StopsBy cause self.old self.new.net voices voices) }
@@ -295,7 +307,7 @@ impl NetworkSteps {
 
     /// What was reported last.
     #[inline(always)]
-    fn came(&self) -> Came
+    pub fn came(&self) -> Came
         ensures { result ≡ came_in self.now }
     {
         match self.phase {
@@ -351,7 +363,7 @@ impl NetworkSteps {
         requires works { self.old.phase ≡ Works }
         requires reported { self.old.sending ≡ None }
         ensures steps { IfOk result (λ reported. (voices : Voices) → StepsBy (came_if reported self.new) self.old self.new voices voices) }
-        ensures called { IfOk result (λ reported. is_open_if (came_if reported self.new) ≡ false) }
+        ensures apart { IfOk result (λ reported. is_of_mote_if (came_if reported self.new) ≡ false) }
         ensures nearer { IfOk result (λ reported. is_end_if (came_if reported self.new) ≡ false → left_to_do self.new < left_to_do self.old) }
         ensures failed { IfErr result (λ cause. (voices : Voices) → StopsBy cause self.old self.new.net voices voices) }
     {
@@ -372,7 +384,7 @@ impl NetworkSteps {
         requires taken { self.old.waiting ≡ None }
         ensures steps { IfOk result (λ reported. (voices : Voices) →
             StepsBy (came_if reported self.new) (record self.old { waiting = Some waiting }) self.new voices voices) }
-        ensures called { IfOk result (λ reported. is_open_if (came_if reported self.new) ≡ false) }
+        ensures apart { IfOk result (λ reported. is_of_mote_if (came_if reported self.new) ≡ false) }
         ensures nearer { IfOk result (λ _. left_to_do self.new < left_to_do (record self.old { waiting = Some waiting })) }
         ensures failed { IfErr result (λ cause. (voices : Voices) →
             StopsBy cause (record self.old { waiting = Some waiting }) self.new.net voices voices) }

@@ -42,6 +42,11 @@ abbrev pub came_if : Bool → StepsView → Option Came
 came_if false s = None
 came_if true s = Some (came_in s)
 
+-- a mote's entry, if it made one
+abbrev pub entry_if : Bool → ℕ → Option Came
+entry_if false m = None
+entry_if true m = Some (Came.Entry m)
+
 -- a step of which nothing is reported, or this
 abbrev pub StepsBy : Option Came → StepsView → StepsView → Voices → Voices → Type 0
 StepsBy None old new before after = PassesBy old new before after

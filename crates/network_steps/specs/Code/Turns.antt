@@ -38,6 +38,16 @@ abbrev pub is_open_if : Option Came → Bool
 is_open_if None = false
 is_open_if (Some came) = is_open came
 
+-- a mote's entry, or its turn, whose call is awaited
+abbrev pub is_of_mote : Came → Bool
+is_of_mote (Came.Turn m) = true
+is_of_mote (Came.Entry m) = true
+is_of_mote _ = false
+
+abbrev pub is_of_mote_if : Option Came → Bool
+is_of_mote_if None = false
+is_of_mote_if (Some came) = is_of_mote came
+
 -- nothing follows without an input
 abbrev pub is_end : Came → Bool
 is_end Came.Rest = true

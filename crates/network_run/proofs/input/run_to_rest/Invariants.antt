@@ -5,8 +5,8 @@ use Rattle.network_steps.specs.Code.Going.{left_to_do}
 use Rattle.network_steps.specs.declared.came.Phase.{Phase}
 use Rattle.network_run.proofs.input.run_to_rest.Given as goal
 
-abbrev pub invariant-loop-came : goal.invariant-loop-came
-invariant-loop-came g l = record {
+abbrev pub invariant-loop-mote : goal.invariant-loop-mote
+invariant-loop-mote g l = record {
   took : g.K.ByteSink.is_named → Stopped l.quiet (outside_waiting l.fn.steps.waiting) (outside_waiting l.steps.waiting) l.text.items
       (moment (g.K.ByteSink.given l.fn.sink) l.fn.text.items l.fn.steps.net (g.H.Caller.voices l.fn.caller))
       (moment (g.K.ByteSink.given l.sink) l.text.items l.steps.net (g.H.Caller.voices l.caller));
@@ -16,5 +16,5 @@ invariant-loop-came g l = record {
   fit : IsReady l.fn.steps.net → IsFitIf l.steps.waiting l.steps.net;
 }
 
-abbrev pub decreases-loop-came : goal.decreases-loop-came
-decreases-loop-came g l = left_to_do l.steps
+abbrev pub decreases-loop-mote : goal.decreases-loop-mote
+decreases-loop-mote g l = left_to_do l.steps

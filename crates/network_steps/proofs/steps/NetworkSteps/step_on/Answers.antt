@@ -1,4 +1,4 @@
-use Rattle.network_steps.proofs.Going.{called_if, err_on, nearer_if, steps_by, stops_step}
+use Rattle.network_steps.proofs.Going.{apart_if, err_on, nearer_if, steps_by, stops_step}
 use Rattle.network_steps.specs.NetworkRuns.{DoesStep}
 use Rattle.network_steps.specs.contracts.steps.NetworkSteps.{the_view}
 use Rattle.network_steps.proofs.steps.NetworkSteps.step_on.Goals as goal
@@ -23,7 +23,7 @@ returns-in_default c =
       steps = λ voices. rw (← c.self.view_is)
           (steps_by x c.come_if.result s new net does c.come_if.ensures.reported c.come_if.ensures.noted voices reported works
           (λ e. absurd (c.in_default.not-Rest e)));
-      called = rw (← c.self.view_is) (called_if x c.come_if.result s new net does c.come_if.ensures.reported c.come_if.ensures.noted);
+      apart = rw (← c.self.view_is) (apart_if x c.come_if.result s new net does c.come_if.ensures.reported c.come_if.ensures.noted);
       nearer = rw (← c.self.view_is)
           (nearer_if x c.come_if.result s new net does c.come_if.ensures.reported c.come_if.ensures.noted c.entries_are_few.ensures);
       failed = tt;
