@@ -104,6 +104,12 @@ def test_large_numbers(number, text):
         Record.of(text)
 
 
+def test_the_largest_number_of_a_mote():
+    assert Record.of(HEAD.replace("node 258", "node 65535")).node == 65535
+    with pytest.raises(BadRecord, match="line 1 of the record: 65536 is too large; at most 65,535 is allowed"):
+        Record.of(HEAD.replace("node 258", "node 65536"))
+
+
 @pytest.mark.parametrize("head", ["", "\n", "tick 5\n", HEAD.replace("record 1", "record 2"), HEAD.replace(" node 258", ""),
                                   HEAD.replace("46b1", "46B1"), HEAD.replace("\n", " \n"), "\ufeff" + HEAD])
 def test_no_record(head):

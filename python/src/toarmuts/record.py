@@ -18,6 +18,7 @@ _HEAD = re.compile("# record 1 sources ([0-9a-f]{16})" + "".join(f" {name} {_NUM
 _CHECK = re.compile("# check (0|[1-9][0-9]{0,19}) ([0-9a-f]{8})")
 _VALUE = re.compile(f"# value {_NUMBER}")
 _MOST = 2**32 - 1
+_MOST_MOTES = 2**16 - 1
 # Where a board lost its power within a line, or its port was too slow, these follow in that line.
 _BEGINNINGS = ("# the record ends here", "# record ")
 
@@ -101,7 +102,7 @@ def _read(lines: list[str]) -> Record:
     head = _HEAD.fullmatch(_without_part(lines[0])) if lines and lines[0].startswith("#") else None
     if head is None:
         raise BadRecord(1, "this is no record: it doesn't begin with `# record 1 sources ..` and a whole line")
-    sizes = {name: _number(1, digits) for name, digits in zip(_SIZES, head.groups()[1:])}
+    sizes = {name: _number(1, digits, _MOST_MOTES if name == "node" else _MOST) for name, digits in zip(_SIZES, head.groups()[1:])}
     inputs: list[str] = []
     values: list[int] = []
     checks: list[RecordCheck] = []
@@ -130,9 +131,9 @@ def _malformed(number: int, line: str) -> BadRecord:
     return BadRecord(number, f"it is malformed: {cut(line)!r}")
 
 
-def _number(number: int, digits: str) -> int:
-    if int(digits) > _MOST:
-        raise BadRecord(number, f"{digits} is too large; at most {_MOST:,} is allowed")
+def _number(number: int, digits: str, most: int = _MOST) -> int:
+    if int(digits) > most:
+        raise BadRecord(number, f"{digits} is too large; at most {most:,} is allowed")
     return int(digits)
 
 
