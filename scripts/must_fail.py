@@ -4,8 +4,12 @@ An edit changes the body of a function, and the proof of a function rests on the
 different functions are made in one copy of the crate, and one `rattle check --only` of these functions tries them all. Edits of one
 function come in several rounds. `rt must-fail` tries each edit alone, over a second proof of the whole crate.
 
+For the same reason a round leaves out the bodies and the proofs of all other functions: these rest on one hole, and the check allows it.
+Such a check also tells the faults of a function's own proof from those of the functions that it calls.
+
 What a round doesn't show is tried alone: an edit whose function has no proof since it calls another edited one, and each edit of a round
-that can't be compiled. What is still proved alone, and what changes no function, is tried by a check of the whole crate.
+that can't be compiled. What is not refused alone, and what changes no function, is tried by a check of the whole crate, with all proofs.
+So no edit is told as not refused for the sake of a hole.
 """
 from __future__ import annotations
 
@@ -26,8 +30,20 @@ from typing import Any, Iterable, Sequence
 from rattle_functions import Function, Source
 
 NAMED = re.compile(r"[\w-][\w.-]*\.edit")
-# What rattle prints of a function where the edit itself is why it isn't proved.
-OWN_FAULT = re.compile(r"not proved(?!; it calls)|no proof: expected answers")
+# The files of a function's proof, and the text of one that leaves it out.
+PROOF_FILES = ("Proof.antt", "Invariants.antt", "Answers.antt")
+LEFT_OUT = """use Rattle.{crate}.proofs.LeftOut.{{left_out}}
+use Rattle.{crate}.proofs.{module}.Statement.{{statement}}
+
+pub {name}_spec : {{M : Type 1}} → statement M
+{name}_spec = left_out
+"""
+# The one hole in their place.
+HOLE = """pub left_out {ℓ} : {A : Type ℓ} → A
+left_out = ?
+"""
+# What rattle prints of such a proof, which is no fault.
+OF_HOLE = re.compile(r"(?:\./)?proofs/LeftOut\.antt:")
 # A line that places a fault, and one of a proof file that only lacks a name: that says nothing of a contract.
 PLACED = re.compile(r"(?:note: )?(?:\./)?(\S+?):(\d+):\d+: ")
 LACKS_NAME = re.compile(r"(?:note: )?(?:\./)?proofs/.*(?:has no field|is not in scope|has no `|was not admitted)")
@@ -189,7 +205,7 @@ class Crate:
         functions = [it for edit in edits for it in edit.functions]
         status, lines = self._check([it for edit in edits for it in edit.changes], functions) if functions else (0, [""])
         texts = {it.file for edit in edits for it in edit.changes}
-        is_read = bool(re.match(r"only=\d+ proved=\d+", lines[-1])) and not any(is_unread(line, texts) for line in lines)
+        is_read = bool(re.match(r"only=\d+ holes=\d+", lines[-1])) and not any(is_unread(line, texts) for line in lines)
         results = []
         for edit in edits:
             found = self._judge(edit, lines, len(edits) == 1) if is_read and status == 1 else None
@@ -204,10 +220,12 @@ class Crate:
         for function in edit.functions:
             start = f"fn {self.name}::{function.path}: "
             said = next((line.removeprefix(start) for line in lines if line.startswith(start)), "")
-            if not OWN_FAULT.match(said):
+            if not has_own_fault(self.name, function, said, is_alone):
                 continue
             told = [line for line in lines if is_about(function, line)]
             told = told or [line for line in lines if is_alone and PLACED.match(line)]
+            if told and not is_alone and all("was not admitted" in line for line in told):
+                continue
             if told and all(LACKS_NAME.match(line) for line in told):
                 return self._result(edit, Kind.REFUSED, f"{ONLY_NAMES}: {told[0]}")
             faults = [line for line in told if not LACKS_NAME.match(line)]
@@ -233,16 +251,20 @@ class Crate:
         return Result(self.name, edit.name, kind, why[:240])
 
     def _check(self, changes: Iterable[Change], only: Sequence[Function] | None = None) -> tuple[int, list[str]]:
-        """Checks a copy of the crate with these changes: these functions, or all. Returns the status and what rattle wrote."""
+        """Checks a copy of the crate with these changes: these functions, without the proofs of the others, or all. Returns the status and
+        what rattle wrote."""
         with tempfile.TemporaryDirectory(prefix="wrong-bodies-") as room:
             for part in self.rt.PARTS:
                 if (self.folder / part).is_dir():
                     shutil.copytree(self.folder / part, Path(room, part))
             for file, text in edited_texts(self.folder, changes).items():
                 Path(room, file).write_text(text, encoding="utf-8")
+            chosen = []
+            if only is not None:
+                leave_out(Path(room), self.name, only)
+                chosen = ["--allow-holes", *(word for it in only for word in ("--only", it.path))]
             if self.is_ended:
                 return -1, [""]
-            chosen = [word for it in only or () for word in ("--only", it.path)]
             words = [*self.rt.guarded(), "nice", "-n", str(self.niceness), self.rt.RATTLE, "check",
                      *self.crate.words(["--jobs", "1"], keeps=False), *chosen]
             with subprocess.Popen(words, cwd=room, stdin=subprocess.DEVNULL, stdout=subprocess.PIPE, stderr=subprocess.STDOUT, text=True,
@@ -250,7 +272,57 @@ class Crate:
                 self.running.add(running)
                 written = running.communicate()[0]
                 self.running.remove(running)
-            return running.returncode, written.rstrip("\n").split("\n")
+            return running.returncode, [line for line in written.rstrip("\n").split("\n") if not OF_HOLE.match(line)]
+
+
+def leave_out(folder: Path, crate: str, kept: Iterable[Function]) -> None:
+    """Leaves out the bodies and the proofs of the functions of a crate but these. One keeps them where another file names more of its
+    proof than its theorem: that file would have a fault without it."""
+    names, edited, source = names_of_proofs(folder, crate), {it.path for it in kept}, Source(folder)
+    others = [it for it in source.functions if it.path not in edited and not is_named(it, names)]
+    for file, text in source.without_bodies(others).items():
+        (folder / file).write_text(text, encoding="utf-8")
+    (folder / "proofs").mkdir(exist_ok=True)
+    for function in others:
+        place = folder / function.proofs
+        place.mkdir(parents=True, exist_ok=True)
+        for name in PROOF_FILES:
+            (place / name).unlink(missing_ok=True)
+        text = LEFT_OUT.format(crate=crate, module=function.module, name=function.module.rpartition(".")[2])
+        (place / PROOF_FILES[0]).write_text(text, encoding="utf-8")
+    (folder / "proofs/LeftOut.antt").write_text(HOLE, encoding="utf-8")
+    with (folder / "proofs/Lib.antt").open("a", encoding="utf-8") as modules:
+        modules.write("mod LeftOut\n")
+
+
+def names_of_proofs(folder: Path, crate: str) -> set[tuple[str, str]]:
+    """The modules of a crate's proofs that its files of proofs name, each with the folder of the file, if it is one of a function."""
+    found = set()
+    for path in (folder / "proofs").rglob("*.antt"):
+        place = f"{path.parent.relative_to(folder).as_posix()}/" if path.name in PROOF_FILES else ""
+        names = re.findall(rf"\bRattle\.{crate}\.proofs\.([^\s(){{}},;]+)", path.read_text(encoding="utf-8"))
+        found |= {(name.rstrip("."), place) for name in names}
+    return found
+
+
+def is_named(function: Function, names: Iterable[tuple[str, str]]) -> bool:
+    """Whether a file but its own names a module of a function's proof, other than that of its theorem, or one that has them all."""
+    def is_within(name: str, other: str) -> bool:
+        return f"{name}.".startswith(f"{other}.")
+
+    return any(is_within(function.module, name) or is_within(name, function.module) and not is_within(name, f"{function.module}.Met")
+               for name, place in names if place != function.proofs)
+
+
+def has_own_fault(crate: str, function: Function, said: str, is_alone: bool) -> bool:
+    """Whether a fault is in the own proof of an edit's function, by what a check says of it. Beside other edits that may only stand on a
+    proof of theirs."""
+    if not said.startswith("not proved"):
+        return said.startswith("no proof: expected answers")
+    faults, is_told, _ = said.partition(", which antt refuses")
+    if not is_told:
+        return not said.startswith("not proved; it calls")
+    return is_alone or f"`Rattle.{crate}.proofs.{function.module}." in faults
 
 
 def is_about(function: Function, line: str) -> bool:

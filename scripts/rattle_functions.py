@@ -5,7 +5,7 @@ import itertools
 import re
 from dataclasses import dataclass
 from pathlib import Path
-from typing import Iterator
+from typing import Iterable, Iterator
 
 FUNCTION = re.compile(r'(\s*)(?:pub(?:\([^)]*\))? )?(?:const )?(?:unsafe )?(?:extern "C" )?fn (\w+)')
 IMPL = re.compile(r"impl(?:<.*?>)? (?:([\w:]+)(?:<.*?>)? for )?([\w:]+)")
@@ -32,6 +32,11 @@ class Function:
     def proofs(self) -> str:
         """The folder of its proof files."""
         return f"proofs/{self.path.replace('::', '/')}/"
+
+    @property
+    def module(self) -> str:
+        """The module of its proof, below that of the crate's proofs."""
+        return self.path.replace("::", ".")
 
 
 def module_of(file: str) -> str:
@@ -82,6 +87,15 @@ class Source:
             if line.strip() in ("}", ""):
                 return None
         return None
+
+    def without_bodies(self, functions: Iterable[Function]) -> dict[str, str]:
+        """The texts in which these functions have no body, with the same number of lines. A body on the line of its head is short, and
+        stays."""
+        lines = {file: text.splitlines() for file, text in self.texts.items()}
+        for it in functions:
+            if it.body + 1 < it.last:
+                lines[it.file][it.body:it.last - 1] = ["unreachable!()", *[""] * (it.last - it.body - 2)]
+        return {file: "\n".join([*text, ""]) for file, text in lines.items()}
 
     def users_of(self, name: str) -> list[Function]:
         """The functions in whose text a word is."""

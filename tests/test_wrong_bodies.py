@@ -7,7 +7,7 @@ from pathlib import Path
 
 import pytest
 
-from must_fail import read_edit, rounds_of
+from must_fail import leave_out, read_edit, rounds_of
 from rattle_functions import Source
 from small_tree import Tree
 from tools import CRATES, ROOT, needs, run
@@ -63,10 +63,14 @@ class Wrong:
         assert lines and (ran.returncode == 0) == lines[-1].endswith(" 0 failed"), self.tree.stderr
         return [lines[-1], *lines[:-1]]
 
-    def checks(self) -> list[str]:
-        """What was checked, the functions or all."""
+    def begun(self) -> list[str]:
+        """What was checked, the functions or all, and without which proofs."""
         began = self.tree.began
         return sorted(began.read_text(encoding="utf-8").splitlines()) if began.exists() else []
+
+    def checks(self) -> list[str]:
+        """What was checked, the functions or all."""
+        return sorted(line.partition(",")[0] for line in self.begun())
 
 
 @pytest.fixture
@@ -80,6 +84,36 @@ def test_rounds(wrong: Wrong) -> None:
     assert wrong("low") == ["4 passed, 0 failed", *(f"low/{name}.edit: refused: {why}" for name, why in REFUSED.items())]
     # `one` is unproved beside `two`, which calls it, but `two` has a fault of its own.
     assert wrong.checks() == ["low: four one two", "low: one"]
+
+
+def test_without_other_proofs(wrong: Wrong) -> None:
+    """The proofs of functions that aren't edited are left out, but not where an edit isn't refused: then the whole crate is checked."""
+    wrong.add(three_is_as_before=("right three", "right"), four_is_open=EDITS["four_is_open"])
+    assert wrong("low") == ["1 passed, 1 failed", f"low/four_is_open.edit: refused: {REFUSED['four_is_open']}",
+                            "low/three_is_as_before.edit: NOT REFUSED: the crate is still proved with it"]
+    assert wrong.begun() == ["low: all", "low: four three, without one two", "low: three, without one two four"]
+
+
+def test_callee_is_a_hole(wrong: Wrong) -> None:
+    """An edit that is proved over the hole of another function isn't refused."""
+    wrong.add(two_is_as_before=("right two calls one", "right calls one"))
+    assert wrong("low") == ["0 passed, 1 failed", "low/two_is_as_before.edit: NOT REFUSED: the crate is still proved with it"]
+    assert wrong.begun() == ["low: all", "low: two, without one three four"]
+
+
+@pytest.mark.parametrize(("new", "told", "checks"), [
+    ("wrong rests one", "refused: two: not proved; it stands on `Rattle.low.proofs.two.Answers.returns`, `Rattle.low.proofs.one.Answers."
+     "returns`, which antt refuses; it calls `low::one`, which is not proved", ["low: one two"]),
+    ("right rests one", "NOT REFUSED: the crate is still proved with it", ["low: all", "low: one two", "low: two"]),
+    ("right waits calls one", "NOT REFUSED: the crate is still proved with it", ["low: all", "low: one two", "low: two"]),
+    ("right cites one", "NOT REFUSED: the crate is still proved with it", ["low: all", "low: one two", "low: two"]),
+], ids=["own", "callee", "waits", "cited"])
+def test_proof_that_rests_on_an_edited_one(wrong: Wrong, new: str, told: str, checks: list[str]) -> None:
+    """A fault of the function's own refuses the edit. Where only the proof of another edited one is refused, it is tried alone."""
+    wrong.add(one_is_wrong=("right one", "wrong"), two_is_other=("right two calls one", new))
+    lines = wrong("low")
+    assert lines[1:] == [f"low/one_is_wrong.edit: refused: {REFUSED['one_is_wrong']}", f"low/two_is_other.edit: {told}"]
+    assert wrong.checks() == checks
 
 
 def test_callee_is_edited_too(wrong: Wrong) -> None:
@@ -198,6 +232,91 @@ fn three() -> u8 { 7 }
         write_edit(tmp_path / "must-fail", f"edit{place}", old, "other")
         edits.append(read_edit(tmp_path / f"must-fail/edit{place}.edit", tmp_path, source))
     assert [[it.name[4] for it in together] for together in rounds_of(edits)] == [["0"], ["1"], ["2"], ["3", "4", "5"]]
+
+
+LEFT_OUT = """use Rattle.it.proofs.LeftOut.{left_out}
+use Rattle.it.proofs.%s.Statement.{statement}
+
+pub %s_spec : {M : Type 1} → statement M
+%s_spec = left_out
+"""
+
+
+def test_left_out(tmp_path: Path) -> None:
+    """What isn't checked has neither body nor proof, and each line stays where it is. A function keeps both where another file names more
+    of its proof than its theorem, as does one whose body is on the line of its head keep that."""
+    files = {
+        "src/lib.rt": """pub fn one(a: u8) -> u8
+    ensures { result ≡ 1 }
+{
+    1
+}
+
+pub fn two() -> u8 {
+    one(0)
+}
+
+fn three() -> u8 { 3 }
+""",
+        "src/more.rt": """pub struct Kept;
+
+impl Kept {
+    fn four(&self) {
+        four
+    }
+
+    fn five(&self) {
+        if self.is_five() {
+            five
+        }
+    }
+}
+""",
+        "proofs/Lib.antt": "pub mod Lemmas\n",
+        "proofs/Lemmas.antt": "use Rattle.it.proofs.more.Kept.four.Answers.{found}\nuse Rattle.it.proofs.one.Met.{met}\n",
+        "proofs/one/Answers.antt": "use Rattle.it.proofs.one.Goals as goal\n",
+        "proofs/two/Answers.antt": "use Rattle.it.proofs.two.Goals as goal\n",
+        "proofs/more/Kept/four/Answers.antt": "use Rattle.it.proofs.more.Kept.four.Goals as goal\n",
+        "proofs/more/Kept/five/Invariants.antt": "use Rattle.it.proofs.more.Kept.five.Reads as reads\n",
+    }
+    for name, text in files.items():
+        (tmp_path / name).parent.mkdir(parents=True, exist_ok=True)
+        (tmp_path / name).write_text(text, encoding="utf-8")
+    leave_out(tmp_path, "it", [it for it in Source(tmp_path).functions if it.path == "two"])
+    files["src/lib.rt"] = files["src/lib.rt"].replace("\n    1\n", "\nunreachable!()\n")
+    body = "        if self.is_five() {\n            five\n        }\n"
+    files["src/more.rt"] = files["src/more.rt"].replace(body, "unreachable!()\n\n\n")
+    files["proofs/Lib.antt"] += "mod LeftOut\n"
+    files["proofs/LeftOut.antt"] = "pub left_out {ℓ} : {A : Type ℓ} → A\nleft_out = ?\n"
+    for path in ("one", "three", "more.Kept.five"):
+        name = path.rpartition(".")[2]
+        files[f"proofs/{path.replace('.', '/')}/Proof.antt"] = LEFT_OUT % (path, name, name)
+    for name in ("proofs/one/Answers.antt", "proofs/more/Kept/five/Invariants.antt"):
+        del files[name]
+    found = {path.relative_to(tmp_path).as_posix(): path.read_text(encoding="utf-8") for path in tmp_path.rglob("*") if path.is_file()}
+    assert found == files
+
+
+@pytest.mark.parametrize(("file", "text", "is_kept"), [
+    ("Lemmas", "use Rattle.it.proofs.a.one.Met.{met}", False),
+    ("Lemmas", "use Rattle.it.proofs.a.one_more.Answers.{found}", False),
+    ("Lemmas", "use Rattle.other.proofs.a.one.Answers.{found}", False),
+    ("Lemmas", "use Rattle.it.proofs.a.one.Metrics.{found}", True),
+    ("Lemmas", "use Rattle.it.proofs.a.one as one", True),
+    ("Lemmas", "use Rattle.it.proofs.a.{one}", True),
+    ("a/two/Answers", "use Rattle.it.proofs.a.one.Lts.{found}", True),
+    ("a/one/Answers", "use Rattle.it.proofs.a.one.Lts.{found}", False),
+    ("a/one/Lemmas", "use Rattle.it.proofs.a.one.Lts.{found}", True),
+])
+def test_named_proof(tmp_path: Path, file: str, text: str, is_kept: bool) -> None:
+    """Which names keep the proof of a function."""
+    for place in ("src/a.rt", f"proofs/{file}.antt"):
+        (tmp_path / place).parent.mkdir(parents=True, exist_ok=True)
+    (tmp_path / "src/a.rt").write_text("fn one() {\n    1\n}\n\nfn two() {\n    2\n}\n", encoding="utf-8")
+    (tmp_path / f"proofs/{file}.antt").write_text(f"{text}\n", encoding="utf-8")
+    leave_out(tmp_path, "it", [it for it in Source(tmp_path).functions if it.path == "a::two"])
+    assert (tmp_path / "proofs/a/one/Proof.antt").exists() != is_kept
+    assert ("    1\n" in (tmp_path / "src/a.rt").read_text(encoding="utf-8")) == is_kept
 
 
 # ---- As a stage of the gate ----
