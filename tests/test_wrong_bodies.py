@@ -372,7 +372,8 @@ def test_real_crate(tmp_path: Path) -> None:
     folder, name, old = tmp_path / "crates/mote_types/must-fail", "lets_a_packet_event_be_posted.edit", "| SERIAL_LINE | PACKET"
     folder.mkdir()
     shutil.copy2(CRATES / "mote_types/must-fail" / name, folder / name)
-    write_edit(folder, "z_same", old, "| PACKET | SERIAL_LINE", "src/event.rt")
+    # This function has answers by hand, and calls one that is left out.
+    write_edit(folder, "z_same", "(pid.0 - FIRST_APPLICATION)", "(pid.0 - 4)", "src/ask.rt")
     write_edit(folder, "z_unknown_name", old, "| SERIAL_LINE | NOBODY", "src/event.rt")
     ran = run(tmp_path / "tests/wrong_bodies", "--jobs", "2", "mote_types", timeout=1800)
     lines = ran.stdout.decode().splitlines()
