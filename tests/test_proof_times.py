@@ -1,8 +1,10 @@
 """The table of the dearest modules of proofs, which bench/proofs puts into docs/gate.md."""
 
+import os
 import sys
 from importlib.machinery import SourceFileLoader
 from importlib.util import module_from_spec, spec_from_loader
+from pathlib import Path
 from typing import Any
 
 import pytest
@@ -53,3 +55,17 @@ def test_table(proofs: Any) -> None:
 def test_no_table(proofs: Any) -> None:
     with pytest.raises(SystemExit, match="docs/gate.md has no table of modules"):
         proofs.with_rows("a page\n", [], [], 30)
+
+
+def test_new_files(proofs: Any, tmp_path: Path) -> None:
+    """The modules that were stored since the last look, the oldest first, in any folder."""
+    seen: dict[str, set[str]] = {}
+    inner = tmp_path / "inner"
+    inner.mkdir()
+    for seconds, path in enumerate([inner / "a.oantt", tmp_path / "b.oantt", tmp_path / "c.txt"]):
+        path.touch()
+        os.utime(path, (seconds, seconds))
+    assert proofs.new_files(tmp_path, seen) == [inner / "a.oantt", tmp_path / "b.oantt"]
+    assert proofs.new_files(tmp_path, seen) == []
+    (tmp_path / "d.oantt").touch()
+    assert proofs.new_files(tmp_path, seen) == [tmp_path / "d.oantt"]
