@@ -1,8 +1,11 @@
--- Worked examples: texts that fit where parts are left out, and one that doesn't; repeated lines, faults, lines of runs, and changes.
-use Rattle.std.proofs.Common.{◌≡◌, List, ℕ, None, true, [], ◌∷◌, codes, inl, inr, refl, ap, arith}
+-- Worked examples: texts that fit where parts are left out, and one that doesn't; repeated lines, faults, flaws, lines of
+-- runs and networks, and changes.
+use Rattle.std.proofs.Common.{◌≡◌, List, ℕ, None, Some, true, [], ◌∷◌, codes, inl, inr, refl, ap, arith}
 use denote.Ref.{Bor}
 use Rattle.mote_kit.specs.Changes.{IsChange}
 use Rattle.mote_kit.specs.Faults.{IsOfReading, IsOfWriting, may_be_mistyped}
+use Rattle.mote_kit.specs.Flaws.{HasFlaw, line_of}
+use Rattle.mote_kit.specs.Forms.{SetsUp}
 use Rattle.mote_kit.specs.Gaps.{Fits, gap, texts}
 use Rattle.mote_kit.specs.NewLines.{repeated}
 use Rattle.mote_kit.specs.Parts.{IsPartOf}
@@ -10,6 +13,7 @@ use Rattle.mote_kit.specs.Unread.{IsOfRun}
 use Rattle.mote_kit.specs.declared.changes.Change.{Change}
 use Rattle.mote_kit.specs.declared.run_file.fault.Fault.{Fault}
 use Rattle.mote_kit.specs.declared.run_file.fault.WordFault.{WordFault}
+use Rattle.mote_kit.specs.declared.run_file.flaw.Flaw.{Flaw}
 use Rattle.mote_kit.specs.declared.run_file.line.Line.{Line}
 use Rattle.mote_kit.specs.declared.run_file.parts.Part.{Part}
 use Rattle.mote_kit.specs.declared.run_file.written_run.Unread.{Unread}
@@ -77,3 +81,27 @@ whole-text part path line lines = (path, λ _. (line, lines))
 
 no-part : (part : Part) → part.name ≡ None → part.lines.now ≡ codes "b" → IsPartOf (codes "a") (codes "b\nb") part → ⊥
 no-part part none lines is = let same = (is.1 none).1 in absurd (cc)
+
+-- the second line of a text; two spaces in a line, and no tab
+second : line_of (codes "a\nb") 2 ≡ Some (codes "b")
+second = refl
+
+two-spaces : HasFlaw (codes "a  b") Flaw.TwoSpaces
+two-spaces = (codes "a", codes "b", refl)
+
+no-tab : HasFlaw (codes "a b") Flaw.Tab → ⊥
+no-tab is = absurd (cc)
+
+-- a line that sets a network up, and an empty one
+sets-up : SetsUp (codes "link")
+sets-up = inr (inl refl)
+
+sets-nothing-up : SetsUp [] → ⊥
+sets-nothing-up (inl is) = absurd (cc)
+sets-nothing-up (inr (inl is)) = absurd (cc)
+sets-nothing-up (inr (inr (inl is))) = absurd (cc)
+sets-nothing-up (inr (inr (inr (inl is)))) = absurd (cc)
+sets-nothing-up (inr (inr (inr (inr (inl is))))) = absurd (cc)
+sets-nothing-up (inr (inr (inr (inr (inr (inl is)))))) = absurd (cc)
+sets-nothing-up (inr (inr (inr (inr (inr (inr (inl is))))))) = absurd (cc)
+sets-nothing-up (inr (inr (inr (inr (inr (inr (inr is))))))) = absurd (cc)

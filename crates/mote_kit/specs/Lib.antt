@@ -1,5 +1,7 @@
 pub mod Changes
 pub mod Faults
+pub mod Flaws
+pub mod Forms
 pub mod Gaps
 pub mod NewLines
 pub mod Outcomes

@@ -21,7 +21,7 @@ mod written_run;
 
 pub use comparison::comes_out;
 pub use fault::{Fault, Misread, WordFault};
-pub use flaw::flaw_at;
+pub use flaw::{Flaw, flaw_at};
 pub use line::{Line, begins_with_digit};
 pub use line_form::setup_form;
 pub use new_lines::NewLines;

@@ -44,7 +44,7 @@ fn check<'a>(alloc: Global, path: &'a str, plain: &'a str) -> Result<(), Misread
 /// A fault of a line, or of its letters, where something is wrong with those.
 fn sooner_seen<'a>(plain: &str, misread: Misread<'a>) -> Fault<'a> {
     match flaw_at(plain, misread.line) {
-        Some(flaw) if misread.fault.is_of_words() => Fault::of_rule(flaw),
+        Some(flaw) if misread.fault.is_of_words() => Fault::of_rule(flaw.text()),
         _ => misread.fault,
     }
 }

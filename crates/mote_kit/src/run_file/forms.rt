@@ -2,8 +2,13 @@
 //!
 //! Written by scripts/make-calls from interface/rules.json: change that file, and run the program again.
 
+ghost use Rattle.std.specs.Prelude.{MatchOption};
+ghost use Rattle.mote_kit.specs.Forms.{SetsUp};
+
 /// What a line that begins with this word should be.
-pub(crate) fn form_of(word: &str) -> Option<&'static str> {
+pub(crate) fn form_of(word: &str) -> Option<&'static str>
+    ensures { MatchOption result (SetsUp word.now → ⊥) (λ _. SetsUp word.now) }
+{
     match word {
         "mote" => Some(
             "mote N WORD.. sets up the next motes, N or N..M, as mote does with these words",
