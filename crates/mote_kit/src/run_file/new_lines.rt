@@ -1,6 +1,6 @@
 //! The lines of a file, with the results of its runs.
 
-ghost use Rattle.std.specs.Prelude.{◌≡◌, ◌++◌, ◌∷◌, [], false, map, flat_map, List, ℕ, string_bytes, IfOk, OnOk};
+ghost use Rattle.std.specs.Prelude.{◌≡◌, ◌++◌, ◌∷◌, [], true, false, map, flat_map, List, ℕ, string_bytes, IfOk, IsSomeAnd, OnOk};
 ghost use Rattle.std.specs.Str.Lines.{lines};
 ghost use Rattle.mote_kit.specs.Gaps.{Fits};
 ghost use Rattle.mote_kit.specs.Outcomes.{EndsAsSaid, IsText};
@@ -87,9 +87,12 @@ impl NewLines {
         ensures same { IfOk result (λ changes. changes ≡ false → self.new ≡ self.old) }
         ensures comes_out { IfOk result (λ changes. changes ≡ false → EndsAsSaid run.now.said_end outcome.now
             × ((text : List ℕ) × IsText outcome.now.transcript.items text × Fits (lines (string_bytes run.now.transcript)) (lines text))) }
+        ensures changed { IfOk result (λ changes. changes ≡ true → (text : List ℕ) × IsText outcome.now.transcript.items text
+            × (IsSomeAnd run.now.said_end (λ said. string_bytes outcome.now.end ≡ said.0.now)
+            → Fits (lines (string_bytes run.now.transcript)) (lines text) → ⊥)) }
     {
         let is_shown = is_shown(alloc, run, outcome.text())?;
-        if is_shown && run.has_result() && outcome.ended_as_said(run) {
+        if is_as_said(run, outcome, is_shown) {
             return Ok(false);
         }
         if let Some((_, number)) = run.said_end {
@@ -128,6 +131,15 @@ impl NewLines {
         self.append(last, found_rest.get(..size).unwrap_or(""))?;
         Ok(last)
     }
+}
+
+/// Whether the lines of a run have its result, where it is known whether they have its transcript.
+fn is_as_said(run: &WrittenRun<'_>, outcome: &Outcome, is_shown: bool) -> bool
+    ensures same { result ≡ true → (is_shown ≡ true) × EndsAsSaid run.now.said_end outcome.now }
+    ensures differs { result ≡ false → is_shown ≡ true
+        → IsSomeAnd run.now.said_end (λ said. string_bytes outcome.now.end ≡ said.0.now) → ⊥ }
+{
+    is_shown && run.has_result() && outcome.ended_as_said(run)
 }
 
 /// Lines of a file that match a part of a transcript.
