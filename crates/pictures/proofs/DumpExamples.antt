@@ -6,9 +6,11 @@ use Rattle.pictures.specs.Rows.{text_at}
 use Rattle.pictures.specs.declared.dump.values.Value.{Value}
 use Rattle.pictures.specs.declared.transcript.line.Input.{Input}
 use Rattle.pictures.specs.declared.transcript.line.Line.{Line}
-use Rattle.pictures.specs.Dump.{AreChanges, IsTold, Spans, moment, time_line, value_line}
+use Rattle.pictures.specs.declared.transcript.line.Note.{Note}
+use Rattle.pictures.specs.Dump.{AreChanges, IsRunning, IsTold, Spans, moment, time_line, value_line}
 use Rattle.pictures.specs.Dump.AreChanges.{begun, later, set}
 use Rattle.pictures.specs.Dump.HasAt.{given, later as after}
+use Rattle.pictures.specs.Dump.IsRunning.{first as begins, more}
 use Rattle.pictures.specs.declared.rows.Shown.{Shown}
 
 time : time_line 120 ≡ codes "#120\n"
@@ -39,12 +41,11 @@ unfolding digits
 changes = later (set (begun 50) Value.Nothing 0 (omega arith)) 60 (omega arith)
 
 -- no process takes its turn there
-told : IsTold 50 60 (codes "> tick 5") (codes "#50\nbz !\n#60\n")
+told : IsTold (clock_at lines) (text_at lines) 10 0 60 (codes "#50\nbz !\n#60\n")
 unfolding digits
 told = record {
-  reading = Some (Line.Input (Input.Tick 5));
-  reads = (refl, refl);
-  before = None;
+  running = None;
+  runs = begins 0 (Some (Line.Input (Input.Tick 5))) refl (refl, refl);
   told = after (given (begun 50) (omega arith)) 60 (omega arith);
 }
 
@@ -54,10 +55,15 @@ spans = record {
   some = omega arith;
   begins = refl;
   ends = omega arith;
-  told = λ few line begins inside early.
+  told = λ few line order inside early.
       let first : 0 ≡ line = omega arith in
-      subst (λ line. IsTold (moment (clock_at lines) 10 line) 60 (text_at lines line) (codes "#50\nbz !\n#60\n")) first told;
+      subst (λ line. IsTold (clock_at lines) (text_at lines) 10 line 60 (codes "#50\nbz !\n#60\n")) first told;
 }
+
+-- a note belongs to the turn before it
+note : (texts : ℕ → List ℕ) → IsRunning (λ line. 5) texts 0 (Some 4) → texts 1 ≡ codes "note lost 3" → IsRunning (λ line. 5) texts 1 (Some 4)
+unfolding digits
+note texts before text = more before (Some (Line.Note (Note.Lost 3))) refl (text, refl)
 
 -- nothing after the line, and a dump of no lines, which begins at 0
 too_short : (values : List ℕ) → Spans lines shown 50 50 values → ⊥

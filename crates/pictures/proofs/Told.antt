@@ -7,10 +7,12 @@ use Rattle.std.specs.Option.{option_eq}
 use denote.Ref.{Bor}
 use Rattle.pictures.specs.Rows.{bytes_of, text_at}
 use Rattle.pictures.proofs.Again.{text_is}
-use Rattle.pictures.specs.Dump.{IsTold, Values, lines_before, moment}
+use Rattle.pictures.specs.Dump.{IsReading, IsRunning, IsTold, Values, lines_before, moment, running_after}
+use Rattle.pictures.specs.Dump.IsRunning.{first, more}
 use Rattle.pictures.specs.Code.Dump.{HasRoom, Keeps, TakesLine, line_time, lines_at, next_time}
 use Rattle.pictures.specs.declared.dump.Walk.{Walk}
 use Rattle.pictures.specs.declared.dump.levels.Levels.{Levels}
+use Rattle.pictures.specs.declared.transcript.line.Line.{Line}
 
 -- a line among all
 pub takes_at : (lines : List (Bor (List ℕ))) (index clock : ℕ) (old new : Walk) (line : Bor (List ℕ))
@@ -19,14 +21,36 @@ pub takes_at : (lines : List (Bor (List ℕ))) (index clock : ℕ) (old new : Wa
 takes_at lines index clock old new line takes none =
     subst (λ text. TakesLine text clock old new) (sym (text_is lines index line none)) takes
 
-pub keeps_told : (time at : ℕ) (old new : Values) (text : List ℕ) → Keeps time old new → at < time → IsTold at old.last text old.text
-    → IsTold at new.last text new.text
-keeps_told time at old new text keeps before is = record {
-  reading = is.reading;
-  reads = is.reads;
-  before = is.before;
-  told = keeps _ at before is.told;
-}
+pub keeps_told : (clocks : ℕ → ℕ) (texts : ℕ → List ℕ) (units line time : ℕ) (old new : Values) → Keeps time old new
+    → moment clocks units line < time → IsTold clocks texts units line old.last old.text
+    → IsTold clocks texts units line new.last new.text
+keeps_told clocks texts units line time old new keeps before is =
+    record { running = is.running; runs = is.runs; told = keeps _ _ before is.told }
+
+-- the process that takes its turn before a line: none before the first one
+abbrev pub RunsBefore : (ℕ → ℕ) → (ℕ → List ℕ) → ℕ → Option ℕ → Type 0
+RunsBefore clocks texts zero running = running ≡ None
+RunsBefore clocks texts (suc line) running = IsRunning clocks texts line running
+
+runs_by : (clocks : ℕ → ℕ) (texts : ℕ → List ℕ) (line : ℕ) (before now : Option ℕ) (reading : Option Line) (same : Bool)
+    → (clocks line == clocks (suc line)) ≡ same → IsRunning clocks texts line before → IsReading (texts (suc line)) reading
+    → now ≡ running_after reading (if same then before else None) → IsRunning clocks texts (suc line) now
+runs_by clocks texts line before now reading true test is reads equal =
+    rw equal (more is reading (grind (arith, nat_tests, test)) reads)
+runs_by clocks texts line before now reading false test is reads equal = rw equal (first (suc line) reading (rw test refl) reads)
+
+-- the process that takes its turn at one more line
+runs_on : (clocks : ℕ → ℕ) (texts : ℕ → List ℕ) (index clock : ℕ) (before now : Option ℕ) (reading : Option Line)
+    → clock ≡ clocks (index - 1) → RunsBefore clocks texts index before → IsReading (texts index) reading
+    → now ≡ running_after reading (if clock == clocks index then before else None) → IsRunning clocks texts index now
+runs_on clocks texts zero clock before now reading here runs reads equal =
+    let same : (clock == clocks 0) ≡ true = grind (arith, nat_tests, here) in
+    rw (equal, same, runs) (first 0 reading refl reads)
+runs_on clocks texts (suc line) clock before now reading here runs reads equal =
+    let last : suc line - 1 ≡ line = omega arith in
+    let at : clock ≡ clocks line = here ∙ ap clocks last in
+    runs_by clocks texts line before now reading (clocks line == clocks (suc line)) refl runs reads
+    (equal ∙ ap (λ clock. running_after reading (if clock == clocks (suc line) then before else None)) at)
 
 -- the lines at the present clock so far
 abbrev pub so_far : (ℕ → ℕ) → ℕ → ℕ
@@ -60,7 +84,8 @@ pub record IsInStep (clocks : ℕ → ℕ) (units : ℕ) (texts : ℕ → List �
   pub last : walk.dump.last ≤ next_time walk
   pub before : (line : ℕ) → line < index → moment clocks units line < walk.clock * units + so_far clocks index
   pub told : (line : ℕ) → line < index → moment clocks units line < 2 ^ 64 - 1
-      → IsTold (moment clocks units line) walk.dump.last (texts line) walk.dump.text
+      → IsTold clocks texts units line walk.dump.last walk.dump.text
+  pub runs : RunsBefore clocks texts index walk.levels.running
 
 module _ (clocks : ℕ → ℕ) (units count : ℕ) (texts : ℕ → List ℕ) (room : HasRoom clocks units count) where
   lines_here : (index : ℕ) (old : Walk) → old.clock ≡ clocks (index - 1) → old.lines_at_clock ≡ min (so_far clocks index) (2 ^ 64 - 1)
@@ -89,6 +114,7 @@ module _ (clocks : ℕ → ℕ) (units count : ℕ) (texts : ℕ → List ℕ) (
   -- one more line
   module _ (index : ℕ) (inside : index < count) (old new : Walk) (levels : Levels)
       (scale : old.scale.units ≡ units) (same : new.scale.units ≡ units) (clock : old.clock ≡ clocks (index - 1)) (now : new.clock ≡ clocks index)
+      (kept : levels.running ≡ old.levels.running)
       (takes : TakesLine (texts index) (clocks index) (record old { levels = levels }) new)
       (is : IsInStep clocks units texts index old) where
     here : line_time old (clocks index) ≡ min (moment clocks units index) (2 ^ 64 - 1)
@@ -112,21 +138,25 @@ module _ (clocks : ℕ → ℕ) (units count : ℕ) (texts : ℕ → List ℕ) (
     now_at : new.clock * units + (lines_before clocks index + 1) ≡ moment clocks units index + 1
     now_at = rw now (omega arith)
 
+    runs_now : IsRunning clocks texts index new.levels.running
+    runs_now =
+        runs_on clocks texts index old.clock old.levels.running new.levels.running takes.reading clock is.runs takes.reads
+        (takes.runs ∙ ap (λ running. running_after takes.reading (if old.clock == clocks index then running else None)) kept)
+
     told_by : (line : ℕ) → line < suc index → moment clocks units line < 2 ^ 64 - 1
-        → IsTold (moment clocks units line) new.dump.last (texts line) new.dump.text
+        → IsTold clocks texts units line new.dump.last new.dump.text
     told_by line earlier small = elim (cases_lt line index) [
       | inl before ↦
-          keeps_told (next_time old) (moment clocks units line) old.dump new.dump (texts line)
+          keeps_told clocks texts units line (next_time old) old.dump new.dump
           (takes.keeps (next_time old) (omega arith) (omega (arith, here, next, grows)))
           (omega (arith, next, is.before line before, small)) (is.told line before small)
       | inr last ↦
           let equal : index ≡ line = omega arith in
           subst (λ line. moment clocks units line < 2 ^ 64 - 1
-          → IsTold (moment clocks units line) new.dump.last (texts line) new.dump.text) equal
+          → IsTold clocks texts units line new.dump.last new.dump.text) equal
           (λ small. record {
-            reading = takes.reading;
-            reads = takes.reads;
-            before = takes.before;
+            running = new.levels.running;
+            runs = runs_now;
             told = takes.current _ takes.written (moment clocks units index) (omega (arith, reached, small));
           })
           small
@@ -143,6 +173,7 @@ module _ (clocks : ℕ → ℕ) (units count : ℕ) (texts : ℕ → List ℕ) (
             subst (λ line. moment clocks units line < new.clock * units + (lines_before clocks index + 1)) equal (omega (arith, now_at))
       ];
       told = told_by;
+      runs = runs_now;
     }
 
     pub one_more : IsInStep clocks units texts (index + 1) new
@@ -151,8 +182,8 @@ module _ (clocks : ℕ → ℕ) (units count : ℕ) (texts : ℕ → List ℕ) (
   -- all lines, and what is written after them
   pub all_told : (walk : Walk) (values : Values) → walk.scale.units ≡ units → IsInStep clocks units texts count walk
       → Keeps (next_time walk) walk.dump values → (line : ℕ) → line < count → moment clocks units line < 2 ^ 64 - 1
-      → IsTold (moment clocks units line) values.last (texts line) values.text
+      → IsTold clocks texts units line values.last values.text
   all_told walk values scale is keeps line inside small =
       let next : next_time walk ≡ min (walk.clock * units + so_far clocks count) (2 ^ 64 - 1) = rw (scale, is.lines) (omega arith) in
-      keeps_told (next_time walk) (moment clocks units line) walk.dump values (texts line) keeps
+      keeps_told clocks texts units line (next_time walk) walk.dump values keeps
       (omega (arith, next, is.before line inside, small)) (is.told line inside small)

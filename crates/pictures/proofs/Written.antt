@@ -3,7 +3,7 @@ use Rattle.std.proofs.Common.{◌≡◌, ◌∙◌, ℕ, zero, suc, Bool, true, 
 use Rattle.std.proofs.lemmas.Bool.Decides.{nat_tests}
 use Rattle.pictures.specs.Dump.{AreChanges, HasAt, IsReading, Values, gone_to, running_after, running_value, time_line, value_line}
 use Rattle.pictures.specs.Dump.HasAt.{given, kept, later}
-use Rattle.pictures.specs.Code.Dump.{IsCurrent, TakesLine, Writes, first_written, line_time, lines_at, next_time}
+use Rattle.pictures.specs.Code.Dump.{IsCurrent, TakesLine, Writes, first_written, line_time, lines_at, next_time, running_at}
 use Rattle.pictures.specs.declared.dump.values.Value.{Value}
 use Rattle.pictures.specs.declared.dump.Walk.{Walk}
 use Rattle.pictures.specs.declared.dump.levels.Levels.{Levels}
@@ -90,12 +90,13 @@ module _ (old new : Walk) (current : IsCurrent old) (mid : Values) (index : ℕ)
 
 -- a line is written: the walk goes on to its clock, and the values change there
 pub takes_line : (line : List ℕ) (clock lines : ℕ) (old mid new : Walk) (levels : Levels) → mid.clock ≡ clock
-    → mid.scale.units ≡ old.scale.units → mid.lines_at_clock ≡ lines_at old clock → Writes old mid
-    → Writes (record mid { levels = levels }) new → new.lines_at_clock ≡ mid.lines_at_clock
+    → mid.scale.units ≡ old.scale.units → mid.lines_at_clock ≡ lines_at old clock
+    → mid.levels.running ≡ running_at old clock → Writes old mid
+    → Writes (record mid { levels = levels }) new → new.lines_at_clock ≡ mid.lines_at_clock → new.levels ≡ levels
     → lines ≡ min (new.lines_at_clock + 1) (2 ^ 64 - 1)
     → ((reading : Option Line) × IsReading line reading × (levels.running ≡ running_after reading mid.levels.running))
     → first_written new ≡ Some (running_value levels.running) → TakesLine line clock old (record new { lines_at_clock = lines })
-takes_line line clock lines old mid new levels now scale here first next stays more reads written =
+takes_line line clock lines old mid new levels now scale here run first next stays held more reads written =
     let same : next_time (record mid { levels = levels }) ≡ line_time old clock = rw (now, scale, here) refl in
     record {
       lines = more ∙ ap (λ n. min (n + 1) (2 ^ 64 - 1)) (stays ∙ here);
@@ -105,6 +106,6 @@ takes_line line clock lines old mid new levels now scale here first next stays m
           next.keeps value earlier (omega (arith, before, other, same)) (first.keeps value earlier (omega (arith, before, one)) has);
       reading = reads.0;
       reads = reads.1;
-      before = mid.levels.running;
-      written = written ∙ ap (λ running. Some (running_value running)) reads.2;
+      runs = ap (λ levels. levels.running) held ∙ reads.2 ∙ ap (running_after reads.0) run;
+      written = written ∙ ap (λ levels. Some (running_value levels.running)) (sym held);
     }

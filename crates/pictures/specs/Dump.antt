@@ -80,12 +80,19 @@ abbrev pub running_value : Option ℕ → Value
 running_value (Some pid) = Value.Number pid
 running_value None = Value.Nothing
 
+-- the process that takes its turn at a line, by the lines at its clock up to there
+pub data IsRunning (clocks : ℕ → ℕ) (texts : ℕ → List ℕ) : ℕ → Option ℕ → Type 0 where
+  first : (line : ℕ) (reading : Option Line) → lines_before clocks line ≡ 0 → IsReading (texts line) reading
+      → IsRunning clocks texts line (running_after reading None)
+  more : {line : ℕ} {before : Option ℕ} → IsRunning clocks texts line before → (reading : Option Line)
+      → clocks line ≡ clocks (suc line) → IsReading (texts (suc line)) reading
+      → IsRunning clocks texts (suc line) (running_after reading before)
+
 -- the first signal says at a line's time which process takes its turn there
-pub record IsTold (time last : ℕ) (text values : List ℕ) : Type 0 where
-  pub reading : Option Line
-  pub reads : IsReading text reading
-  pub before : Option ℕ
-  pub told : HasAt 0 (running_value (running_after reading before)) time last values
+pub record IsTold (clocks : ℕ → ℕ) (texts : ℕ → List ℕ) (units line last : ℕ) (values : List ℕ) : Type 0 where
+  pub running : Option ℕ
+  pub runs : IsRunning clocks texts line running
+  pub told : HasAt 0 (running_value running) (moment clocks units line) last values
 
 -- the lines that are shown lie between these times: the first one is its line's, and the last one a tick or more after its line's. Each
 -- line between is told at its time, where a tick has time for all lines at one clock
@@ -96,7 +103,7 @@ pub record Spans (lines : List (List ℕ)) (shown : Shown) (first last : ℕ) (v
   pub ends : time_at units (clock_at lines (shown.end - 1) + 1) ≤ last
   pub told : length lines < 10 ^ 15 → (line : ℕ) → shown.first ≤ line → line < shown.end
       → moment (clock_at lines) units line < 2 ^ 64 - 1
-      → IsTold (moment (clock_at lines) units line) last (text_at lines line) values
+      → IsTold (clock_at lines) (text_at lines) units line last values
 
 -- a dump of the lines between two clocks: declarations up to the words that end them, and values, which span these lines
 pub record IsDump (lines : List (List ℕ)) (from to : ℕ) (dump : List ℕ) : Type 0 where

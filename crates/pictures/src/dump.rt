@@ -1,9 +1,9 @@
 //! All that holds at the lines of a run as a value change dump (IEEE 1364, clause 18), for the viewers of logic analysers.
 
-ghost use Rattle.std.specs.Prelude.{◌≡◌, ℕ, ◌+◌, ◌-◌, ◌^◌, ◌<◌, ◌≤◌, ◌==◌, min, if◌then◌else◌, Some, ◌++◌, codes, get_or, length, map, string_bytes, IfOk};
+ghost use Rattle.std.specs.Prelude.{◌≡◌, ℕ, ◌+◌, ◌-◌, ◌^◌, ◌<◌, ◌≤◌, ◌==◌, min, if◌then◌else◌, Some, None, ◌++◌, codes, get_or, length, map, string_bytes, IfOk};
 ghost use Rattle.std.specs.List.{range_with_len};
 ghost use Rattle.pictures.specs.Clocks.{clock_at};
-ghost use Rattle.pictures.specs.Code.Dump.{AreTold, IsCurrent, Keeps, TakesLine, Writes, first_written, lines_at, next_time};
+ghost use Rattle.pictures.specs.Code.Dump.{AreTold, IsCurrent, Keeps, TakesLine, Writes, first_written, lines_at, next_time, running_at};
 ghost use Rattle.pictures.specs.Dump.{IsDump, lines_before, running_value, time_at};
 ghost use Rattle.pictures.specs.Rows.{bytes_of, text_at};
 
@@ -144,6 +144,7 @@ impl Walk {
         ensures scale { self.new.scale ≡ self.old.scale }
         ensures first { self.new.dump.first ≡ self.old.dump.first }
         ensures lines { self.new.lines_at_clock ≡ self.old.lines_at_clock }
+        ensures running { self.new.levels.running ≡ None }
         ensures writes { IfOk result (λ _. Writes self.old self.new) }
     {
         self.levels.rest();
@@ -158,6 +159,7 @@ impl Walk {
         ensures scale { self.new.scale ≡ self.old.scale }
         ensures first { self.new.dump.first ≡ self.old.dump.first }
         ensures lines { IfOk result (λ _. self.new.lines_at_clock ≡ lines_at self.old clock) }
+        ensures running { IfOk result (λ _. self.new.levels.running ≡ running_at self.old clock) }
         ensures writes { IfOk result (λ _. Writes self.old self.new) }
     {
         if clock == self.clock {
@@ -219,6 +221,7 @@ fn walk_over(
     changes: &[Change],
 ) -> Result<(), AllocError>
     requires begun { walk.old.clock ≡ get_or clocks.now 0 0 }
+    requires running { walk.old.levels.running ≡ None }
     requires lines { length lines.now ≡ length clocks.now }
     requires scale { 0 < walk.old.scale.units }
     requires current { IsCurrent walk.old }

@@ -22,6 +22,10 @@ lines_at walk clock = if walk.clock == clock then walk.lines_at_clock else 0
 abbrev pub line_time : Walk → ℕ → ℕ
 line_time walk clock = min (clock * walk.scale.units + lines_at walk clock) (2 ^ 64 - 1)
 
+-- the process that takes its turn before a line at a clock, if one does
+abbrev pub running_at : Walk → ℕ → Option ℕ
+running_at walk clock = if walk.clock == clock then walk.levels.running else None
+
 abbrev pub first_written : Walk → Option Value
 first_written walk = get_or walk.written 0 None
 
@@ -45,8 +49,8 @@ pub record TakesLine (line : List ℕ) (clock : ℕ) (old new : Walk) : Type 0 w
   pub keeps : (time : ℕ) → time ≤ next_time old → time ≤ line_time old clock → Keeps time old.dump new.dump
   pub reading : Option Line
   pub reads : IsReading line reading
-  pub before : Option ℕ
-  pub written : first_written new ≡ Some (running_value (running_after reading before))
+  pub runs : new.levels.running ≡ running_after reading (running_at old clock)
+  pub written : first_written new ≡ Some (running_value new.levels.running)
 
 -- the clocks grow, and a tick has time for the lines at each
 pub record HasRoom (clocks : ℕ → ℕ) (units count : ℕ) : Type 0 where
@@ -57,4 +61,4 @@ pub record HasRoom (clocks : ℕ → ℕ) (units count : ℕ) : Type 0 where
 abbrev pub AreTold : (ℕ → ℕ) → ℕ → ℕ → (ℕ → List ℕ) → Values → Type 0
 AreTold clocks units count texts values =
     HasRoom clocks units count → (line : ℕ) → line < count → moment clocks units line < 2 ^ 64 - 1
-    → IsTold (moment clocks units line) values.last (texts line) values.text
+    → IsTold clocks texts units line values.last values.text

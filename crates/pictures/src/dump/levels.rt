@@ -1,6 +1,6 @@
 //! What holds at a line, as the values of the signals.
 
-ghost use Rattle.std.specs.Prelude.{◌≡◌, Option};
+ghost use Rattle.std.specs.Prelude.{◌≡◌, Option, None};
 ghost use Rattle.pictures.specs.Dump.{IsReading, running_after, running_value};
 ghost use Rattle.pictures.specs.Levels as spec;
 ghost use Rattle.pictures.specs.declared.dump.signal.Signal.{Signal};
@@ -35,7 +35,9 @@ fn free(size: u32, taken: u64) -> Value
 }
 
 impl Levels {
-    pub(crate) fn new(sizes: Sizes) -> Self {
+    pub(crate) fn new(sizes: Sizes) -> Self
+        ensures { result.running ≡ None }
+    {
         Levels {
             sizes,
             running: None,
@@ -48,7 +50,9 @@ impl Levels {
         self.levels.get(level.index()).copied().unwrap_or(0)
     }
 
-    pub(crate) fn apply_all(&mut self, changes: &[Change]) {
+    pub(crate) fn apply_all(&mut self, changes: &[Change])
+        ensures { self.new.running ≡ self.old.running }
+    {
         for change in changes {
             if let Some(level) = self.levels.get_mut(change.level.index()) {
                 *level = if change.rises {
@@ -73,7 +77,9 @@ impl Levels {
     }
 
     /// No line is left at this clock.
-    pub(crate) fn rest(&mut self) {
+    pub(crate) fn rest(&mut self)
+        ensures { self.new.running ≡ None }
+    {
         self.running = None;
         self.rests = true;
     }

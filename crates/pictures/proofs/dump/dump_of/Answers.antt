@@ -29,7 +29,7 @@ returns c =
     let texts = text_at (bytes_of c.lines_of-lines.result.now) in
     let told : shown.first < shown.end → length lines < 10 ^ 15 → (line : ℕ) → shown.first ≤ line → line < shown.end
     → moment (clock_at lines) units line < 2 ^ 64 - 1
-    → IsTold (moment (clock_at lines) units line) c.span-span.result.1 (text_at lines line) dump.text =
+    → IsTold (clock_at lines) (text_at lines) units line c.span-span.result.1 dump.text =
     rw c.span-span.ensures.last (λ order.
     told_at lines shown (length c.args.lines.now) _ clocks c.requires c.shown_of-shown.ensures.there c.clocks_of-clocks.ensures.clocks
     c.args.settings.now.from c.args.settings.now.to units c.most_at_once.result dump.last c.shown_of-shown.ensures.between dump.text texts

@@ -21,7 +21,7 @@ loop-index-preserved c =
           one_more (λ line. get_or clocks line 0) c.args.walk.now.scale.units (length clocks) (text_at (bytes_of lines)) room index
           (omega (arith, c.requires.lines)) c.loop-index.walk c.take_line.new.self c.apply_all.new.self
           (ap (λ scale. scale.units) is.scale) (ap (λ scale. scale.units) scale) is.clock
-          c.in_ok-take_line.ensures.clock (takes_at lines index _ _ _ _ c.in_ok-take_line.ensures.takes refl) (is.told room);
+          c.in_ok-take_line.ensures.clock c.apply_all.ensures (takes_at lines index _ _ _ _ c.in_ok-take_line.ensures.takes refl) (is.told room);
     }
 
 pub returns-clause-told : goal.returns-clause-told
